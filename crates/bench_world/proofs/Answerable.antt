@@ -1,12 +1,12 @@
--- Who holds a part gives its packet to one that asks for it, where segments' packets are told by their names and
--- digests.
+-- Who holds a part gives its packet to one that asks for it, where the packets of index packets and segments are told
+-- by their names and digests.
 use Rattle.std.proofs.Common.{◌≡◌, ◌≢◌, ◌⊎◌, inl, inr, ℕ, ◌-◌, ◌^◌, ◌<◌, ◌==◌, Bool, true, false, cond, List, [], ◌∷◌}
 use Rattle.std.proofs.Common.{◌++◌, length, get_or, Option, Some, None, option_map, refl, sym, ap, ◌∙◌, subst, arith}
-use Rattle.std.specs.Prelude.{unwrap_or, is_some, IfSome, Result, Ok}
-use Rattle.std.proofs.lemmas.Bool.{true≢false, cases_eq, cases_lt, eq-eqb, eqb-true}
+use Rattle.std.specs.Prelude.{◌≤◌, nat_le, slice_get, unwrap_or, is_some, IfSome, Result, Ok}
+use Rattle.std.proofs.lemmas.Bool.{true≢false, cases_eq, cases_lt, eq-eqb, eqb-true, leb-true, leb-false}
 use Rattle.std.proofs.lemmas.List.{length-map}
 use Rattle.std.proofs.lemmas.Map.Keys.{apart_from_distinct}
-use Rattle.std.proofs.lemmas.Option.{unwrap_or-slice_get}
+use Rattle.std.proofs.lemmas.Option.{unwrap_or-slice_get, same_Some}
 use Rattle.std.proofs.lemmas.Slice.Eq.{bytes_eq-Decides}
 use Rattle.sha2.specs.Sha256.{sha256}
 use Rattle.sha2.proofs.Facts256.{length-sha256}
@@ -21,18 +21,21 @@ use Rattle.ndn_data.specs.Data.{Data, data_of, Satisfies}
 use Rattle.svs_vector.specs.Rosters.{has_same_octets}
 use Rattle.repo_plan.specs.declared.part.Part.{Part}
 use Rattle.sorted_lists.specs.SortedList.{keys, value_of, contains}
-use Rattle.repo_plan.specs.Parts.{Pair, part_cmp, pair_of}
+use Rattle.repo_plan.specs.Parts.{Pair, part_cmp, pair_of, index_packets, parts_behind}
 use Rattle.repo_plan.specs.Plan.{claim_of, is_wanted}
-use Rattle.repo_object.specs.Objects.{NamedContents, IsObject, IsPublisher, record_name, segment_name}
-use Rattle.repo_object.specs.Publication.{Listed, published_listing, record_packet, packet_at}
-use Rattle.repo_object.specs.Wants.{WantedPart, asked_name, want_record, want_segment}
-use Rattle.repo_object.proofs.Asking.{asked_for, record_interest, segment_interest}
-use Rattle.repo_object.proofs.Publications.{some_is, SegmentPacket, listing_within_limits, record_read, record_again}
-use Rattle.repo_object.proofs.Publications.{segment_is, segment_read}
+use Rattle.repo_object.specs.Objects.{Post, IsPost, offered, shape_in, Publisher, IsPublisher, record_name}
+use Rattle.repo_object.specs.Objects.{segment_name}
+use Rattle.repo_object.specs.Objects.Post.{Offers, Withdraws}
+use Rattle.repo_object.specs.Publication.{published_listing, published_record, record_packet, packets_behind, packet_at}
+use Rattle.repo_object.specs.Wants.{WantedPart, asked_name, want_record, want_index, want_segment}
+use Rattle.repo_object.proofs.Asking.{asked_for, record_interest, index_interest, segment_interest}
+use Rattle.repo_object.proofs.IndexLemmas.{index_few}
+use Rattle.repo_object.proofs.Publications.{record_read, record_again, said_within_limits, index_part, segment_part}
+use Rattle.repo_object.proofs.Publications.{index_is, segment_is, index_digest, behind_is}
 use Rattle.repo_object.proofs.Telling.{last_same, records_differ, records_are_no_segments}
 use Rattle.repo_store.specs.Served.{satisfies, first_served, served_entry, served, served_part}
 use Rattle.repo_store.proofs.LawLemmas.{satisfies-Decides, served_least, served_of_part, has_value}
-use Rattle.group_model.specs.Publications.{Logs, no_object, object_at}
+use Rattle.group_model.specs.Publications.{Logs, no_object, post_at, shape_at}
 use Rattle.group_model.specs.Sound.{IsPublished, IsPublishedPart}
 use Rattle.group_model.specs.Member.{Member, member_holds, member_hides, plan_of}
 use Rattle.group_model.specs.Events.{Came}
@@ -52,7 +55,7 @@ use Rattle.bench_world.specs.Serving.{judged_packet, found, came_of, keyed}
 use Rattle.bench_world.specs.EventValues.{answer_told}
 use Rattle.bench_world.specs.Answerable.{AreAllClear, IsKept}
 use Rattle.bench_world.proofs.States.{member_at, many_logs, sound_state}
-use Rattle.bench_world.proofs.Coming.{publisher_there, packet_is, its_octets, claim_published}
+use Rattle.bench_world.proofs.Coming.{publisher_there, post_within, packet_is, its_octets, claim_published}
 
 -- ---- names
 
@@ -83,15 +86,117 @@ record_plain node group seq = record {
 segment_plain : (name : List Component) (i : ℕ) → EndsPlainly (segment_name name i)
 segment_plain name i = record { front = name; last = (0x32, number_field i); is = refl; plain = λ e. omega (arith, e) }
 
+-- ---- the want of a part of a publication
+
+-- By whether it is the record, and whether it is an index packet.
+abbrev want_by : GroupKeys → Post → Part → List ℕ → (is_record is_index : Bool) → WantedPart
+want_by g post t octets is_record is_index =
+    cond is_record (want_record t (node_at g t.publisher) g.name)
+    (cond is_index (want_index t
+    (published_listing (publisher_at g t.publisher) t.seq (unwrap_or (offered post) no_object))
+    (node_at g t.publisher) g.name)
+    (want_segment t (shape_in post) (unwrap_or (offered post) no_object).name (sha256 octets)))
+
+-- What octets are as the packet of a part that is wanted so: what they are read as, and what asks for them.
+pub record IsPartOf (octets : List ℕ) (want : WantedPart) : Type 0 where
+  pub d : Data
+  pub read : data_of octets ≡ Ok d
+  pub name : d.name ≡ want.name
+  pub digest : IfSome want.digest (λ digest. sha256 octets ≡ digest)
+  pub plain : EndsPlainly want.name
+  pub interest : interest_of want.interest ≡ Ok (read_plain (asked_name want.name want.digest) false)
+
+-- The same of a part behind a record, whose packet stands at its place of the publication.
+pub record IsBehind (publisher : Publisher) (post : Post) (t : Part) (octets : List ℕ) (want : WantedPart)
+    : Type 0 where
+  pub under : List Component
+  pub number : ℕ
+  pub d : Data
+  pub read : data_of octets ≡ Ok d
+  pub name : d.name ≡ want.name
+  pub wanted : want.name ≡ segment_name under number
+  pub digest : want.digest ≡ Some (sha256 octets)
+  pub stands : slice_get (packets_behind publisher t.seq post) (t.part - 1) ≡ Some octets
+  pub interest : interest_of want.interest ≡ Ok (read_plain (asked_name want.name want.digest) false)
+
+module _ (g : GroupKeys) (t : Part) (is_publisher : IsPublisher (publisher_at g t.publisher)) (low : t.seq < 2 ^ 16)
+  where
+    abbrev own : Publisher
+    own = publisher_at g t.publisher
+
+    record_is : (post : Post) (octets : List ℕ) → IsPost t.seq post → packet_at own t.seq post 0 ≡ Some octets
+        → IsPartOf octets (want_record t (node_at g t.publisher) g.name)
+    record_is post octets is_post its =
+        let same : record_packet own t.seq (published_record own t.seq post) ≡ octets =
+        same_Some (record_packet own t.seq (published_record own t.seq post)) octets its in
+        record {
+          d = record_read own is_publisher t.seq post;
+          read = ap data_of (sym same) ∙ record_again own is_publisher t.seq post is_post low;
+          name = refl;
+          digest = tt;
+          plain = record_plain (node_at g t.publisher) g.name t.seq;
+          interest = record_interest t (node_at g t.publisher) g.name is_publisher.node is_publisher.group low;
+        }
+
+    behind_record : (post : Post) (octets : List ℕ) → IsPost t.seq post → packet_at own t.seq post t.part ≡ Some octets
+        → 0 < t.part → t.part ≤ parts_behind (shape_in post) → (is_index : Bool)
+        → nat_le t.part (shape_in post).index ≡ is_index
+        → IsBehind own post t octets (want_by g post t octets false is_index)
+    behind_record (Withdraws seq) octets is_post its above counted is_index e =
+        let none : parts_behind (shape_in (Withdraws seq)) ≡ 0 = refl in absurd (omega (arith, above, counted, none))
+    behind_record (Offers object) octets is_post its above counted true e =
+        let below : t.part ≤ index_packets (length object.contents) =
+        leb-true t.part (index_packets (length object.contents)) e in
+        let few : index_packets (length object.contents) ≤ 100 = index_few (length object.contents) is_post.few in
+        let s =
+        index_is own is_publisher object is_post t.seq (t.part - 1) octets low
+        (index_part own is_publisher object is_post t.seq t.part octets above below its) in
+        let digest = index_digest own is_publisher object is_post t.seq t.part octets above below its in
+        record {
+          under = record_name (node_at g t.publisher) g.name t.seq;
+          number = t.part - 1;
+          d = _;
+          read = s.read;
+          name = refl;
+          wanted = refl;
+          digest = digest;
+          stands = (behind_is own is_publisher t.seq t.part (Offers object) octets is_post low above its).stands;
+          interest =
+              index_interest t (published_listing own t.seq object) (sha256 octets) (node_at g t.publisher) g.name
+              is_publisher.node is_publisher.group low (omega (arith, below, few)) digest (length-sha256 _)
+              (IsOctets-sha256 octets)
+              ∙ ap (λ (o : Option (List ℕ)).
+              let r : Result Interest PacketFault = Ok (read_plain (asked_name
+              (segment_name (record_name (node_at g t.publisher) g.name t.seq) (t.part - 1)) o) false) in
+              r) (sym digest);
+        }
+    behind_record (Offers object) octets is_post its above counted false e =
+        let past : index_packets (length object.contents) < t.part =
+        leb-false t.part (index_packets (length object.contents)) e in
+        let few : index_packets (length object.contents) ≤ 100 = index_few (length object.contents) is_post.few in
+        let many : length object.contents ≤ 20000 = is_post.few in
+        let s =
+        segment_is own is_publisher object is_post (t.part - index_packets (length object.contents) - 1) octets
+        (segment_part own is_publisher object is_post t.seq t.part octets past its) in
+        record {
+          under = object.name;
+          number = t.part - index_packets (length object.contents) - 1;
+          d = _;
+          read = s.read;
+          name = refl;
+          wanted = refl;
+          digest = refl;
+          stands = (behind_is own is_publisher t.seq t.part (Offers object) octets is_post low above its).stands;
+          interest =
+              segment_interest t (shape_in (Offers object)) (published_listing own t.seq object) (sha256 octets)
+              (said_within_limits own is_publisher t.seq (Offers object) is_post low)
+              (omega (arith, counted, few, many)) (length-sha256 _) (IsOctets-sha256 octets);
+        }
+
 -- ---- a part that was published
 
 module _ (g : GroupKeys) (logs : Logs) (are : AreLogs g logs) where
   module _ (pair : Pair) (there : IsPublished logs pair) where
-    object_within : IsObject (object_at logs pair)
-    object_within =
-        are.objects pair.0 [] (publisher_there logs pair there) (pair.1 - 1) no_object
-        (omega (arith, there.from_one, there.to_last))
-
     low_number : pair.1 < 2 ^ 16
     low_number = omega (arith, there.to_last, are.few pair.0 [] (publisher_there logs pair there))
 
@@ -129,77 +234,52 @@ module _ (g : GroupKeys) (logs : Logs) (are : AreLogs g logs) where
         true≢false (sym same
         ∙ apart_from_distinct has_same_octets g.members.names k j [] are.group.members.roster.different l inside)
 
-  segment_of : (t : Part) → IsPublishedPart logs t → (octets : List ℕ) → true_packet g logs t ≡ Some octets
+  abbrev is_index : Part → Bool
+  is_index t = nat_le t.part (shape_at logs (pair_of t)).index
+
+  record_want : (t : Part) → (t.part == 0) ≡ true
+      → true_want g logs t ≡ want_record t (node_at g t.publisher) g.name
+  record_want t zero_ =
+      ap (λ (b : Bool).
+      want_by g (post_at logs (pair_of t)) t (unwrap_or (true_packet g logs t) []) b (is_index t)) zero_
+
+  behind_of : (t : Part) → IsPublishedPart logs t → (octets : List ℕ) → true_packet g logs t ≡ Some octets
       → (t.part == 0) ≡ false
-      → SegmentPacket (publisher_at g t.publisher) (object_at logs (pair_of t)) (t.part - 1) octets
-  segment_of t is octets its p =
-      segment_is (publisher_at g t.publisher) (object_at logs (pair_of t)) (publisher_within (pair_of t) is.there)
-      (object_within (pair_of t) is.there) t.seq t.part octets
-      (elim (cases_eq t.part 0) [
+      → IsBehind (publisher_at g t.publisher) (post_at logs (pair_of t)) t octets (true_want g logs t)
+  behind_of t is octets its p =
+      let above : 0 < t.part = elim (cases_eq t.part 0) [
         | inl z ↦ absurd (true≢false (sym (eq-eqb t.part 0 z) ∙ p))
         | inr n ↦ omega (arith, n)
-      ]) its
-
-  -- What octets are as the packet of a part that is wanted so: what they are read as, and what asks for them.
-  pub record IsPartOf (octets : List ℕ) (want : WantedPart) : Type 0 where
-    pub d : Data
-    pub read : data_of octets ≡ Ok d
-    pub name : d.name ≡ want.name
-    pub digest : IfSome want.digest (λ digest. sha256 octets ≡ digest)
-    pub plain : EndsPlainly want.name
-    pub interest : interest_of want.interest ≡ Ok (read_plain (asked_name want.name want.digest) false)
+      ] in
+      let want_is : true_want g logs t ≡ want_by g (post_at logs (pair_of t)) t octets false (is_index t) =
+      ap (λ (b : Bool).
+      want_by g (post_at logs (pair_of t)) t (unwrap_or (true_packet g logs t) []) b (is_index t)) p
+      ∙ ap (λ (o : Option (List ℕ)). want_by g (post_at logs (pair_of t)) t (unwrap_or o []) false (is_index t)) its in
+      subst (IsBehind (publisher_at g t.publisher) (post_at logs (pair_of t)) t octets) (sym want_is)
+      (behind_record g t (publisher_within (pair_of t) is.there) (low_number (pair_of t) is.there)
+      (post_at logs (pair_of t)) octets (post_within g logs are (pair_of t) is.there) its above is.counted (is_index t)
+      refl)
 
   part_is : (t : Part) → IsPublishedPart logs t → (octets : List ℕ) → true_packet g logs t ≡ Some octets
       → IsPartOf octets (true_want g logs t)
   part_is t is octets its = go (t.part == 0) refl where
-    object : NamedContents
-    object = object_at logs (pair_of t)
-
-    go : (b : Bool) → (t.part == 0) ≡ b
-        → IsPartOf octets
-        (cond b (want_record t (node_at g t.publisher) g.name)
-        (want_segment t (published_listing (publisher_at g t.publisher) (object_at logs (pair_of t)))))
+    go : (b : Bool) → (t.part == 0) ≡ b → IsPartOf octets (true_want g logs t)
     go true p =
-        let zero : t.part ≡ 0 = eqb-true t.part 0 p in
-        let within = publisher_within (pair_of t) is.there in
-        let low = low_number (pair_of t) is.there in
-        let same : record_packet (publisher_at g t.publisher) t.seq
-        (published_listing (publisher_at g t.publisher) (object_at logs (pair_of t)))
-        ≡ octets =
-        some_is (record_packet (publisher_at g t.publisher) t.seq
-        (published_listing (publisher_at g t.publisher) (object_at logs (pair_of t)))) octets
-        (ap (packet_at (publisher_at g t.publisher) t.seq (object_at logs (pair_of t))) (sym zero) ∙ its) in
-        record {
-          d =
-              record_read (publisher_at g t.publisher) (object_at logs (pair_of t)) within
-              (object_within (pair_of t) is.there) t.seq;
-          read =
-              ap data_of (sym same)
-              ∙ record_again (publisher_at g t.publisher) (object_at logs (pair_of t)) within
-              (object_within (pair_of t) is.there) t.seq low;
-          name = refl;
-          digest = tt;
-          plain = record_plain (node_at g t.publisher) g.name t.seq;
-          interest = record_interest t (node_at g t.publisher) g.name within.node within.group low;
-        }
+        let zero_ : t.part ≡ 0 = eqb-true t.part 0 p in
+        subst (IsPartOf octets) (sym (record_want t p))
+        (record_is g t (publisher_within (pair_of t) is.there) (low_number (pair_of t) is.there)
+        (post_at logs (pair_of t)) octets (post_within g logs are (pair_of t) is.there)
+        (ap (packet_at (publisher_at g t.publisher) t.seq (post_at logs (pair_of t))) (sym zero_) ∙ its))
     go false p =
-        let s = segment_of t is octets its p in
-        let listing : Listed = published_listing (publisher_at g t.publisher) (object_at logs (pair_of t)) in
+        let b = behind_of t is octets its p in
         let P : Option (List ℕ) → Type 0 = λ o. IfSome o (λ digest. sha256 octets ≡ digest) in
         record {
-          d = segment_read (publisher_at g t.publisher) (object_at logs (pair_of t)) (t.part - 1) s.content;
-          read = s.read;
-          name = refl;
-          digest = subst P (sym s.digest) refl;
-          plain = segment_plain (object_at logs (pair_of t)).name (t.part - 1);
-          interest =
-              segment_interest t listing (sha256 octets)
-              (listing_within_limits (publisher_at g t.publisher) (object_at logs (pair_of t))
-              (object_within (pair_of t) is.there)) s.digest (length-sha256 _) (IsOctets-sha256 octets)
-              ∙ ap (λ (o : Option (List ℕ)).
-              let r : Result Interest PacketFault =
-              Ok (read_plain (asked_name (segment_name (object_at logs (pair_of t)).name (t.part - 1)) o) false) in
-              r) (sym s.digest);
+          d = b.d;
+          read = b.read;
+          name = b.name;
+          digest = subst P (sym b.digest) refl;
+          plain = subst EndsPlainly (sym b.wanted) (segment_plain b.under b.number);
+          interest = b.interest;
         }
 
   -- ---- what asks for a packet asks for no other
@@ -222,38 +302,38 @@ module _ (g : GroupKeys) (logs : Logs) (are : AreLogs g logs) where
     -- Packets of one name and one digest are one.
     same_octets : (true_want g logs t).name ≡ (true_want g logs u).name
         → IfSome (true_want g logs t).digest (λ digest. sha256 x ≡ digest) → x ≡ y
-    same_octets named digested = go (t.part == 0) (u.part == 0) refl refl named digested where
-      go : (b c : Bool) → (t.part == 0) ≡ b → (u.part == 0) ≡ c
-          → (cond b (want_record t (node_at g t.publisher) g.name)
-          (want_segment t (published_listing (publisher_at g t.publisher) (object_at logs (pair_of t))))).name
-          ≡ (cond c (want_record u (node_at g u.publisher) g.name)
-          (want_segment u (published_listing (publisher_at g u.publisher) (object_at logs (pair_of u))))).name
-          → IfSome (cond b (want_record t (node_at g t.publisher) g.name)
-          (want_segment t (published_listing (publisher_at g t.publisher) (object_at logs (pair_of t))))).digest
-          (λ digest. sha256 x ≡ digest)
-          → x ≡ y
-      go true true p q e h =
+    same_octets named digested = go (t.part == 0) (u.part == 0) refl refl where
+      record_named : (v : Part) → (v.part == 0) ≡ true
+          → (true_want g logs v).name ≡ record_name (node_at g v.publisher) g.name v.seq
+      record_named v p = ap (λ (w : WantedPart). w.name) (record_want v p)
+
+      go : (b c : Bool) → (t.part == 0) ≡ b → (u.part == 0) ≡ c → x ≡ y
+      go true true p q =
           let both =
           records_differ (node_at g t.publisher) (node_at g u.publisher) g.name t.seq u.seq
-          (low_number (pair_of t) is_t.there) (low_number (pair_of u) is_u.there) e in
+          (low_number (pair_of t) is_t.there) (low_number (pair_of u) is_u.there)
+          (sym (record_named t p) ∙ named ∙ record_named u q) in
           let publisher : t.publisher ≡ u.publisher =
           same_publisher t.publisher u.publisher (member_there (pair_of t) is_t.there)
           (member_there (pair_of u) is_u.there) both.0 in
           let part : t.part ≡ u.part = eqb-true t.part 0 p ∙ sym (eqb-true u.part 0 q) in
           let same : t ≡ u = λ i. record { publisher = publisher i; seq = both.1 i; part = part i } in
-          some_is x y (sym its_u ∙ ap (true_packet g logs) (sym same) ∙ its_t)
-      go true false p q e h =
-          absurd (records_are_no_segments (node_at g t.publisher) g.name (object_at logs (pair_of u)).name t.seq
-          (u.part - 1) e)
-      go false true p q e h =
-          absurd (records_are_no_segments (node_at g u.publisher) g.name (object_at logs (pair_of t)).name u.seq
-          (t.part - 1) (sym e))
-      go false false p q e h =
-          let st = segment_of t is_t y its_t p in
-          let su = segment_of u is_u x its_u q in
+          same_Some x y (sym its_u ∙ ap (true_packet g logs) (sym same) ∙ its_t)
+      go true false p q =
+          let bu = behind_of u is_u x its_u q in
+          absurd (records_are_no_segments (node_at g t.publisher) g.name bu.under t.seq bu.number
+          (sym (record_named t p) ∙ named ∙ bu.wanted))
+      go false true p q =
+          let bt = behind_of t is_t y its_t p in
+          absurd (records_are_no_segments (node_at g u.publisher) g.name bt.under u.seq bt.number
+          (sym (record_named u q) ∙ sym named ∙ bt.wanted))
+      go false false p q =
+          let bt = behind_of t is_t y its_t p in
+          let bu = behind_of u is_u x its_u q in
           let digest : sha256 x ≡ sha256 y =
-          subst (λ (o : Option (List ℕ)). IfSome o (λ digest. sha256 x ≡ digest)) st.digest h in
-          sym (clear (pair_of t) (pair_of u) (t.part - 1) (u.part - 1) y x st.stands su.stands e (sym digest))
+          subst (λ (o : Option (List ℕ)). IfSome o (λ digest. sha256 x ≡ digest)) bt.digest digested in
+          sym (clear (pair_of t) (pair_of u) (t.part - 1) (u.part - 1) y x bt.d bu.d bt.stands bu.stands bt.read bu.read
+          (bt.name ∙ named ∙ sym bu.name) (sym digest))
 
     pub asked_is : satisfies (asked_name (true_want g logs t).name (true_want g logs t).digest) false x ≡ true → x ≡ y
     asked_is sat =

@@ -14,7 +14,7 @@ use Rattle.group_model.specs.Member.{Member}
 use Rattle.group_model.specs.Changes as group
 use Rattle.group_model.specs.Events.{Came, Event}
 use Rattle.group_model.specs.Events.Came.{Nothing, Its, Another}
-use Rattle.group_model.specs.Limits.{IsInRange, HasSmallPackets}
+use Rattle.group_model.specs.Limits.{IsInRange, HasSmallPackets, FitsIn64Bits}
 use Rattle.group_model.specs.Refusals.{Refusal, refusal, if_idle_or_foreign}
 use Rattle.group_model.specs.World.{Tally, no_member, member}
 use Rattle.group_model.specs.Steps.{claim_at, came_from, came_as, passes_checks, tried_once, after_came, after_event}
@@ -35,7 +35,7 @@ use Rattle.bench_world.specs.EventValues.{fed_told, feed_told}
 use Rattle.bench_world.specs.Steps.{IsFaultOf}
 use Rattle.bench_world.specs.Worlds.{GroupState, IsTrueState, alone_at, in_groups, logs_around, world_of, sync_in}
 use Rattle.bench_world.proofs.Coming.{claim_published, packet_is}
-use Rattle.bench_world.proofs.States.{member_at, stepped_at}
+use Rattle.bench_world.proofs.States.{member_at, stepped_at, tally_fits}
 
 -- ---- sizes
 
@@ -267,6 +267,12 @@ module _ (s : GroupState) (is : IsTrueState s) (m : ℕ) (there : m < length s.m
             (came_state (came_in s.keys (logs_around s.members) s.members q (claim_in s.members m f)) kept tried
             (Event.Answer m f q) few made tt)
 
+        -- 64 bits hold what is counted then.
+        pub answer_fits : s.steps < 100000 → FitsIn64Bits (with_kept kept tried)
+        answer_fits few =
+            tally_fits (record s { members = new; tally = with_kept kept tried; steps = s.steps + 1 })
+            (answer_state few)
+
   -- ---- octets from outside
 
   module _ (octets : List ℕ) where
@@ -349,3 +355,8 @@ module _ (s : GroupState) (is : IsTrueState s) (m : ℕ) (there : m < length s.m
             IsTrueState (record s { members = ms; tally = with_kept kept s.tally; steps = s.steps + 1 })) (sym same)
             (came_state (came_for s.keys (logs_around s.members) octets (claim_in s.members m f)) kept s.tally
             (Event.Feed m f read) few fed tt)
+
+        pub feed_fits : s.steps < 100000 → FitsIn64Bits (with_kept kept s.tally)
+        feed_fits few =
+            tally_fits (record s { members = new; tally = with_kept kept s.tally; steps = s.steps + 1 })
+            (feed_state few)

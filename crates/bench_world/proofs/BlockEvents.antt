@@ -1,7 +1,7 @@
 -- What a block of an insertion makes of a world.
 use Rattle.std.proofs.Common.{◌≡◌, inl, inr, ℕ, ◌+◌, ◌≤◌, ◌<◌, Bool, true, false, cond, not, Some, None, Result, Ok}
 use Rattle.std.proofs.Common.{Err, List, [], ◌++◌, length, get_or, set, refl, sym, ap, ◌∙◌, subst, arith}
-use Rattle.std.specs.Prelude.{nat_le, ◌↔◌, IsTrue, unwrap_or}
+use Rattle.std.specs.Prelude.{nat_le, ◌↔◌, IsTrue}
 use Rattle.std.specs.List.{All}
 use Rattle.std.specs.Ordering.{nat_cmp, eq_by_cmp}
 use Rattle.std.proofs.lemmas.Bool.{cases_eq, cases_Bool, false_from_ne_true, leb-true, leb-false, le-leb, lt-ltb}
@@ -12,12 +12,13 @@ use Rattle.bench_net.specs.SentList.{SentPacket}
 use Rattle.sorted_lists.specs.SortedList.{value_of}
 use Rattle.sorted_lists.proofs.Orders.{Exact, nat_same, nat_itself}
 use Rattle.sorted_lists.proofs.Sets.{value_of-with_value}
-use Rattle.repo_object.specs.Objects.{IsObject}
+use Rattle.repo_object.specs.Objects.{IsObject, contents_of}
+use Rattle.repo_object.specs.Objects.Post.{Offers}
 use Rattle.repo_process.specs.Processes.{Process, BlockState, indexes, closed, object_of}
 use Rattle.repo_process.specs.Processes.BlockState.{Unknown, Already, Waiting, Whole}
 use Rattle.repo_process.specs.Arrivals.{is_last}
 use Rattle.repo_process.specs.Insertions.{with_process}
-use Rattle.group_model.specs.Publications.{Logs, published, no_object}
+use Rattle.group_model.specs.Publications.{Logs, published, no_post}
 use Rattle.group_model.specs.Changes as group
 use Rattle.group_model.specs.Events.{Event}
 use Rattle.group_model.specs.Limits.{IsWithinSteps, IsMemberWithin}
@@ -26,6 +27,7 @@ use Rattle.group_model.specs.Refusals.{Refusal, unless, if_whole, refusal}
 use Rattle.group_model.specs.Steps.{after_publish, after_block, after_event, block_at, with_process_at, next_seq_at}
 use Rattle.group_model.specs.Steps.{next_sync}
 use Rattle.group_model.specs.World.{World, member}
+use Rattle.group_model.proofs.MemberLimits.{HasFewBlocks, few_in}
 use Rattle.repo_member.specs.declared.member.block.Blocked.{Blocked}
 use Rattle.repo_member.specs.declared.member.block.Blocked.TheVariants as blocked
 use Rattle.repo_member.specs.declared.refusals.PublishRefusal.{PublishRefusal}
@@ -46,10 +48,6 @@ use Rattle.bench_world.proofs.States.{logs_are, set_truly, set_numbers, changed_
 
 exact_numbers : Exact nat_cmp
 exact_numbers = record { total = nat_cmp_total; same = nat_same; itself = nat_itself }
-
-few_indexes : (p : Process) → length (object_of p).contents ≤ 200 → length (indexes p) ≤ 200
-few_indexes p few =
-    subst (λ (n : ℕ). n ≤ 200) (length-map (indexes p) (λ index. unwrap_or (value_of nat_cmp p.blocks index) [])) few
 
 -- ---- a member with another insertion process
 
@@ -117,8 +115,8 @@ module _ (s : GroupState) (is : IsTrueState s) (m : ℕ) (there : m < length s.m
       sent = is.within.sent;
       published = subst (λ (ls : Logs). length (published ls) ≤ s.steps) (sym kept_logs) is.within.published;
       segments =
-          subst (λ (ls : Logs). (i k : ℕ) → length (get_or (get_or ls i []) k no_object).contents ≤ 200) (sym kept_logs)
-          is.within.segments;
+          subst (λ (ls : Logs). (i k : ℕ) → length (contents_of (get_or (get_or ls i []) k no_post)) ≤ 20000)
+          (sym kept_logs) is.within.segments;
       members = each_within;
       tally = is.within.tally;
     }
@@ -261,56 +259,67 @@ module _ (s : GroupState) (is : IsTrueState s) (m : ℕ) (there : m < length s.m
             ∙ keeping_world s is m there old old_is process p)
 
         -- the object is published by the member with a closed process
-        publishes : (p : Process) → IsObject (object_of p) → length old.log < 65535
+        publishes : (p : Process) → length (indexes p) ≤ 200 → IsObject (object_of p) → length old.log < 65535
             → b ≡ own.alone_publishes_whole s.keys process s.moment n p old → (y : Blocked)
             → TellsBlock s.keys old b (Whole p) y → sent ≡ after_blocked m old.known y s.sent
-            → IsAfter (after_publish (drawing draw) (with_process_at (world_of s) m process (closed p)) m (object_of p))
-        publishes p object less e (blocked.Published one) t so =
+            → IsAfter (after_publish (drawing draw) (with_process_at (world_of s) m process (closed p)) m
+            (Offers (object_of p)))
+        publishes p short object less e (blocked.Published one) t so =
             let now : Alone = alone_keeps process (closed p) old in
             let s1 : GroupState = record s { members = set s.members m now } in
             let is1 : IsTrueState s1 =
-            keeping_state s is m there old old_is process (closed p) (few_indexes p object.few) in
+            keeping_state s is m there old old_is process (closed p) short in
             let there1 : m < length s1.members = let l = length-set s.members m now in omega (arith, there, l) in
             let now_is : now ≡ get_or s1.members m now = sym (get_or-set_same s.members m now now there) in
-            let b_now : b ≡ alone_publishes s1.keys (object_of p) s1.moment n now =
+            let b_now : b ≡ alone_publishes s1.keys (Offers (object_of p)) s1.moment n now =
             e
-            ∙ ap (λ (c : Bool). cond c (alone_publishes s.keys (object_of p) s.moment n now) old)
+            ∙ ap (λ (c : Bool). cond c (alone_publishes s.keys (Offers (object_of p)) s.moment n now) old)
             (lt-ltb (length old.log) 65535 less) in
             let told : sent ≡ s1.sent ++ _ =
-            sent_is s1 is1 m there1 now now_is b draw n n_is (object_of p) b_now sent s.sent old.known one.seq
+            sent_is s1 is1 m there1 now now_is b draw n n_is (Offers (object_of p)) b_now sent s.sent old.known one.seq
             one.sync.items refl refl t.0 t.1 so in
             let twice : set s1.members m b ≡ set s.members m b = set-set s.members m now b in
             record {
               world =
                   ap (λ (ms : List Alone). world_of (record s { members = ms; sent = sent; steps = s.steps + 1 }))
                   (sym twice)
-                  ∙ world_sent s1 is1 m there1 now now_is b draw n n_is (object_of p) b_now sent told
-                  ∙ ap (λ (w : World). after_publish (drawing draw) w m (object_of p))
+                  ∙ world_sent s1 is1 m there1 now now_is b draw n n_is (Offers (object_of p)) b_now sent told
+                  ∙ ap (λ (w : World). after_publish (drawing draw) w m (Offers (object_of p)))
                   (keeping_world s is m there old old_is process (closed p));
               state =
                   subst (λ (ms : List Alone). IsTrueState (record s { members = ms; sent = sent; steps = s.steps + 1 }))
                   twice
-                  (state_sent s1 is1 m there1 now now_is b draw n n_is (object_of p) b_now few object less sent told);
+                  (state_sent s1 is1 m there1 now now_is b draw n n_is (Offers (object_of p)) b_now few object less
+                  sent told);
             }
-        publishes p object less e _ t so = absurd t
+        publishes p short object less e _ t so = absurd t
 
         pub after_so : IsAfter (after_event (drawing draw) (world_of s) event)
         after_so =
             subst IsAfter (sym is_event)
-            (go comes_to (sym is_event) room b_is objects x tells
+            (go comes_to short_blocks (sym is_event) room b_is objects x tells
             (sent_from ∙ (λ i. after_blocked m (vector_is i) x (reserved_is i)))) where
               is_event : after_event (drawing draw) (world_of s) event
                   ≡ after_block (drawing draw) (world_of s) m process comes_to
               is_event = ap (after_block (drawing draw) (world_of s) m process) state_is
 
-              go : (c : BlockState)
+              within : IsMemberWithin s.steps (in_group old)
+              within =
+                  subst (λ (a : Alone). IsMemberWithin s.steps (in_group a)) (sym (old_at s is m there old old_is))
+                  (member_within s is m)
+
+              short_blocks : HasFewBlocks comes_to
+              short_blocks =
+                  few_in index content (value_of nat_cmp old.insertions.processes process) (within.blocks process)
+
+              go : (c : BlockState) → HasFewBlocks c
                   → after_block (drawing draw) (world_of s) m process c ≡ after_event (drawing draw) (world_of s) event
                   → (IsTrue (is_last c) → length old.log < 65535) → b ≡ own.after_block s.keys process s.moment n old c
                   → CompletesAnObject c
                   → (y : Blocked) → TellsBlock s.keys old b c y → sent ≡ after_blocked m old.known y s.sent
                   → IsAfter (after_block (drawing draw) (world_of s) m process c)
-              go (Whole p) w_is h e object y t so = publishes p object (h refl) e y t so
-              go Unknown w_is h e object blocked.Unknown t so = still w_is e so
-              go Already w_is h e object blocked.Already t so = still w_is e so
-              go (Waiting p) w_is h e object blocked.Waiting t so = waits p w_is e so
-              go _ w_is h e object _ t so = absurd t
+              go (Whole p) short w_is h e object y t so = publishes p short object (h refl) e y t so
+              go Unknown short w_is h e object blocked.Unknown t so = still w_is e so
+              go Already short w_is h e object blocked.Already t so = still w_is e so
+              go (Waiting p) short w_is h e object blocked.Waiting t so = waits p w_is e so
+              go _ short w_is h e object _ t so = absurd t

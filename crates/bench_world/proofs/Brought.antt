@@ -1,8 +1,8 @@
 -- What a phase brings for the parts that a member asks for.
 use Rattle.std.proofs.Common.{◌≡◌, inl, inr, ℕ, suc, zero, ◌+◌, ◌≤◌, ◌<◌, Bool, true, false, cond, ◌==◌, List, [], ◌∷◌}
 use Rattle.std.proofs.Common.{map, length, replicate, Option, Some, None, refl, sym, ap, ◌∙◌, subst, arith}
-use Rattle.std.specs.Prelude.{is_some, unwrap_or, find, filter, option_map, slice_get, sum_by, IfSome, IsOk, Result, Ok}
-use Rattle.std.specs.Prelude.{Err}
+use Rattle.std.specs.Prelude.{nat_le, is_some, unwrap_or, find, filter, option_map, slice_get, sum_by, IfSome, IsOk}
+use Rattle.std.specs.Prelude.{Result, Ok, Err}
 use Rattle.std.specs.List.{All}
 use Rattle.std.proofs.lemmas.List.Sums.{sum_by-cons}
 use Rattle.std.proofs.lemmas.Bool.{true≢false}
@@ -16,14 +16,16 @@ use Rattle.repo_plan.specs.Plan.{is_wanted, attempts_of}
 use Rattle.sorted_lists.proofs.Sets.{In}
 use Rattle.repo_object.specs.declared.job.Job.{Job}
 use Rattle.repo_object.specs.declared.part_refusal.PartRefusal.{PartRefusal}
-use Rattle.repo_object.specs.Wants.{WantedPart, want_record, want_segment}
+use Rattle.repo_object.specs.Publication.{Listed}
+use Rattle.repo_object.specs.Wants.{WantedPart, want_record, want_index, want_segment}
 use Rattle.repo_object.specs.Verdict.{CheckedPart, ring_verdict, checked_part}
 use Rattle.fetch_work.specs.Attempts.{brings, checked_reply, if_passed, CanBeTried}
 use Rattle.fetch_work.specs.Phases.{AreFirst}
 use Rattle.fetch_work.specs.Teams.{IsFirst}
 use Rattle.group_model.specs.Publications.{Logs}
 use Rattle.repo_member.specs.Groups.{GroupKeys, node_at}
-use Rattle.repo_member.specs.Listed.{listing_at}
+use Rattle.repo_member.specs.Listed.{listing_at, listed_shape}
+use Rattle.repo_member.specs.StoredParents.{digest_at}
 use Rattle.repo_member.specs.Alone.{Alone, Fetched, alone_plan, want_of, nothing_listed}
 use Rattle.repo_member.specs.InGroup.{AreLogs, true_packet, asked_for, that_came}
 use Rattle.repo_member.specs.Outcomes.{job_for, outcome_of, octets_in, IsCheckedFor, WereTried}
@@ -186,13 +188,19 @@ octets_sum f (job ∷ jobs) (Some c ∷ ps) (n ∷ ns) e h each =
 -- ---- the jobs of a member
 
 pub want_part : (g : GroupKeys) (a : Alone) (t : Part) → (want_of g a.store t).part ≡ t
-want_part g a t = go (t.part == 0) where
-  go : (b : Bool)
-      → (cond b (want_record t (node_at g t.publisher) g.name)
-      (want_segment t (unwrap_or (listing_at a.store (pair_of t)) nothing_listed))).part
-      ≡ t
-  go true = refl
-  go false = refl
+want_part g a t =
+    go (t.part == 0) (nat_le t.part (listed_shape listed).index) where
+      listed : Listed
+      listed = unwrap_or (listing_at a.store (pair_of t)) nothing_listed
+
+      go : (b c : Bool)
+          → (cond b (want_record t (node_at g t.publisher) g.name)
+          (cond c (want_index t listed (node_at g t.publisher) g.name)
+          (want_segment t (listed_shape listed) listed.name (digest_at a.store t listed)))).part
+          ≡ t
+      go true c = refl
+      go false true = refl
+      go false false = refl
 
 module _ (passes : ℕ → ℕ → ℕ → ℕ → ℕ → ℕ → Bool) (g : GroupKeys) (logs : Logs) (a : Alone) (others : List Alone)
     (asker : ℕ) (loss : Option ℕ) (are : AreLogs g logs) (truly : IsTrueMember g logs a)

@@ -1,37 +1,37 @@
 -- Packets that come for what fetchers claim.
 use Rattle.std.proofs.Common.{◌≡◌, ◌≢◌, ◌⊎◌, inl, inr, ℕ, ◌-◌, ◌≤◌, ◌<◌, Bool, true, false, cond, ◌==◌, List, []}
 use Rattle.std.proofs.Common.{length, get_or, Option, Some, None, refl, sym, ap, ◌∙◌, subst, arith}
-use Rattle.std.specs.Prelude.{unwrap_or, is_ok, IsOk, IsSomeAnd, IfSome, Result, Ok, Err}
+use Rattle.std.specs.Prelude.{◌+◌, nat_le, unwrap_or, is_ok, IsOk, IsSomeAnd, IfSome, Result, Ok, Err}
 use Rattle.std.specs.Str.{bytes_eq}
 use Rattle.std.proofs.lemmas.Bool.{true≢false}
 use Rattle.std.proofs.lemmas.Bool.{cases_lt}
 use Rattle.std.proofs.lemmas.List.{length-map, get_or_past}
+use Rattle.std.proofs.lemmas.Option.{slice_get-get_or}
 use Rattle.std.proofs.lemmas.Slice.Eq.{bytes_eq-Decides}
+use Rattle.sha2.specs.Sha256.{sha256}
 use Rattle.ndn_name.specs.Names.{Component, encoding}
 use Rattle.ndn_data.specs.Data.{Data}
 use Rattle.ndn_sign.specs.Ring.{NamedKey}
 use Rattle.repo_plan.specs.declared.part.Part.{Part}
 use Rattle.sorted_lists.specs.SortedList.{value_of}
-use Rattle.repo_plan.specs.Parts as parts
-use Rattle.repo_plan.specs.Parts.{part_cmp, pair_of, part_of}
+use Rattle.repo_plan.specs.Parts.{Pair, part_cmp, pair_of, part_of}
 use Rattle.repo_plan.specs.Plan.{PlanState, claim_of, is_wanted}
 use Rattle.repo_object.specs.declared.part_refusal.PartRefusal.{PartRefusal}
 use Rattle.repo_object.specs.Wants.{WantedPart}
 use Rattle.repo_object.specs.Verdict.{ring_verdict, CheckedPart, checked_part}
-use Rattle.group_model.specs.Publications.{Logs, count, object_at}
+use Rattle.group_model.specs.Publications.{Logs, no_post, count, post_at, shape_at}
 use Rattle.group_model.specs.Member.{member_holds, member_hides}
 use Rattle.group_model.specs.Sound.{IsPublished, IsPublishedPart}
 use Rattle.group_model.specs.Wanted.{IsWantedPart}
 use Rattle.group_model.specs.Events.{Came}
 use Rattle.group_model.specs.Events.Came.{Nothing, Its, Another}
 use Rattle.group_model.proofs.PublicLaws.{parts_are_those, tests_those}
-use Rattle.repo_object.specs.Objects.{key_name}
-use Rattle.repo_object.specs.Publication.{published_listing}
-use Rattle.repo_object.specs.Wants.{want_record, want_segment}
-use Rattle.repo_member.specs.Groups.{GroupKeys, HaveKeys, node_at, publisher_at}
+use Rattle.repo_object.specs.Objects.{Post, IsPost, key_name}
+use Rattle.repo_object.specs.Wants.{want_record, want_index, want_segment}
+use Rattle.repo_member.specs.Groups.{GroupKeys, HaveKeys, node_at}
 use Rattle.repo_member.specs.Alone.{Alone, alone_plan, want_of, alone_accepts}
 use Rattle.repo_member.specs.InGroup.{in_group, AreLogs, true_packet}
-use Rattle.repo_member.specs.TrueMembers.{IsTrueMember, true_want}
+use Rattle.repo_member.specs.TrueMembers.{IsTrueMember, true_listing, true_want}
 use Rattle.repo_member.proofs.PublicLaws.{true_stores, plans_alike, wants_published, wants_are_true, packets_are_there}
 use Rattle.repo_member.proofs.PublicLaws.{packets_pass}
 use Rattle.repo_object.specs.Verdict.{publisher_key}
@@ -42,6 +42,7 @@ use Rattle.bench_world.specs.declared.answering.Fed.TheVariants.{Kept}
 use Rattle.bench_world.specs.Sizes.{size_of}
 use Rattle.bench_world.specs.Serving.{octets_as}
 use Rattle.bench_world.specs.Answering.{answered, fed_by, fed_as, accepts_claimed}
+use Rattle.bench_world.proofs.Brought.{want_part}
 
 -- There are as many keys as members.
 ring_length : (g : GroupKeys) → HaveKeys g.members → length g.members.ring ≡ length g.members.names
@@ -50,13 +51,24 @@ ring_length g have =
     ∙ length-map g.members.names (λ (n : List Component). encoding (key_name n))
 
 -- The publisher of a publication is a member.
-pub publisher_there : (logs : Logs) (pair : parts.Pair) → IsPublished logs pair → pair.0 < length logs
+pub publisher_there : (logs : Logs) (pair : Pair) → IsPublished logs pair → pair.0 < length logs
 publisher_there logs pair there = elim (cases_lt pair.0 (length logs)) [
   | inl inside ↦ inside
   | inr past ↦
       let none : length (get_or logs pair.0 []) ≡ 0 = ap length (get_or_past logs pair.0 [] past) in
       absurd (omega (arith, none, there.from_one, there.to_last))
 ]
+
+-- What was published is within the limits.
+pub post_within : (g : GroupKeys) (logs : Logs) → AreLogs g logs → (pair : Pair) → IsPublished logs pair
+    → IsPost pair.1 (post_at logs pair)
+post_within g logs are pair there =
+    let log : List Post = get_or logs pair.0 [] in
+    let number : pair.1 - 1 + 1 ≡ pair.1 = omega (arith, there.from_one) in
+    let inside : pair.1 - 1 < length (get_or logs pair.0 []) = omega (arith, there.from_one, there.to_last) in
+    subst (λ (n : ℕ). IsPost n (post_at logs pair)) number
+    (are.posts pair.0 [] (publisher_there logs pair there) (pair.1 - 1) (post_at logs pair)
+    (slice_get-get_or log (pair.1 - 1) no_post inside))
 
 -- ---- the packet of a published part
 
@@ -151,7 +163,8 @@ module _ (g : GroupKeys) (logs : Logs) (a : Alone) (are : AreLogs g logs) (truly
   pub claim_of_another : t.publisher ≢ a.number
   claim_of_another own =
       let is : IsWantedPart logs (in_group a) t =
-      (tests_those logs (in_group a) t).0 (truly.sound.claimed (f - 1) t claim) in
+      (tests_those logs (in_group a) t (λ u h. (truly.sound.held u h).with_record)).0
+      (truly.sound.claimed (f - 1) t claim) in
       let own_held : (member_hides (in_group a) (t.publisher, t.seq) ≡ true)
       ⊎ ((x : ℕ) → x ≤ count logs (t.publisher, t.seq)
       → member_holds (in_group a) (part_of (t.publisher, t.seq) x) ≡ true) =
@@ -178,6 +191,17 @@ module _ (g : GroupKeys) (logs : Logs) (a : Alone) (are : AreLogs g logs) (truly
       let long : length g.members.ring ≡ length g.members.names = ring_length g are.group.members in
       omega (arith, long, are.width, publisher_there logs (pair_of t) there)
 
+-- The want of a claim is that of the claimed part.
+pub want_claimed : (g : GroupKeys) (a : Alone) (f : ℕ) (want : WantedPart)
+    → IsSomeAnd (claim_of (alone_plan a) f) (λ part. want ≡ want_of g a.store part)
+    → claim_of (alone_plan a) f ≡ Some want.part
+want_claimed g a f want h = go (claim_of (alone_plan a) f) h where
+  go : (o : Option Part) → IsSomeAnd o (λ part. want ≡ want_of g a.store part) → o ≡ Some want.part
+  go None k = absurd k
+  go (Some t) k =
+      let part : want.part ≡ t = ap (λ (w : WantedPart). w.part) k ∙ want_part g a t in
+      ap (λ (u : Part). let o : Option Part = Some u in o) (sym part)
+
 -- The want of a claim is the group's.
 pub want_true : (g : GroupKeys) (logs : Logs) (a : Alone) → AreLogs g logs → IsTrueMember g logs a
     → (f : ℕ) (want : WantedPart)
@@ -188,15 +212,18 @@ want_true g logs a are truly f want h = go (claim_of (alone_plan a) f) refl h wh
   go None e k = absurd k
   go (Some t) e k =
       let same : want ≡ true_want g logs t = k ∙ claim_want g logs a are truly f t e in
-      same ∙ ap (true_want g logs) (sym (ap (λ (w : WantedPart). w.part) same ∙ want_part t)) where
-        want_part : (u : Part) → (true_want g logs u).part ≡ u
-        want_part u = by_kind (u.part == 0) where
-          by_kind : (b : Bool)
+      same ∙ ap (true_want g logs) (sym (ap (λ (w : WantedPart). w.part) same ∙ true_part t)) where
+        true_part : (u : Part) → (true_want g logs u).part ≡ u
+        true_part u = by_kind (u.part == 0) (nat_le u.part (shape_at logs (pair_of u)).index) where
+          by_kind : (b c : Bool)
               → (cond b (want_record u (node_at g u.publisher) g.name)
-              (want_segment u (published_listing (publisher_at g u.publisher) (object_at logs (pair_of u))))).part
+              (cond c (want_index u (true_listing g logs (pair_of u)) (node_at g u.publisher) g.name)
+              (want_segment u (shape_at logs (pair_of u)) (true_listing g logs (pair_of u)).name
+              (sha256 (unwrap_or (true_packet g logs u) []))))).part
               ≡ u
-          by_kind true = refl
-          by_kind false = refl
+          by_kind true c = refl
+          by_kind false true = refl
+          by_kind false false = refl
 
 -- ---- what an accepted packet comes to
 

@@ -42,6 +42,7 @@ taken_split out w (x ∷ xs) ys a = let r = taken_split out (after_event out w x
 pub named_ready : (n : ℕ) (w : World) (g : GroupKeys) (e : EventValue) → length w.members ≡ n → IsReady n e
     → NamesThose w (group_event g e)
 named_ready n w g (EventValue.Publish m name size content) many r = omega (arith, many, r.0)
+named_ready n w g (EventValue.Withdraw m s) many r = omega (arith, many, r.0)
 named_ready n w g (EventValue.Deliver k m) many r = omega (arith, many, r)
 named_ready n w g (EventValue.Sync k) many r = tt
 named_ready n w g (EventValue.Advance ms) many r = tt

@@ -12,16 +12,17 @@ use Rattle.std.proofs.lemmas.List.Elements.{All-append}
 use Rattle.bench_net.specs.SentList.{SentPacket}
 use Rattle.svs_sync.specs.KeptVector.{Keeper}
 use Rattle.repo_plan.specs.declared.part.Part.{Part}
-use Rattle.group_model.specs.Publications.{Logs, no_object, published}
+use Rattle.repo_object.specs.Objects.{contents_of}
+use Rattle.group_model.specs.Publications.{Logs, no_post, published}
 use Rattle.group_model.specs.Member.{Member, tries_of}
 use Rattle.group_model.specs.Events.{SyncInterest, Event}
 use Rattle.group_model.specs.World.{Tally, World, Outside, no_member, member}
 use Rattle.group_model.specs.Laws.{NothingHidden, AllJoined}
-use Rattle.group_model.specs.Limits.{IsWithinSteps, IsMemberWithin, IsTallyWithin}
+use Rattle.group_model.specs.Limits.{IsWithinSteps, IsMemberWithin, FitsIn64Bits}
 use Rattle.group_model.specs.Sound.{IsSoundGroup}
 use Rattle.group_model.specs.Steps.{settle_gains, settled_member, syncs_of, after_gathering, fetched_parts}
 use Rattle.group_model.specs.Steps.{attempts_made, after_fetch}
-use Rattle.group_model.proofs.PublicLaws.{gathering_joins, gathering_within, more_within}
+use Rattle.group_model.proofs.PublicLaws.{gathering_joins, gathering_within, more_within, tallies_fit}
 use Rattle.repo_member.specs.Alone.{Alone}
 use Rattle.repo_member.specs.InGroup.{in_group}
 use Rattle.bench_world.specs.declared.telling.Told.{Told}
@@ -55,21 +56,21 @@ module _ (s : GroupState) (is : IsTrueState s) (few : s.steps < 100000) (passes 
       (parts_is : parts ≡ length (fetched_parts out (only_members s.members) m tries loss))
       (octets_is : octets
       ≡ sum_by (size_of s.keys (logs_around s.members)) (fetched_parts out (only_members s.members) m tries loss)) where
-    pub fetch_fits : (s.tally.attempts + attempts < 2 ^ 63)
-        × (s.tally.parts + parts < 2 ^ 63)
-        × (s.tally.octets + octets < 2 ^ 63)
+    pub fetch_fits : (s.tally.attempts + attempts < 2 ^ 64)
+        × (s.tally.parts + parts < 2 ^ 64)
+        × (s.tally.octets + octets < 2 ^ 64)
     fetch_fits =
-        let w : IsTallyWithin (s.steps + 1) (after_fetch out (world_of s) m tries loss).tally = fetch_within.tally in
-        let a : s.tally.attempts + attempts_made out (only_members s.members) m tries loss ≤ (s.steps + 1) * 65536 =
-        w.attempts in
-        let p : s.tally.parts + length (fetched_parts out (only_members s.members) m tries loss)
-        ≤ (s.steps + 1) * 321600000 =
-        w.parts in
+        let fits : FitsIn64Bits (after_fetch out (world_of s) m tries loss).tally =
+        tallies_fit (s.steps + 1) (after_fetch out (world_of s) m tries loss).tally (omega (arith, few))
+        fetch_within.tally in
+        let a : s.tally.attempts + attempts_made out (only_members s.members) m tries loss < 2 ^ 64 = fits.attempts in
+        let p : s.tally.parts + length (fetched_parts out (only_members s.members) m tries loss) < 2 ^ 64 =
+        fits.parts in
         let o : s.tally.octets
         + sum_by (size_of s.keys (logs_around s.members)) (fetched_parts out (only_members s.members) m tries loss)
-        ≤ (s.steps + 1) * 2830080000000 =
-        w.octets in
-        (omega (arith, a, few, attempts_is), omega (arith, p, few, parts_is), omega (arith, o, few, octets_is))
+        < 2 ^ 64 =
+        fits.octets in
+        (omega (arith, a, attempts_is), omega (arith, p, parts_is), omega (arith, o, octets_is))
 
     module _ (new : List Alone)
         (new_is : in_groups new ≡ (after_fetch out (only_members s.members) m tries loss).members) where
@@ -158,8 +159,8 @@ module _ (s : GroupState) (is : IsTrueState s) where
         sent = is.within.sent;
         published = subst (λ (ls : Logs). length (published ls) ≤ s.steps) (sym same) is.within.published;
         segments =
-            subst (λ (ls : Logs). (p k : ℕ) → length (get_or (get_or ls p []) k no_object).contents ≤ 200) (sym same)
-            is.within.segments;
+            subst (λ (ls : Logs). (p k : ℕ) → length (contents_of (get_or (get_or ls p []) k no_post)) ≤ 20000)
+            (sym same) is.within.segments;
         members = λ j. subst (IsMemberWithin s.steps) (sym (member_at mid j)) (record {
           draws =
               let a : (alone_at s.members j).machine.draws ≤ s.steps + 1 = (member_within s is j).draws in
@@ -306,13 +307,12 @@ module _ (s : GroupState) (is : IsTrueState s) where
           changed_state s is mid sent s.moment settled (s.steps + 1) len numbers truly all_true (omega (arith, few))
           settle_within
 
-      pub settle_fits : (count * less < 2 ^ 63)
-          × (s.tally.delivered + count * less < 2 ^ 63)
-          × (s.tally.parts + parts < 2 ^ 63)
-          × (s.tally.octets + octets < 2 ^ 63)
+      pub settle_fits : (count * less < 2 ^ 64)
+          × (s.tally.delivered + count * less < 2 ^ 64)
+          × (s.tally.parts + parts < 2 ^ 64)
+          × (s.tally.octets + octets < 2 ^ 64)
       settle_fits =
-          let w = settle_within.tally in
-          let d : s.tally.delivered + count * less ≤ (s.steps + 1) * 240 = w.delivered in
-          let p : s.tally.parts + parts ≤ (s.steps + 1) * 321600000 = w.parts in
-          let o : s.tally.octets + octets ≤ (s.steps + 1) * 2830080000000 = w.octets in
-          (omega (arith, d, few), omega (arith, d, few), omega (arith, p, few), omega (arith, o, few))
+          let fits : FitsIn64Bits settled =
+          tallies_fit (s.steps + 1) settled (omega (arith, few)) settle_within.tally in
+          let d : s.tally.delivered + count * less < 2 ^ 64 = fits.delivered in
+          (omega (arith, d), d, fits.parts, fits.octets)

@@ -15,7 +15,7 @@ use Rattle.group_model.specs.World.{World, no_member, member, logs, someone_hold
 use Rattle.group_model.specs.Settles.{learnt_member, IsGathering, HasGathered}
 use Rattle.group_model.specs.Steps.{settled_vector, settled_member, comes_to, new_parts}
 use Rattle.group_model.specs.Sound.{IsSoundGroup, IsSoundMember}
-use Rattle.group_model.proofs.Catalogues.{in_all_parts}
+use Rattle.group_model.proofs.Among.{in_all_parts}
 use Rattle.group_model.proofs.Gains.{held_too, held_new}
 use Rattle.group_model.proofs.Lists.{in_at}
 use Rattle.group_model.proofs.Members.{known_published}

@@ -15,7 +15,7 @@ use Rattle.group_model.specs.Member.{Member, insert_keys}
 use Rattle.group_model.proofs.Lists.{from_filter, contains-insert_keys}
 use Rattle.group_model.proofs.Parts.{all_parts_rise, from_all_parts}
 use Rattle.group_model.proofs.Members.{known_published}
-use Rattle.group_model.proofs.Catalogues.{in_all_parts}
+use Rattle.group_model.proofs.Among.{in_all_parts}
 use Rattle.group_model.proofs.SortedSets.{shorter}
 use Rattle.group_model.proofs.Plans.{wanted_parts}
 use Rattle.repo_member.specs.Groups.{GroupKeys}

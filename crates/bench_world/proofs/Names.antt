@@ -22,10 +22,10 @@ use Rattle.repo_process.specs.Processes.BlockState.{Unknown, Already, Waiting, W
 use Rattle.repo_catalog.specs.declared.entry.Entry.{Entry}
 use Rattle.repo_store.specs.Served.{served}
 use Rattle.group_model.specs.Publications.{Publication, pair_in, published, published_entry}
-use Rattle.group_model.specs.Member.{Member, member_holds, holds_all, catalogued}
+use Rattle.group_model.specs.Member.{Member, member_holds, is_listed, catalogued}
 use Rattle.group_model.specs.Replies.{CatalogueTotals, HearOutcome}
 use Rattle.group_model.specs.Sound.{IsPublished, IsSoundGroup}
-use Rattle.group_model.specs.Wanted.{IsWantedPart}
+use Rattle.group_model.specs.Wanted.{IsWantedPart, HoldsRecords}
 use Rattle.group_model.specs.World.{Outside, World, member, logs, sent_at, catalogue_at}
 use Rattle.group_model.specs.Steps.{catalogue_totals, all_totals, claim_at, to_claim, timer_at, mode_at, after_deliver}
 use Rattle.group_model.specs.Steps.{came_from, passes_checks, next_seq_at, next_sync, block_at, hear_outcome}
@@ -122,6 +122,9 @@ module _ (n : ℕ) where
     is_member : (pair : Pair) → IsPublished (logs w) pair → pair.0 < n
     is_member pair published = subst (λ (k : ℕ). pair.0 < k) many (publisher_within w pair published)
 
+    records : (m : ℕ) → m < n → HoldsRecords (member w m)
+    records m there t held = ((sound.members m (subst (λ (k : ℕ). m < k) (sym many) there)).held t held).with_record
+
     -- The publisher of a wanted part is a member.
     of_wanted : (m : ℕ) → m < n → (t : Part) → IsWantedPart (logs w) (member w m) t → t.publisher < n
     of_wanted m there t wanted =
@@ -129,12 +132,13 @@ module _ (n : ℕ) where
         is_member (pair_of t) (known_published (logs w) (member w m).known (pair_of t) is.known wanted.known)
 
     of_first : (m : ℕ) → m < n → (t : Part) → to_claim w m ≡ Some t → t.publisher < n
-    of_first m there t first = of_wanted m there t (claims_first w m t first).wanted
+    of_first m there t first = of_wanted m there t (claims_first w m t (records m there) first).wanted
 
     of_claimed : (m f : ℕ) → m < n → (t : Part) → claim_at w m f ≡ Some t → t.publisher < n
     of_claimed m f there t claimed =
         let is = sound.members m (subst (λ (k : ℕ). m < k) (sym many) there) in
-        of_wanted m there t ((tests_those (logs w) (member w m) t).0 (is.claimed (f - 1) t claimed))
+        of_wanted m there t
+        ((tests_those (logs w) (member w m) t (records m there)).0 (is.claimed (f - 1) t claimed))
 
     -- So is that of each entry.
     of_entries : (m : ℕ) → All (λ (e : Entry). e.publisher < n) (catalogue_at w m)
@@ -142,7 +146,8 @@ module _ (n : ℕ) where
         All-map (λ (e : Entry). e.publisher < n) published_entry (catalogued (logs w) (member w m))
         (all_from_in (λ (p : Publication). p.publisher < n) (catalogued (logs w) (member w m)) (λ p i.
         is_member (pair_in p)
-        (in_published (logs w) p (from_filter (holds_all (member w m)) (published (logs w)) p i).0).there))
+        (in_published (logs w) p
+        (from_filter (is_listed (published (logs w)) (member w m)) (published (logs w)) p i).0).there))
 
     of_refusal : (octets : List ℕ) → IfErr (group_verdict g octets) (SyncNamesMember n)
     of_refusal octets =
@@ -151,6 +156,7 @@ module _ (n : ℕ) where
 
     pub names_all : (e : EventValue) → IsReady n e → NamesAll n (telling g out w e)
     names_all (EventValue.Publish m name size content) r = r.0
+    names_all (EventValue.Withdraw m s) r = r.0
     names_all (EventValue.Deliver k m) r = of_delivery m r k (mode_at (after_deliver out w m (sent_at w k).vector) m)
     names_all (EventValue.Sync k) r = tt
     names_all (EventValue.Advance ms) r = tt

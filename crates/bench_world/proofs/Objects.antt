@@ -1,34 +1,58 @@
 -- What a publication makes of a world.
-use Rattle.std.proofs.Common.{◌≡◌, ◌⊎◌, inl, inr, ℕ, ◌+◌, ◌≤◌, ◌<◌, Bool, false, not, Some, None, Result, Ok, Err, List}
+use Rattle.std.proofs.Common.{◌≡◌, ◌⊎◌, inl, inr, ℕ, ◌+◌, ◌≤◌, ◌<◌, Bool, true, false, cond, not, Option, Some, None}
+use Rattle.std.proofs.Common.{◌&&◌, Result, Ok, Err, List}
 use Rattle.std.proofs.Common.{[], ◌∷◌, ◌++◌, map, length, get_or, set, refl, sym, ap, ◌∙◌, subst, arith}
 use Rattle.std.specs.Prelude.{nat_le, ◌↔◌}
 use Rattle.std.specs.List.{All}
-use Rattle.std.proofs.lemmas.Bool.{false_from_ne_true, cases_Bool, cases_eq, leb-true, leb-false, le-leb}
+use Rattle.std.proofs.lemmas.Bool.{false_from_ne_true, cases_Bool, cases_eq, leb-true, leb-false, le-leb, and_parts}
 use Rattle.std.proofs.lemmas.List.{length-append, length-set, map-set, map-append, get_or-set_same, get_or-set_other}
 use Rattle.std.proofs.lemmas.List.Elements.{All-append}
 use Rattle.bench_net.specs.SentList.{SentPacket, sent_packet}
-use Rattle.repo_object.specs.Objects.{NamedContents, IsObject}
-use Rattle.group_model.specs.Publications.{Logs, last_of}
+use Rattle.repo_object.specs.Objects.{NamedContents, Post, IsPost}
+use Rattle.repo_object.specs.Objects.Post.{Offers, Withdraws}
+use Rattle.group_model.specs.Publications.{Logs, last_of, has_unwithdrawn}
 use Rattle.group_model.specs.Member.{Member}
 use Rattle.group_model.specs.Events.{SyncInterest, Event}
-use Rattle.group_model.specs.World.{no_member, member, logs_of}
-use Rattle.group_model.specs.Steps.{drawn, after_publish}
+use Rattle.group_model.specs.World.{Outside, World, no_member, member, logs_of}
+use Rattle.group_model.specs.Steps.{drawn, after_publish, after_event}
 use Rattle.group_model.specs.Changes as group
-use Rattle.group_model.specs.Limits.{IsWithinSteps}
-use Rattle.group_model.specs.Refusals.{Refusal, unless, refusal}
+use Rattle.group_model.specs.Limits.{IsInRange, IsWithinSteps}
+use Rattle.group_model.specs.Refusals.{Refusal, unless, if_spent, refusal}
 use Rattle.group_model.specs.Sound.{IsTrueVector}
 use Rattle.repo_member.specs.declared.refusals.PublishRefusal.{PublishRefusal}
 use Rattle.repo_member.specs.declared.refusals.PublishRefusal.TheVariants.{NumbersSpent, NoMemory}
+use Rattle.repo_member.specs.declared.refusals.WithdrawRefusal.{WithdrawRefusal}
+use Rattle.repo_member.specs.declared.refusals.WithdrawRefusal.TheVariants as withdrawing
 use Rattle.repo_member.specs.Alone.{Alone, next_seq, alone_publishes}
 use Rattle.repo_member.specs.InGroup.{in_group, AreLogs, GrowInto}
 use Rattle.repo_member.specs.TrueMembers.{IsTrueMember}
 use Rattle.repo_member.specs.Verdicts.{sync_of}
 use Rattle.repo_member.proofs.PublicLaws.{publishes_alike, true_stores, logs_grow, publishes_true, others_publish}
 use Rattle.repo_member.proofs.PublicLaws.{logs_have_grown}
+use Rattle.bench_world.specs.declared.event.StepFault.TheVariants as fault
+use Rattle.bench_world.specs.Steps.{IsFaultOf}
+use Rattle.bench_world.specs.Withdrawing.{withdraw_fault}
 use Rattle.bench_world.specs.Worlds.{GroupState, IsTrueState, IsTrueSync, nobody, alone_at, in_groups, logs_around}
 use Rattle.bench_world.specs.Worlds.{sync_in, world_of, drawing}
 use Rattle.bench_world.proofs.States.{truly, number_is, member_is, among, among_logs, set_numbers, within_more}
 use Rattle.bench_world.proofs.Timers.{all_one}
+
+-- ---- the event of a publication
+
+abbrev event_of : ℕ → Post → Event
+event_of m (Offers object) = Event.Publish m object
+event_of m (Withdraws seq) = Event.Withdraw m seq
+
+event_is : (out : Outside) (w : World) (m : ℕ) (post : Post)
+    → after_event out w (event_of m post) ≡ after_publish out w m post
+event_is out w m (Offers object) = refl
+event_is out w m (Withdraws seq) = refl
+
+in_range : (m n : ℕ) (post : Post) → IsPost n post → IsInRange (event_of m post)
+in_range m n (Offers object) is = is.few
+in_range m n (Withdraws seq) is = tt
+
+-- ---- one member
 
 module _ (s : GroupState) (is : IsTrueState s) (m : ℕ) (there : m < length s.members) (old : Alone)
     (old_is : old ≡ get_or s.members m old) where
@@ -40,6 +64,21 @@ module _ (s : GroupState) (is : IsTrueState s) (m : ℕ) (there : m < length s.m
   pub log_is : length (member (world_of s) m).log ≡ length old.log
   log_is = ap (λ (x : Member). length x.log) (member_is s is m there old old_is)
 
+  spent_so : 65535 ≤ length old.log → if_spent (world_of s) m ≡ Some Refusal.NumbersSpent
+  spent_so most =
+      let l = log_is in
+      ap (λ (c : Bool). unless (not c) Refusal.NumbersSpent)
+      (le-leb 65535 (length (member (world_of s) m).log) (omega (arith, most, l)))
+
+  -- There is a number for a publication.
+  pub not_spent : length old.log < 65535 → if_spent (world_of s) m ≡ None
+  not_spent room =
+      ap (λ (c : Bool). unless (not c) Refusal.NumbersSpent)
+      (false_from_ne_true (nat_le 65535 (length (member (world_of s) m).log)) (λ h.
+      let a : 65535 ≤ length (member (world_of s) m).log = leb-true 65535 (length (member (world_of s) m).log) h in
+      let e = log_is in
+      omega (arith, a, e, room)))
+
   -- A publication is refused where all numbers are spent.
   pub refused_so : {A : Type 0} (draw : ℕ → ℕ → ℕ) (object : NamedContents) (r : Result A PublishRefusal)
       (e : PublishRefusal)
@@ -47,11 +86,7 @@ module _ (s : GroupState) (is : IsTrueState s) (m : ℕ) (there : m < length s.m
       → ((log : ℕ) → (r ≡ Err (NumbersSpent log)) ↔ ((log ≡ length old.log) × (65535 ≤ length old.log)))
       → (e ≡ NoMemory) ⊎ (refusal (drawing draw) (world_of s) (Event.Publish m object) ≡ Some Refusal.NumbersSpent)
   refused_so draw object r NoMemory is_err spent = inl refl
-  refused_so draw object r (NumbersSpent log) is_err spent =
-      let most : 65535 ≤ length old.log = ((spent log).0 is_err).1 in
-      let l = log_is in
-      inr (ap (λ (c : Bool). unless (not c) Refusal.NumbersSpent)
-      (le-leb 65535 (length (member (world_of s) m).log) (omega (arith, most, l))))
+  refused_so draw object r (NumbersSpent log) is_err spent = inr (spent_so ((spent log).0 is_err).1)
 
   pub has_room : {A : Type 0} (r : Result A PublishRefusal) (x : A) → r ≡ Ok x
       → ((log : ℕ) → (r ≡ Err (NumbersSpent log)) ↔ ((log ≡ length old.log) × (65535 ≤ length old.log)))
@@ -64,11 +99,71 @@ module _ (s : GroupState) (is : IsTrueState s) (m : ℕ) (there : m < length s.m
     | inr less ↦ leb-false 65535 (length old.log) less
   ]
 
+  -- ---- a withdrawal
+
+  module _ (seq : ℕ) where
+    unwithdrawn : has_unwithdrawn (member (world_of s) m).log seq ≡ has_unwithdrawn old.log seq
+    unwithdrawn = ap (λ (x : Member). has_unwithdrawn x.log seq) (member_is s is m there old old_is)
+
+    by_object : (b : Bool) → has_unwithdrawn old.log seq ≡ b → (draw : ℕ → ℕ → ℕ)
+        → refusal (drawing draw) (world_of s) (Event.Withdraw m seq)
+        ≡ cond b (if_spent (world_of s) m) (Some Refusal.NoSuchNumber)
+    by_object b e draw =
+        ap (λ (c : Bool). cond c (if_spent (world_of s) m) (Some Refusal.NoSuchNumber)) (unwithdrawn ∙ e)
+
+    pub withdraw_taken : (draw : ℕ → ℕ → ℕ) → has_unwithdrawn old.log seq ≡ true → length old.log < 65535
+        → refusal (drawing draw) (world_of s) (Event.Withdraw m seq) ≡ None
+    withdraw_taken draw object room = by_object true object draw ∙ not_spent room
+
+    abbrev IsWithoutObject : {A : Type 0} → Result A WithdrawRefusal → Type 0
+    IsWithoutObject r =
+        (n : ℕ) → (r ≡ Err (withdrawing.NoSuchNumber n)) ↔ ((n ≡ seq) × (has_unwithdrawn old.log seq ≡ false))
+
+    abbrev IsSpent : {A : Type 0} → Result A WithdrawRefusal → Type 0
+    IsSpent r =
+        (log : ℕ)
+        → (r ≡ Err (withdrawing.NumbersSpent log))
+        ↔ ((has_unwithdrawn old.log seq ≡ true) × (log ≡ length old.log) × (65535 ≤ length old.log))
+
+    -- It is refused where the member has no such object, and then where all numbers are spent.
+    pub withdraw_refused : {A : Type 0} (draw : ℕ → ℕ → ℕ) (r : Result A WithdrawRefusal) (e : WithdrawRefusal)
+        → r ≡ Err e → IsWithoutObject r → IsSpent r
+        → IsFaultOf (refusal (drawing draw) (world_of s) (Event.Withdraw m seq)) (withdraw_fault e)
+    withdraw_refused draw r withdrawing.NoMemory is_err none spent = tt
+    withdraw_refused draw r (withdrawing.NoSuchNumber n) is_err none spent =
+        subst (λ (o : Option Refusal). IsFaultOf o (fault.Refused 14))
+        (sym (by_object false ((none n).0 is_err).1 draw)) refl
+    withdraw_refused draw r (withdrawing.NumbersSpent log) is_err none spent =
+        subst (λ (o : Option Refusal). IsFaultOf o (fault.Refused 8))
+        (sym (by_object true ((spent log).0 is_err).0 draw ∙ spent_so ((spent log).0 is_err).2)) refl
+
+    -- One that is taken finds a number.
+    pub withdraw_room : {A : Type 0} (r : Result A WithdrawRefusal) (x : A) → r ≡ Ok x
+        → has_unwithdrawn old.log seq ≡ true → IsSpent r → length old.log < 65535
+    withdraw_room r x is_ok object spent = elim (cases_Bool (nat_le 65535 (length old.log))) [
+      | inl most ↦
+          absurd (let e : r ≡ Err (withdrawing.NumbersSpent (length old.log)) =
+          (spent (length old.log)).1 (object, refl, leb-true 65535 (length old.log) most) in
+          cc)
+      | inr less ↦ leb-false 65535 (length old.log) less
+    ]
+
+    -- What is withdrawn was published before.
+    pub withdraw_post : has_unwithdrawn old.log seq ≡ true → IsPost (next_seq old) (Withdraws seq)
+    withdraw_post object =
+        let places = (and_parts (nat_le 1 seq && nat_le seq (length old.log)) _ object).0 in
+        let both = and_parts (nat_le 1 seq) (nat_le seq (length old.log)) places in
+        let low : 1 ≤ seq = leb-true 1 seq both.0 in
+        let high : seq ≤ length old.log = leb-true seq (length old.log) both.1 in
+        (omega (arith, low), omega (arith, high))
+
+  -- ---- what is published
+
   pub seq_is : (seq : ℕ) → seq ≡ next_seq old → seq ≡ length (member (world_of s) m).log + 1
   seq_is seq e = let l = log_is in omega (arith, e, l)
 
-  module _ (b : Alone) (draw : ℕ → ℕ → ℕ) (n : ℕ) (n_is : n ≡ draw m old.machine.draws) (object : NamedContents)
-      (b_is : b ≡ alone_publishes s.keys object s.moment n old) where
+  module _ (b : Alone) (draw : ℕ → ℕ → ℕ) (n : ℕ) (n_is : n ≡ draw m old.machine.draws) (post : Post)
+      (b_is : b ≡ alone_publishes s.keys post s.moment n old) where
     -- What was added is the sync Interest of what the member knows now.
     pub sent_is : (sent reserved : List SentPacket) (vector : List ℕ) (seq : ℕ) (sync : List ℕ) → reserved ≡ s.sent
         → vector ≡ old.known → seq ≡ next_seq old → sync ≡ sync_of s.keys old.number b.known
@@ -84,13 +179,13 @@ module _ (s : GroupState) (is : IsTrueState s) (m : ℕ) (there : m < length s.m
 
     -- The member is what the group makes of it.
     published_member : in_group b
-        ≡ group.publishes (drawn (drawing draw) (world_of s) m) s.moment m object (member (world_of s) m)
+        ≡ group.publishes (drawn (drawing draw) (world_of s) m) s.moment m post (member (world_of s) m)
     published_member =
         ap in_group b_is
-        ∙ publishes_alike s.keys object s.moment n old
+        ∙ publishes_alike s.keys post s.moment n old
         (true_stores s.keys (logs_around s.members) old (truly s is m there old old_is)).in_order
-        ∙ (λ i. group.publishes (n_is i) s.moment (number_is s is m there old old_is i) object (in_group old))
-        ∙ ap (λ (x : Member). group.publishes (draw m x.machine.draws) s.moment m object x)
+        ∙ (λ i. group.publishes (n_is i) s.moment (number_is s is m there old old_is i) post (in_group old))
+        ∙ ap (λ (x : Member). group.publishes (draw m x.machine.draws) s.moment m post x)
         (sym (member_is s is m there old old_is))
 
     abbrev packet : SentPacket
@@ -101,10 +196,10 @@ module _ (s : GroupState) (is : IsTrueState s) (m : ℕ) (there : m < length s.m
       sent = s.sent ++ sent_packet m b.known (sync_of s.keys m b.known) ∷ [];
       steps = s.steps + 1;
     })
-        ≡ after_publish (drawing draw) (world_of s) m object
+        ≡ after_publish (drawing draw) (world_of s) m post
     published_world =
         let x : Member =
-        group.publishes (drawn (drawing draw) (world_of s) m) s.moment m object (member (world_of s) m) in
+        group.publishes (drawn (drawing draw) (world_of s) m) s.moment m post (member (world_of s) m) in
         let changed : in_groups (set s.members m b) ≡ set (in_groups s.members) m x =
         map-set in_group s.members m b ∙ ap (set (in_groups s.members) m) published_member in
         let known : b.known ≡ (get_or (set (in_groups s.members) m x) m no_member).known =
@@ -122,32 +217,26 @@ module _ (s : GroupState) (is : IsTrueState s) (m : ℕ) (there : m < length s.m
 
     pub world_sent : (sent : List SentPacket) → sent ≡ s.sent ++ sent_packet m b.known (sync_of s.keys m b.known) ∷ []
         → world_of (record s { members = set s.members m b; sent = sent; steps = s.steps + 1 })
-        ≡ after_publish (drawing draw) (world_of s) m object
+        ≡ after_publish (drawing draw) (world_of s) m post
     world_sent sent e =
         ap
         (λ (ps : List SentPacket). world_of (record s { members = set s.members m b; sent = ps; steps = s.steps + 1 }))
         e
         ∙ published_world
 
-    module _ (few : s.steps < 100000) (is_object : IsObject object) (room : length old.log < 65535) where
+    module _ (few : s.steps < 100000) (is_post : IsPost (next_seq old) post) (room : length old.log < 65535) where
       few_logged : length (get_or (logs_around s.members) m []) < 65535
       few_logged =
           let e : length (get_or (logs_around s.members) m []) ≡ length old.log = ap length log_at in
           omega (arith, e, room)
 
-      not_spent : nat_le 65535 (length (member (world_of s) m).log) ≡ false
-      not_spent = false_from_ne_true (nat_le 65535 (length (member (world_of s) m).log)) (λ h.
-          let a : 65535 ≤ length (member (world_of s) m).log = leb-true 65535 (length (member (world_of s) m).log) h in
-          let e = log_is in
-          omega (arith, a, e, room))
-
-      pub publish_taken : refusal (drawing draw) (world_of s) (Event.Publish m object) ≡ None
-      publish_taken = ap (λ (c : Bool). unless (not c) Refusal.NumbersSpent) not_spent
+      its_number : IsPost (length (get_or (logs_around s.members) m []) + 1) post
+      its_number = subst (λ (l : List Post). IsPost (length l + 1) post) (sym log_at) is_post
 
       abbrev later : Logs
-      later = set (logs_around s.members) m (old.log ++ object ∷ [])
+      later = set (logs_around s.members) m (old.log ++ post ∷ [])
 
-      logs_after : logs_around (set s.members m b) ≡ set (logs_around s.members) m (old.log ++ object ∷ [])
+      logs_after : logs_around (set s.members m b) ≡ set (logs_around s.members) m (old.log ++ post ∷ [])
       logs_after =
           ap logs_of (map-set in_group s.members m b)
           ∙ map-set (λ (x : Member). x.log) (in_groups s.members) m (in_group b)
@@ -156,33 +245,33 @@ module _ (s : GroupState) (is : IsTrueState s) (m : ℕ) (there : m < length s.m
       are_after : AreLogs s.keys later
       are_after =
           subst (AreLogs s.keys)
-          (ap (λ (l : List NamedContents). set (logs_around s.members) m (l ++ object ∷ [])) log_at)
-          (logs_grow s.keys (logs_around s.members) m object is.are (among_logs s is m there old old_is) is_object
+          (ap (λ (l : List Post). set (logs_around s.members) m (l ++ post ∷ [])) log_at)
+          (logs_grow s.keys (logs_around s.members) m post is.are (among_logs s is m there old old_is) its_number
           few_logged)
 
       as_many : length later ≡ length (logs_around s.members)
-      as_many = length-set (logs_around s.members) m (old.log ++ object ∷ [])
+      as_many = length-set (logs_around s.members) m (old.log ++ post ∷ [])
 
       grown : GrowInto (logs_around s.members) later
       grown =
           subst (GrowInto (logs_around s.members))
-          (ap (λ (l : List NamedContents). set (logs_around s.members) m (l ++ object ∷ [])) log_at)
-          (logs_have_grown (logs_around s.members) m object (among_logs s is m there old old_is))
+          (ap (λ (l : List Post). set (logs_around s.members) m (l ++ post ∷ [])) log_at)
+          (logs_have_grown (logs_around s.members) m post (among_logs s is m there old old_is))
 
       now_true : IsTrueMember s.keys later b
       now_true =
           subst (IsTrueMember s.keys later) (sym b_is)
-          (subst (λ (k : ℕ). IsTrueMember s.keys (set (logs_around s.members) k (old.log ++ object ∷ []))
-          (alone_publishes s.keys object s.moment n old)) (number_is s is m there old old_is)
-          (publishes_true s.keys object s.moment n (logs_around s.members) old (truly s is m there old old_is)))
+          (subst (λ (k : ℕ). IsTrueMember s.keys (set (logs_around s.members) k (old.log ++ post ∷ []))
+          (alone_publishes s.keys post s.moment n old)) (number_is s is m there old old_is)
+          (publishes_true s.keys post s.moment n (logs_around s.members) old (truly s is m there old old_is)))
 
       others_true : (j : ℕ) → j < length s.members → (j ≡ m → ⊥) → IsTrueMember s.keys later (alone_at s.members j)
       others_true j l other =
           let number : (alone_at s.members j).number ≡ j = is.numbers j l in
           let away : last_of later (alone_at s.members j).number
           ≡ last_of (logs_around s.members) (alone_at s.members j).number =
-          ap (λ (log : List NamedContents). length log)
-          (get_or-set_other (logs_around s.members) m (alone_at s.members j).number (old.log ++ object ∷ []) []
+          ap (λ (log : List Post). length log)
+          (get_or-set_other (logs_around s.members) m (alone_at s.members j).number (old.log ++ post ∷ []) []
           (λ e. other (sym number ∙ e))) in
           others_publish s.keys (logs_around s.members) later (alone_at s.members j) grown as_many away (is.members j l)
 
@@ -206,18 +295,18 @@ module _ (s : GroupState) (is : IsTrueState s) (m : ℕ) (there : m < length s.m
           | inl same ↦
               let now : last_of later p ≡ length old.log + 1 =
               ap (λ (k : ℕ). last_of later k) same
-              ∙ ap (λ (log : List NamedContents). length log)
-              (get_or-set_same (logs_around s.members) m (old.log ++ object ∷ []) []
+              ∙ ap (λ (log : List Post). length log)
+              (get_or-set_same (logs_around s.members) m (old.log ++ post ∷ []) []
               (among_logs s is m there old old_is))
-              ∙ length-append old.log (object ∷ []) in
+              ∙ length-append old.log (post ∷ []) in
               let before : last_of (logs_around s.members) p ≡ length old.log =
               ap (λ (k : ℕ). last_of (logs_around s.members) k) same
-              ∙ ap (λ (log : List NamedContents). length log) log_at in
+              ∙ ap (λ (log : List Post). length log) log_at in
               omega (arith, h, now, before)
           | inr other ↦
               let away : last_of later p ≡ last_of (logs_around s.members) p =
-              ap (λ (log : List NamedContents). length log)
-              (get_or-set_other (logs_around s.members) m p (old.log ++ object ∷ []) [] other) in
+              ap (λ (log : List Post). length log)
+              (get_or-set_other (logs_around s.members) m p (old.log ++ post ∷ []) [] other) in
               omega (arith, h, away)
         ]
 
@@ -250,7 +339,9 @@ module _ (s : GroupState) (is : IsTrueState s) (m : ℕ) (there : m < length s.m
               octets = refl;
             }))));
         within =
-            subst (IsWithinSteps (s.steps + 1)) (sym (world_sent sent e))
-            (within_more s is few (drawing draw) (λ t. omega arith) (Event.Publish m object) is_object.few);
+            subst (IsWithinSteps (s.steps + 1))
+            (event_is (drawing draw) (world_of s) m post ∙ sym (world_sent sent e))
+            (within_more s is few (drawing draw) (λ t. omega arith) (event_of m post)
+            (in_range m (next_seq old) post is_post));
         steps = omega (arith, few);
       }

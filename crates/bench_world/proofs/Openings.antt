@@ -4,7 +4,7 @@ use Rattle.std.proofs.Common.{refl, sym, ap, ◌∙◌, subst, arith}
 use Rattle.std.proofs.lemmas.List.{length-map, map-append, get_or-map}
 use Rattle.svs_sync.specs.Suppression.{periodic}
 use Rattle.sorted_lists.specs.Range.{numbers_from}
-use Rattle.repo_object.specs.Objects.{NamedContents}
+use Rattle.repo_object.specs.Objects.{Post}
 use Rattle.bench_net.specs.SentList.{SentPacket}
 use Rattle.group_model.specs.Publications.{Logs}
 use Rattle.group_model.specs.Member.{Member}
@@ -85,7 +85,7 @@ module _ (g : GroupKeys) (is : IsGroup g) (draw : ℕ → ℕ → ℕ) where
       ap logs_of (in_groups_begun (numbers_from 0 (length g.members.names)))
       ∙ no_logs (λ j. in_group (begun_one (length g.members.names) draw j)) (numbers_from 0 (length g.members.names))
       (λ x. refl)
-      ∙ ap (λ (k : ℕ). replicate k (let l : List NamedContents = [] in l)) (length_numbers 0 (length g.members.names))
+      ∙ ap (λ (k : ℕ). replicate k (let l : List Post = [] in l)) (length_numbers 0 (length g.members.names))
 
   pub opening_is : (ms : List Alone) (sent : List SentPacket) → ms ≡ begun_all (length g.members.names) draw → sent ≡ []
       → world_of (record {

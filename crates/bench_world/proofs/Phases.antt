@@ -20,7 +20,7 @@ use Rattle.fetch_work.specs.Attempts.{CanBeTried}
 use Rattle.fetch_work.specs.Phases.{AreFirst}
 use Rattle.group_model.specs.Publications.{Logs, all_parts}
 use Rattle.group_model.proofs.Tries.{take_short}
-use Rattle.group_model.proofs.Catalogues.{in_all_parts}
+use Rattle.group_model.proofs.Among.{in_all_parts}
 use Rattle.repo_member.specs.Groups.{GroupKeys}
 use Rattle.repo_member.specs.Alone.{Alone, Fetched, alone_plan}
 use Rattle.repo_member.specs.InGroup.{AreLogs, true_packet, that_came}

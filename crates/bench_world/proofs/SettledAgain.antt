@@ -16,7 +16,7 @@ use Rattle.group_model.specs.Sound.{IsSoundGroup, IsSoundMember}
 use Rattle.group_model.specs.Steps.{settled_vector, settled_member, comes_to, new_parts, reset_each, after_gathering}
 use Rattle.group_model.specs.Steps.{after_settle}
 use Rattle.group_model.specs.Publications.{all_parts}
-use Rattle.group_model.proofs.Catalogues.{in_all_parts}
+use Rattle.group_model.proofs.Among.{in_all_parts}
 use Rattle.group_model.proofs.Gains.{held_fresh}
 use Rattle.group_model.proofs.Lists.{from_filter, in_at, at_in}
 use Rattle.group_model.proofs.Members.{known_published}
@@ -144,7 +144,7 @@ module _ (w : World) (new : List Member) (group : IsSoundGroup w) (partly : AreP
           | inl zero_ ↦
               subst (λ (x : ℕ). someone_holds new (record { publisher = t.publisher; seq = t.seq; part = x }) ≡ true)
               zero_ someone_
-          | inr held ↦ elim (came_of stopped (member stopped j) (record_of t) held) [
+          | inr held ↦ elim (came_of stopped (member stopped j) (record_of t) held.with_record) [
             | inl was ↦ someone new (member stopped j) (record_of t) (in_at new j no_member there_new) was
             | inr holds ↦ holds
           ]

@@ -12,8 +12,8 @@ use Rattle.group_model.specs.Events.{SyncInterest, Event}
 use Rattle.group_model.specs.World.{Tally, Outside, no_member, no_sync, member}
 use Rattle.group_model.specs.Steps.{after_event}
 use Rattle.group_model.specs.Sound.{IsSoundGroup, IsSoundMember, IsTrueVector}
-use Rattle.group_model.specs.Limits.{IsInRange, IsMemberWithin, IsWithinSteps, HasSmallPackets}
-use Rattle.group_model.proofs.PublicLaws.{within_after, few_parts}
+use Rattle.group_model.specs.Limits.{IsInRange, IsMemberWithin, IsWithinSteps, HasSmallPackets, FitsIn64Bits}
+use Rattle.group_model.proofs.PublicLaws.{within_after, few_parts, tallies_fit}
 use Rattle.repo_member.specs.Groups.{GroupKeys}
 use Rattle.repo_member.specs.Alone.{Alone}
 use Rattle.repo_member.specs.InGroup.{in_group, AreLogs}
@@ -105,7 +105,7 @@ module _ (s : GroupState) (is : IsTrueState s) where
   few_logs = record {
     are = is.are;
     few =
-        let x : length (all_parts (logs_around s.members)) ≤ 20100000 =
+        let x : length (all_parts (logs_around s.members)) ≤ 2010100000 =
         few_parts s.steps (world_of s) is.steps is.within in
         omega (arith, x);
   }
@@ -160,6 +160,10 @@ module _ (s : GroupState) (is : IsTrueState s) where
   few_sent =
       let a : length (map sync_in s.sent) ≤ s.steps * 16 = is.within.sent in
       let b = length-map s.sent sync_in in let few = is.steps in omega (arith, a, b, few)
+
+  -- 64 bits hold what is counted.
+  pub tally_fits : FitsIn64Bits s.tally
+  tally_fits = tallies_fit s.steps s.tally is.steps is.within.tally
 
   -- ---- other worlds
 

@@ -1,18 +1,18 @@
 -- What all catalogues of a world come to.
-use Rattle.std.proofs.Common.{◌≡◌, inl, inr, ℕ, suc, ◌+◌, ◌-◌, ◌*◌, ◌≤◌, ◌<◌, Bool, true, false, cond, List, [], ◌∷◌}
+use Rattle.std.proofs.Common.{◌≡◌, ℕ, suc, ◌+◌, ◌-◌, ◌*◌, ◌≤◌, ◌<◌, Bool, true, false, cond, List, [], ◌∷◌}
 use Rattle.std.proofs.Common.{◌++◌, map, length, get_or, refl, sym, ap, ◌∙◌, subst, arith}
-use Rattle.std.specs.Prelude.{sum_by, filter}
+use Rattle.std.specs.Prelude.{sum_by, filter, unwrap_or}
 use Rattle.std.specs.List.{All, concat}
-use Rattle.std.proofs.lemmas.List.{ext_get_or, length-append, length-map, get_or-map, get_or_default, get_or_past}
+use Rattle.std.proofs.lemmas.List.{ext_get_or, length-append, length-map, get_or-map, get_or_default}
 use Rattle.std.proofs.lemmas.List.Elements.{All-head, All-tail}
-use Rattle.std.proofs.lemmas.Bool.{cases_lt}
 use Rattle.std.proofs.lemmas.List.Sums.{sum_by-le}
 use Rattle.sorted_lists.specs.Range.{numbers_from}
 use Rattle.sorted_lists.proofs.Sets.{In, from_map}
-use Rattle.repo_object.specs.Objects.{IsObject, IsContent}
+use Rattle.repo_object.specs.Objects.{IsContent, Post, IsPost, offered}
+use Rattle.repo_object.specs.Objects.Post.{Offers, Withdraws}
 use Rattle.repo_catalog.specs.declared.entry.Entry.{Entry}
-use Rattle.group_model.specs.Publications.{Logs, Publication, no_object, published, published_entry}
-use Rattle.group_model.specs.Member.{Member, holds_all, catalogued, catalogue}
+use Rattle.group_model.specs.Publications.{Publication, no_object, pair_in, published, published_entry}
+use Rattle.group_model.specs.Member.{Member, is_listed, catalogued, catalogue}
 use Rattle.group_model.specs.Replies.{CatalogueTotals}
 use Rattle.group_model.specs.World.{catalogue_at, member}
 use Rattle.group_model.specs.Steps.{all_totals, catalogue_totals}
@@ -25,6 +25,7 @@ use Rattle.repo_member.specs.Listed.{alone_catalogue}
 use Rattle.repo_member.proofs.PublicLaws.{catalogues_alike}
 use Rattle.bench_world.specs.Sums.{totals_in, HasFewTotals}
 use Rattle.bench_world.specs.Worlds.{GroupState, IsTrueState, nobody, alone_at, in_groups, logs_around, world_of}
+use Rattle.bench_world.proofs.Coming.{post_within}
 use Rattle.bench_world.proofs.States.{in_world, true_in}
 use Rattle.bench_world.proofs.Openings.{number_at}
 
@@ -54,20 +55,25 @@ few_filter p (x ∷ xs) = go (p x) (few_filter p xs) where
   go true h = omega (arith, h)
   go false h = omega (arith, h)
 
+-- The contents of what is published have few segments and octets.
+few_segments : (n : ℕ) (post : Post) → IsPost n post → length (unwrap_or (offered post) no_object).contents ≤ 20000
+few_segments n (Offers object) is = is.few
+few_segments n (Withdraws seq) is = omega arith
+
+few_octets : (n : ℕ) (post : Post) → IsPost n post
+    → length (concat (unwrap_or (offered post) no_object).contents) ≤ 160000000
+few_octets n (Offers object) is =
+    let few : length object.contents ≤ 20000 = is.few in
+    let sum : length (concat object.contents) ≤ length object.contents * 8000 =
+    concat_few object.contents is.contents in
+    omega (arith, few, sum)
+few_octets n (Withdraws seq) is = omega arith
+
 module _ (s : GroupState) (is : IsTrueState s) where
-  object_of : (q : Publication) → In q (published (logs_around s.members)) → IsObject q.object
-  object_of q i =
+  post_of : (q : Publication) → In q (published (logs_around s.members)) → IsPost q.seq q.post
+  post_of q i =
       let at : IsIn (logs_around s.members) q = in_published (logs_around s.members) q i in
-      let low : 1 ≤ q.seq = at.there.from_one in
-      let high : q.seq ≤ length (get_or (logs_around s.members) q.publisher []) = at.there.to_last in
-      let log : All IsObject (get_or (logs_around s.members) q.publisher []) =
-      log_of (logs_around s.members) is.are.objects q.publisher in
-      subst IsObject (sym at.object) (log (q.seq - 1) no_object (omega (arith, low, high))) where
-        log_of : (ls : Logs) → All (All IsObject) ls → (p : ℕ) → All IsObject (get_or ls p [])
-        log_of ls all p = elim (cases_lt p (length ls)) [
-          | inl inside ↦ all p [] inside
-          | inr past ↦ subst (All IsObject) (sym (get_or_past ls p [] past)) (λ k d l. absurd (omega (arith, l)))
-        ]
+      subst (IsPost q.seq) (sym at.post) (post_within s.keys (logs_around s.members) is.are (pair_in q) at.there)
 
   few_totals : (m : Member) → HasFewTotals (catalogue_totals (catalogue (logs_around s.members) m))
   few_totals m =
@@ -75,21 +81,17 @@ module _ (s : GroupState) (is : IsTrueState s) where
       let steps : length (published (logs_around s.members)) ≤ s.steps = is.within.published in
       let most : s.steps ≤ 100000 = is.steps in
       let kept : length (catalogued (logs_around s.members) m) ≤ length (published (logs_around s.members)) =
-      few_filter (holds_all m) (published (logs_around s.members)) in
+      few_filter (is_listed all m) (published (logs_around s.members)) in
       let same : length (catalogue (logs_around s.members) m) ≡ length (catalogued (logs_around s.members) m) =
       length-map (catalogued (logs_around s.members) m) published_entry in
       let segments : sum_by (λ e. e.segments) (catalogue (logs_around s.members) m)
-      ≤ length (catalogue (logs_around s.members) m) * 200 =
-      sum_few (λ e. e.segments) 200 (catalogued (logs_around s.members) m)
-      (λ q i. (object_of q (from_filter (holds_all m) (published (logs_around s.members)) q i).0).few) in
+      ≤ length (catalogue (logs_around s.members) m) * 20000 =
+      sum_few (λ e. e.segments) 20000 (catalogued (logs_around s.members) m)
+      (λ q i. few_segments q.seq q.post (post_of q (from_filter (is_listed all m) all q i).0)) in
       let octets : sum_by (λ e. e.octets) (catalogue (logs_around s.members) m)
-      ≤ length (catalogue (logs_around s.members) m) * 1600000 =
-      sum_few (λ e. e.octets) 1600000 (catalogued (logs_around s.members) m) (λ q i.
-      let o : IsObject q.object = object_of q (from_filter (holds_all m) (published (logs_around s.members)) q i).0 in
-      let few : length q.object.contents ≤ 200 = o.few in
-      let sum : length (concat q.object.contents) ≤ length q.object.contents * 8000 =
-      concat_few q.object.contents o.contents in
-      omega (arith, few, sum)) in
+      ≤ length (catalogue (logs_around s.members) m) * 160000000 =
+      sum_few (λ e. e.octets) 160000000 (catalogued (logs_around s.members) m)
+      (λ q i. few_octets q.seq q.post (post_of q (from_filter (is_listed all m) all q i).0)) in
       record {
         entries = omega (arith, steps, most, kept, same);
         segments = omega (arith, steps, most, kept, same, segments);

@@ -1,9 +1,9 @@
--- That what is claimed can be had, where segments' packets are told by their names and digests.
+-- That what is claimed can be had, where the packets of index packets and segments are told by their names and digests.
 use Rattle.std.specs.Prelude.{◌≡◌, ℕ, ◌<◌, ◌⊎◌, true, length, Some, None}
 use Rattle.repo_plan.specs.declared.part.Part.{Part}
 use Rattle.repo_plan.specs.Parts.{Pair, pair_of}
 use Rattle.repo_object.specs.Published.{Published, Clear}
-use Rattle.group_model.specs.Publications.{Logs, object_at}
+use Rattle.group_model.specs.Publications.{Logs, post_at}
 use Rattle.group_model.specs.Member.{member_holds, member_hides}
 use Rattle.group_model.specs.Events as group
 use Rattle.group_model.specs.World.{member, logs}
@@ -16,9 +16,9 @@ use Rattle.bench_world.specs.EventValues.{EventValue, Told, telling}
 
 -- A publication of a group, by its publisher and its number.
 abbrev pub published_at : GroupKeys → Logs → Pair → Published
-published_at g logs pair = record { publisher = publisher_at g pair.0; object = object_at logs pair }
+published_at g logs pair = record { publisher = publisher_at g pair.0; seq = pair.1; post = post_at logs pair }
 
--- Segments' packets that have one name and one digest are the same.
+-- Packets of index packets and segments that have one name and one digest are the same.
 abbrev pub AreAllClear : GroupKeys → Logs → Type 0
 AreAllClear g logs = Clear (published_at g logs)
 

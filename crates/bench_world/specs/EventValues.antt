@@ -42,6 +42,7 @@ use Rattle.bench_world.specs.Readings.{read_as, finds}
 
 pub data EventValue : Type 0 where
   Publish : (m : ℕ) (name : List Component) (size : ℕ) (content : List ℕ) → EventValue
+  Withdraw : (m s : ℕ) → EventValue
   Deliver : (k m : ℕ) → EventValue
   Sync : (k : ℕ) → EventValue
   Advance : (ms : ℕ) → EventValue
@@ -68,6 +69,7 @@ pub data EventValue : Type 0 where
 
 abbrev pub event_value : Event → EventValue
 event_value (is.Publish m name size content) = EventValue.Publish m name size content.items
+event_value (is.Withdraw m s) = EventValue.Withdraw m s
 event_value (is.Deliver k m) = EventValue.Deliver k m
 event_value (is.Sync k) = EventValue.Sync k
 event_value (is.Advance ms) = EventValue.Advance ms
@@ -99,6 +101,7 @@ part_at p s x = record { publisher = p; seq = s; part = x }
 abbrev pub group_event : GroupKeys → EventValue → group.Event
 group_event g (EventValue.Publish m name size content) =
     group.Event.Publish m (record { name = name; contents = pieces size content })
+group_event g (EventValue.Withdraw m s) = group.Event.Withdraw m s
 group_event g (EventValue.Deliver k m) = group.Event.Deliver k m
 group_event g (EventValue.Sync k) = group.Event.Sync k
 group_event g (EventValue.Advance ms) = group.Event.Advance ms
@@ -128,6 +131,7 @@ group_event g EventValue.Traffic = group.Event.Traffic
 -- Each form of a reply, with its values.
 pub data Told : Type 0 where
   Publish : (m seq segments sync : ℕ) → Told
+  Withdraw : (m seq withdrawn sync : ℕ) → Told
   DeliverSteady : (k m : ℕ) → Told
   DeliverSuppressed : (k m : ℕ) → Told
   Sync : (k : ℕ) (octets : List ℕ) → Told
@@ -168,6 +172,7 @@ pub data Told : Type 0 where
 
 abbrev pub told_value : Happened → Told
 told_value (was.Publish m seq segments sync) = Told.Publish m seq segments sync
+told_value (was.Withdraw m seq withdrawn sync) = Told.Withdraw m seq withdrawn sync
 told_value (was.DeliverSteady k m) = Told.DeliverSteady k m
 told_value (was.DeliverSuppressed k m) = Told.DeliverSuppressed k m
 told_value (was.Sync k octets) = Told.Sync k octets.items
@@ -286,6 +291,7 @@ block_told m seq sync (Whole p) = Told.BlockPublished m seq sync
 -- whether they pass, and their verdict is told.
 abbrev pub event_told : (g : GroupKeys) → World → (e : EventValue) → OutcomeOf (group_event g e) → Told
 event_told g w (EventValue.Publish m name size content) told = Told.Publish m told.seq told.segments told.sync
+event_told g w (EventValue.Withdraw m s) told = Told.Withdraw m told.seq s told.sync
 event_told g w (EventValue.Deliver k m) mode = delivered_told k m mode
 event_told g w (EventValue.Sync k) sync = Told.Sync k (sync_of g sync.sender sync.vector)
 event_told g w (EventValue.Advance ms) moment = Told.Advance moment

@@ -5,7 +5,7 @@ use Rattle.group_model.specs.Events.{SyncInterest}
 use Rattle.repo_member.specs.declared.refusals.HearRefusal.{HearRefusal}
 use Rattle.repo_member.specs.declared.refusals.HearRefusal.TheVariants.{Sync, OwnNumberAhead}
 
--- The sync Interest that a member of this number takes, which has published so many objects, or why it doesn't.
+-- The sync Interest that a member of this number takes, which has published so often, or why it doesn't.
 abbrev pub told_sync : (own number : ℕ) → Result (ℕ × List ℕ) SyncRefusal → Result SyncInterest HearRefusal
 told_sync own number (Err refusal) = Err (Sync refusal)
 told_sync own number (Ok told) =

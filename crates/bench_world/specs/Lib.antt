@@ -11,6 +11,7 @@ pub mod Readings
 pub mod EventValues
 pub mod Steps
 pub mod Timers
+pub mod Withdrawing
 pub mod Blocks
 pub mod Others
 pub mod Answering

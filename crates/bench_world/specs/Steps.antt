@@ -20,7 +20,8 @@ use Rattle.bench_world.specs.EventValues.{EventValue, Told}
 -- limits.
 abbrev pub IsReady : ℕ → EventValue → Type 0
 IsReady n (EventValue.Publish m name size content) =
-    (m < n) × IsTrue (is_object_name name) × (1 ≤ size) × (size ≤ 8000) × (length (pieces size content) ≤ 200)
+    (m < n) × IsTrue (is_object_name name) × (1 ≤ size) × (size ≤ 8000) × (length (pieces size content) ≤ 20000)
+IsReady n (EventValue.Withdraw m s) = (m < n) × (s < 65536)
 IsReady n (EventValue.Deliver k m) = m < n
 IsReady n (EventValue.Sync k) = Unit {0}
 IsReady n (EventValue.Advance ms) = ms ≤ 1000000000
@@ -34,7 +35,7 @@ IsReady n (EventValue.Answer m f q) = (m < n) × IsFetcher f × (q < n)
 IsReady n (EventValue.Fetch m workers tries loss) =
     (m < n) × (1 ≤ workers) × (workers ≤ 16) × (1 ≤ tries) × (tries ≤ 16)
 IsReady n (EventValue.Settle workers) = (1 ≤ workers) × (workers ≤ 16)
-IsReady n (EventValue.Dump m p s x) = (m < n) × (s < 65536) × (x < 256)
+IsReady n (EventValue.Dump m p s x) = (m < n) × (s < 65536) × (x < 65536)
 IsReady n (EventValue.Hear m octets) = m < n
 IsReady n (EventValue.Ask m octets) = m < n
 IsReady n (EventValue.Feed m f octets) = (m < n) × IsFetcher f
@@ -60,6 +61,7 @@ fault_of Refusal.FetcherBusy = fault.Refused 6
 fault_of Refusal.FetcherIdle = fault.Refused 7
 fault_of Refusal.Foreign = fault.Foreign
 fault_of Refusal.NumbersSpent = fault.Refused 8
+fault_of Refusal.NoSuchNumber = fault.Refused 14
 
 -- Memory was wanting, or the event is refused so.
 abbrev pub IsFaultOf : Option Refusal → StepFault → Type 0
@@ -89,6 +91,7 @@ HearNamesMember n hear.NoMemory = ⊥
 -- a number, or with its sums.
 abbrev pub NamesAll : ℕ → Told → Type 0
 NamesAll n (Told.Publish m seq segments sync) = m < n
+NamesAll n (Told.Withdraw m seq withdrawn sync) = m < n
 NamesAll n (Told.DeliverSteady k m) = m < n
 NamesAll n (Told.DeliverSuppressed k m) = m < n
 NamesAll n (Told.Sync k octets) = Unit {0}

@@ -1,5 +1,5 @@
 // Packets that come for what fetchers claim.
-ghost use Rattle.std.specs.Prelude.{◌≡◌, ◌⊎◌, ◌↔◌, ◌<◌, ◌^◌, Ok, Err, Some, None, IfSome, IfOk, IfErr, OnOk, OnErr};
+ghost use Rattle.std.specs.Prelude.{◌≡◌, ◌⊎◌, ◌↔◌, ◌<◌, Ok, Err, Some, None, IfOk, IfErr, OnOk, OnErr};
 ghost use Rattle.std.specs.Prelude.{List, length, unwrap_or, option_map, slice_set, []};
 ghost use Rattle.std.specs.Str.{bytes_eq};
 ghost use Rattle.repo_plan.specs.Calls.{IsFetcher};
@@ -141,7 +141,6 @@ fn take_served(
     requires want { want.now ≡ true_want g.now logs want.now.part }
     ensures kept { IfOk result (λ kept. answered g.now logs (Some want.now.part)
         (judged_packet g.now logs want.now.part (option_map (λ octets. octets.now) packet.entry)) ≡ Ok kept) }
-    ensures small { IfOk result (λ kept. IfSome kept (λ n. n < 2 ^ 63)) }
     ensures asker { OnOk result (asker.new ≡ accepts_claimed g.now logs f want.now.part
         (judged_packet g.now logs want.now.part (option_map (λ octets. octets.now) packet.entry)) asker.old) }
     ensures refused { IfErr result (λ fault. (fault ≡ StepFault.NoMemory)
@@ -180,7 +179,6 @@ fn ask_one(
     ensures kept { IfOk result (λ kept. answered g.now logs (Some want.now.part) (judged_packet g.now logs want.now.part
         (found (served want.now.interest (lender_of asker.old (option_map (λ a. a.now) lender.entry)).store)))
         ≡ Ok kept) }
-    ensures small { IfOk result (λ kept. IfSome kept (λ n. n < 2 ^ 63)) }
     ensures asker { OnOk result
         (asker.new ≡ accepts_claimed g.now logs f want.now.part (judged_packet g.now logs want.now.part
         (found (served want.now.interest (lender_of asker.old (option_map (λ a. a.now) lender.entry)).store)))
@@ -221,7 +219,6 @@ pub(crate) fn ask(
     requires other { q < length members.old.items }
     ensures kept { IfOk result (λ kept. answered g.now logs (claim_in members.old.items m f)
         (came_in g.now logs members.old.items q (claim_in members.old.items m f)) ≡ Ok kept) }
-    ensures small { IfOk result (λ kept. IfSome kept (λ n. n < 2 ^ 63)) }
     ensures members { OnOk result (members.new.items ≡ slice_set members.old.items m
         (after_claimed g.now logs f (claim_in members.old.items m f)
         (came_in g.now logs members.old.items q (claim_in members.old.items m f)) (alone_at members.old.items m))) }

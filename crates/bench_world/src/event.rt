@@ -17,6 +17,11 @@ pub enum Event {
         size: u32,
         content: Vec<u8>,
     },
+    /// A member withdraws the object that it published under the number `s`.
+    Withdraw {
+        m: u32,
+        s: u32,
+    },
     /// A member hears a sync Interest that was sent.
     Deliver {
         k: u32,
@@ -142,6 +147,13 @@ pub enum Happened {
         m: u32,
         seq: u64,
         segments: u64,
+        sync: u64,
+    },
+    /// The member's object of the number `withdrawn` is withdrawn under its number `seq`.
+    Withdraw {
+        m: u32,
+        seq: u64,
+        withdrawn: u64,
         sync: u64,
     },
     DeliverSteady {
@@ -320,7 +332,7 @@ pub enum Happened {
 #[derive(Clone, Copy, Debug, PartialEq, Eq)]
 pub enum StepFault {
     /// The number tells why: 5 no such packet was sent, 6 the fetcher claims a part, 7 it claims none, 8 the member's
-    /// numbers are spent.
+    /// numbers are spent, 14 it has no object of that number, or one that is withdrawn.
     Refused { number: u32 },
     /// Octets pass their checks, and nobody of the group made them.
     Foreign,

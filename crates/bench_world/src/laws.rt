@@ -6,8 +6,8 @@ ghost use Rattle.bench_world.specs.Answerable.{HoldersCanAnswer, PublishersCanAn
 ghost use Rattle.bench_world.specs.Runs.{GathersAgain, SettlesAgain};
 ghost use Rattle.bench_world.specs.Workers.{ComeToTheSame};
 
-/// Where segments' packets are told by their names and digests, an answer from a member that holds the claimed part is
-/// kept, and so is one from its publisher, unless that has hidden its publication.
+/// Where the packets of index packets and segments are told by their names and digests, an answer from a member that
+/// holds the claimed part is kept, and so is one from its publisher, unless that has hidden its publication.
 pub fn claimed_parts_can_be_answered()
     ensures holders { (s : GroupState) → IsTrueState s → HoldersCanAnswer s }
     ensures publishers { (s : GroupState) → IsTrueState s → PublishersCanAnswer s }

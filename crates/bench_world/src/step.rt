@@ -82,6 +82,7 @@ impl World {
                 size,
                 content,
             } => self.publish(*m, name, *size, content, draws),
+            Event::Withdraw { m, s } => self.withdraw(*m, *s, draws),
             Event::Deliver { k, m } => self.deliver(*k, *m, draws),
             Event::Sync { k } => self.sync(*k),
             Event::Advance { ms } => Ok(self.advance(*ms)),

@@ -1,8 +1,8 @@
 // What came of a phase, and how who asked for it takes it.
-ghost use Rattle.std.specs.Prelude.{◌≡◌, ◌≤◌, is_some, count_by, IfOk, OnOk, OnErr};
+ghost use Rattle.std.specs.Prelude.{◌≡◌, ◌≤◌, length, is_some, count_by, IfOk, OnOk, OnErr};
 ghost use Rattle.std.specs.List.{sum_by};
 ghost use Rattle.repo_member.specs.Alone.{IsOfGroup, alone_takes};
-ghost use Rattle.repo_member.specs.Outcomes.{IsOutcome, outcome_of, octets_in};
+ghost use Rattle.repo_member.specs.Outcomes.{IsOutcome, job_limit, outcome_of, octets_in};
 
 use fetch_work::digests;
 use repo_member::{Group, Kept, Member};
@@ -25,6 +25,7 @@ pub(crate) fn take_outcome<R: Threads + Sync>(
     requires workers { (1 ≤ workers) × (workers ≤ 16) }
     requires group { IsOfGroup g.now member.old }
     requires outcome { IsOutcome g.now member.old jobs.now parts.now attempts.now }
+    requires few { length jobs.now ≤ job_limit }
     ensures ok { OnOk result (member.new ≡ alone_takes (outcome_of jobs.now parts.now attempts.now) member.old) }
     ensures parts { IfOk result (λ kept. kept.parts ≡ count_by is_some parts.now) }
     ensures octets { IfOk result (λ kept. kept.octets ≡ sum_by octets_in parts.now) }

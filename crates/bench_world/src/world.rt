@@ -122,7 +122,7 @@ impl World {
         }
     }
 
-    /// How many objects a member has published.
+    /// How often a member has published, objects and withdrawals.
     pub fn published(&self, m: u32) -> u32
         requires there { m < length self.now.members }
         ensures { result ≡ length (member (world_of self.now) m).log }

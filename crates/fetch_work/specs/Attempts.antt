@@ -36,6 +36,7 @@ no_job =
         part = record { publisher = 0; seq = 0; part = 0 };
         name = [];
         digest = None;
+        lists = None;
         interest = [];
       };
       base = 0;

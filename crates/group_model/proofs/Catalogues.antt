@@ -1,31 +1,34 @@
 -- What catalogues list.
-use Rattle.std.proofs.Common.{◌≡◌, inl, inr, ℕ, suc, zero, ◌+◌, ◌-◌, ◌≤◌, ◌<◌, Bool, true, false, cond, List, [], ◌∷◌}
-use Rattle.std.proofs.Common.{map, length, get_or, refl, sym, ap, ◌∙◌, subst, arith, Some}
-use Rattle.std.proofs.lemmas.Bool.{true≢false, false_from_ne_true}
+use Rattle.std.proofs.Common.{◌&&◌, ◌≡◌, inl, inr, ℕ, ◌+◌, ◌≤◌, Bool, true, false, not, cond, List, [], ◌∷◌, map, refl}
+use Rattle.std.proofs.Common.{sym, ap, ◌∙◌, subst, arith, Some}
+use Rattle.std.proofs.lemmas.Bool.{true≢false, false_from_ne_true, and_parts, and_from, not-true, not_from_false}
+use Rattle.std.proofs.lemmas.Bool.{eqb-true, eq-eqb}
 use Rattle.std.proofs.lemmas.Cmp.{on_total}
-use Rattle.std.specs.Prelude.{filter, find, is_some}
+use Rattle.std.specs.List.{list_any}
+use Rattle.std.specs.Prelude.{filter, find, is_some, ◌==◌}
 use Rattle.std.specs.Ordering.{nat_cmp}
 use Rattle.std.specs.declared.cmp.Ordering.{Ordering}
 use Rattle.sorted_lists.specs.SortedList.{Rises, IsBefore}
-use Rattle.repo_plan.specs.declared.part.Part.{Part}
-use Rattle.repo_plan.specs.Parts.{Pair, pair_cmp, part_of, pair_of}
-use Rattle.sorted_lists.proofs.Orders.{nat_less, nat_itself, first_less, then_second}
+use Rattle.repo_plan.specs.Parts.{Pair, pair_cmp, part_of}
 use Rattle.repo_plan.proofs.Orders.{exact_parts, exact_pairs}
-use Rattle.sorted_lists.proofs.Sets.{In, in_flat_map, contains_in, in_contains, in_append, append_left, append_right}
-use Rattle.sorted_lists.proofs.Sets.{in_filter, in_map, from_map, before_each, rises_append, rises_filter, eq_same}
-use Rattle.sorted_lists.proofs.Sets.{eq_itself}
+use Rattle.sorted_lists.proofs.Orders.{nat_less, nat_itself, first_less, then_second}
+use Rattle.sorted_lists.proofs.Sets.{In, contains_in, in_contains, in_append, in_filter, in_map, from_map, before_each}
+use Rattle.sorted_lists.proofs.Sets.{rises_append, rises_filter, eq_same, eq_itself}
 use Rattle.repo_catalog.specs.declared.entry.Entry.{Entry}
 use Rattle.repo_catalog.specs.Entries.{publication_of, is_of, lists}
-use Rattle.repo_object.specs.Objects.{NamedContents}
-use Rattle.group_model.specs.Publications.{Logs, Publication, pair_in, numbered_publications, published_from, published}
-use Rattle.group_model.specs.Publications.{parts_in, all_parts, published_entry, count, object_at, no_object}
-use Rattle.group_model.specs.Member.{Member, member_holds, holds_all, catalogued, catalogue}
+use Rattle.repo_object.specs.Objects.{Post, withdraws_number}
+use Rattle.group_model.specs.Publications.{is_object, withdraws, Logs, Publication, pair_in, numbered_publications}
+use Rattle.group_model.specs.Publications.{published_from, published, parts_in, all_parts, published_entry, post_at}
+use Rattle.group_model.specs.Publications.{is_unwithdrawn}
+use Rattle.group_model.specs.Member.{Member, member_holds, holds_all, catalogue, is_listed, knows_withdrawn}
 use Rattle.group_model.specs.World.{member, logs, catalogue_at}
-use Rattle.group_model.specs.Sound.{IsSoundMember, IsPublished, IsPublishedPart, IsHiddenSoundly}
-use Rattle.group_model.specs.Catalogues.{IsWhollyHeld, ListsThose, ListsInOrder}
-use Rattle.group_model.proofs.Lists.{from_filter, each_all, all_in}
+use Rattle.group_model.specs.Sound.{IsSoundMember, IsPublished, IsHiddenSoundly}
+use Rattle.group_model.specs.Catalogues.{HoldsNoWithdrawal, BelongsInCatalogue, ListsThose, ListsInOrder}
+use Rattle.group_model.specs.Catalogues.{JoinListsThose, JoinListsInOrder}
+use Rattle.group_model.proofs.Lists.{and_one, same_any, any_in, none_in, from_filter, each_all, all_in}
 use Rattle.group_model.proofs.Parts.{from_numbered, IsIn, in_published, IsPartOf, from_parts_in, in_parts_in}
 use Rattle.group_model.proofs.Parts.{from_all_parts}
+use Rattle.group_model.proofs.Among.{at_pair, is_published, in_all_parts}
 use Rattle.group_model.specs.Reached.{InSoundGroups}
 use Rattle.group_model.specs.Laws.{PartsAreThose}
 
@@ -41,10 +44,10 @@ of_published p (l ∷ ls) q i = elim (in_append (numbered_publications p 1 l) (p
   | inr b ↦ let r : p + 1 ≤ q.publisher = of_published (p + 1) ls q b in omega (arith, r)
 ]
 
-rises_numbered : (p s : ℕ) (os : List NamedContents) → Rises publication_cmp (numbered_publications p s os)
+rises_numbered : (p s : ℕ) (os : List Post) → Rises publication_cmp (numbered_publications p s os)
 rises_numbered p s [] = tt
 rises_numbered p s (o ∷ os) = (
-  before_each (on_total pair_in exact_pairs.total) (record { publisher = p; seq = s; object = o })
+  before_each (on_total pair_in exact_pairs.total) (record { publisher = p; seq = s; post = o })
       (numbered_publications p (s + 1) os) (λ q i.
       let r = from_numbered p (s + 1) os q i in
       let later : s + 1 ≤ q.seq = r.1 in
@@ -73,48 +76,20 @@ rises_entries : (ps : List Publication) → Rises publication_cmp ps
 rises_entries [] r = tt
 rises_entries (p ∷ ps) r = (before_entries p ps r.0, rises_entries ps r.1)
 
+-- so do the entries of those of them that pass a test
+entries_rise : (ls : Logs) (f : Publication → Bool)
+    → Rises pair_cmp (map publication_of (map published_entry (filter f (published ls))))
+entries_rise ls f =
+    rises_entries (filter f (published ls))
+    (rises_filter (on_total pair_in exact_pairs.total) f (published ls) (rises_published 0 ls))
+
 pub lists_in_order : ListsInOrder
-lists_in_order ls m =
-    rises_entries (filter (holds_all m) (published ls))
-    (rises_filter (on_total pair_in exact_pairs.total) (holds_all m) (published ls) (rises_published 0 ls))
+lists_in_order ls m = entries_rise ls (is_listed (published ls) m)
 
--- ---- what is listed
+pub join_lists_in_order : JoinListsInOrder
+join_lists_in_order ls = entries_rise ls (is_unwithdrawn (published ls))
 
-is_numbered : (p s : ℕ) (os : List NamedContents) (k : ℕ) → k < length os
-    → In (record { publisher = p; seq = s + k; object = get_or os k no_object }) (numbered_publications p s os)
-is_numbered p s [] k l = absurd (omega arith)
-is_numbered p s (o ∷ os) zero l =
-    let e : s + 0 ≡ s = omega arith in
-    inl (ap (λ (n : ℕ). let q : Publication = record { publisher = p; seq = n; object = o } in q) e)
-is_numbered p s (o ∷ os) (suc k) l =
-    let e : s + 1 + k ≡ s + suc k = omega arith in
-    inr (subst (λ (n : ℕ).
-    In (record { publisher = p; seq = n; object = get_or os k no_object }) (numbered_publications p (s + 1) os)) e
-    (is_numbered p (s + 1) os k (omega arith)))
-
-is_published_from : (p : ℕ) (ls : Logs) (i k : ℕ) → k < length (get_or ls i [])
-    → In (record { publisher = p + i; seq = 1 + k; object = get_or (get_or ls i []) k no_object }) (published_from p ls)
-is_published_from p [] i k l = absurd (omega arith)
-is_published_from p (x ∷ xs) zero k l =
-    let e : p ≡ p + 0 = omega arith in
-    subst
-    (λ (n : ℕ). In (record { publisher = n; seq = 1 + k; object = get_or x k no_object }) (published_from p (x ∷ xs))) e
-    (append_left (numbered_publications p 1 x) (published_from (p + 1) xs) _ (is_numbered p 1 x k l))
-is_published_from p (x ∷ xs) (suc i) k l =
-    let e : p + 1 + i ≡ p + suc i = omega arith in
-    subst (λ (n : ℕ). In (record { publisher = n; seq = 1 + k; object = get_or (get_or xs i []) k no_object })
-    (published_from p (x ∷ xs))) e
-    (append_right (numbered_publications p 1 x) (published_from (p + 1) xs) _ (is_published_from (p + 1) xs i k l))
-
-abbrev pub at_pair : Logs → Pair → Publication
-at_pair ls pair = record { publisher = pair.0; seq = pair.1; object = object_at ls pair }
-
-pub is_published : (ls : Logs) (pair : Pair) → IsPublished ls pair → In (at_pair ls pair) (published ls)
-is_published ls pair h =
-    let p : 0 + pair.0 ≡ pair.0 = omega arith in
-    let s : 1 + (pair.1 - 1) ≡ pair.1 = omega (arith, h.from_one) in
-    subst (λ (q : Pair). In (record { publisher = q.0; seq = q.1; object = object_at ls pair }) (published ls))
-    (λ i. (p i, s i)) (is_published_from 0 ls pair.0 (pair.1 - 1) (omega (arith, h.from_one, h.to_last)))
+-- ---- looking an entry up
 
 found : {A : Type 0} (p : A → Bool) (xs : List A) (x : A) → In x xs → p x ≡ true → is_some (find p xs) ≡ true
 found p [] x i h = absurd i
@@ -139,34 +114,107 @@ finds {A} p (y ∷ ys) h = go (p y) refl h (finds p ys) where
   go false e h k =
       let r : (x : A) × IsFoundIn p ys x = k h in (r.0, record { among = inr r.1.among; passes = r.1.passes })
 
-wholly : (ls : Logs) (m : Member) (pair : Pair) → lists pair (catalogue ls m) ≡ true → IsWhollyHeld ls m pair
-wholly ls m pair h =
-    let e : (x : Entry) × IsFoundIn (is_of pair) (catalogue ls m) x = finds (is_of pair) (catalogue ls m) h in
-    let q : (q : Publication) × (In q (catalogued ls m)) × (e.0 ≡ published_entry q) =
-    from_map published_entry (catalogued ls m) e.0 e.1.among in
-    let f : In q.0 (published ls) × (holds_all m q.0 ≡ true) = from_filter (holds_all m) (published ls) q.0 q.1 in
-    let there : IsIn ls q.0 = in_published ls q.0 f.0 in
+-- a publication is the one under its pair
+is_at : (ls : Logs) (q : Publication) → IsIn ls q → q ≡ at_pair ls (pair_in q)
+is_at ls q there = λ i. record { publisher = q.publisher; seq = q.seq; post = there.post i }
+
+-- what is listed of the publications that pass a test
+record IsEntered (ls : Logs) (f : Publication → Bool) (pair : Pair) : Type 0 where
+  there : IsPublished ls pair
+  passes : f (at_pair ls pair) ≡ true
+
+entered : (ls : Logs) (f : Publication → Bool) (pair : Pair)
+    → lists pair (map published_entry (filter f (published ls))) ≡ true → IsEntered ls f pair
+entered ls f pair h =
+    let es : List Entry = map published_entry (filter f (published ls)) in
+    let e : (x : Entry) × IsFoundIn (is_of pair) es x = finds (is_of pair) es h in
+    let q : (q : Publication) × (In q (filter f (published ls))) × (e.0 ≡ published_entry q) =
+    from_map published_entry (filter f (published ls)) e.0 e.1.among in
+    let g : In q.0 (published ls) × (f q.0 ≡ true) = from_filter f (published ls) q.0 q.1 in
+    let there : IsIn ls q.0 = in_published ls q.0 g.0 in
     let same : pair ≡ pair_in q.0 = eq_same exact_pairs pair (pair_in q.0) (ap (is_of pair) (sym q.2) ∙ e.1.passes) in
     record {
-      published = subst (IsPublished ls) (sym same) there.there;
-      held =
-          subst (λ (r : Pair). (x : ℕ) → x ≤ count ls r → member_holds m (part_of r x) ≡ true) (sym same)
-          (λ x l. each_all (member_holds m) (parts_in q.0) f.1 (part_of (pair_in q.0) x)
-          (in_parts_in q.0 (part_of (pair_in q.0) x) (record {
-            pair = refl;
-            counted = subst (λ (o : NamedContents). x ≤ length o.contents) (sym there.object) l;
-          })));
+      there = subst (IsPublished ls) (sym same) there.there;
+      passes = ap (λ (r : Pair). f (at_pair ls r)) same ∙ sym (ap f (is_at ls q.0 there)) ∙ g.1;
     }
 
-listed : (ls : Logs) (m : Member) (pair : Pair) → IsWhollyHeld ls m pair → lists pair (catalogue ls m) ≡ true
+enters : (ls : Logs) (f : Publication → Bool) (pair : Pair) → IsEntered ls f pair
+    → lists pair (map published_entry (filter f (published ls))) ≡ true
+enters ls f pair h =
+    found (is_of pair) (map published_entry (filter f (published ls))) (published_entry (at_pair ls pair))
+    (in_map published_entry (filter f (published ls)) (at_pair ls pair)
+    (in_filter f (published ls) (at_pair ls pair) (is_published ls pair h.there) h.passes))
+    (eq_itself exact_pairs pair)
+
+-- ---- withdrawals
+
+-- no withdrawal of the publication passes a test
+abbrev NoneWithdraws : Logs → (Publication → Bool) → Pair → Type 0
+NoneWithdraws ls f pair = (u : ℕ) → IsPublished ls (pair.0, u)
+    → withdraws_number (post_at ls (pair.0, u)) pair.1 ≡ true → f (at_pair ls (pair.0, u)) ≡ false
+
+none_withdraws : (ls : Logs) (f : Publication → Bool) (pair : Pair)
+    → list_any (λ q. withdraws pair q && f q) (published ls) ≡ false → NoneWithdraws ls f pair
+none_withdraws ls f pair none u there is =
+    let q : Publication = at_pair ls (pair.0, u) in
+    false_from_ne_true (f q) (λ passes.
+    true≢false
+    (sym (any_in (λ r. withdraws pair r && f r) (published ls) q (is_published ls (pair.0, u) there)
+    (and_from (withdraws pair q) _ (and_from (pair.0 == pair.0) _ (eq-eqb pair.0 pair.0 refl) is) passes))
+    ∙ none))
+
+withdraws_none : (ls : Logs) (f : Publication → Bool) (pair : Pair) → NoneWithdraws ls f pair
+    → list_any (λ q. withdraws pair q && f q) (published ls) ≡ false
+withdraws_none ls f pair h = none_in (λ q. withdraws pair q && f q) (published ls) (λ q i.
+    let there : IsIn ls q = in_published ls q i in
+    false_from_ne_true (withdraws pair q && f q) (λ both.
+    let c : (withdraws pair q ≡ true) × (f q ≡ true) = and_parts (withdraws pair q) _ both in
+    let d : ((q.publisher == pair.0) ≡ true) × (withdraws_number q.post pair.1 ≡ true) =
+    and_parts (q.publisher == pair.0) _ c.0 in
+    let same : q.publisher ≡ pair.0 = eqb-true q.publisher pair.0 d.0 in
+    true≢false
+    (sym (ap (λ (n : ℕ). f (at_pair ls (n, q.seq))) (sym same) ∙ sym (ap f (is_at ls q there)) ∙ c.1)
+    ∙ h q.seq (subst (λ (n : ℕ). IsPublished ls (n, q.seq)) same there.there)
+    (ap (λ (n : ℕ). withdraws_number (post_at ls (n, q.seq)) pair.1) (sym same)
+    ∙ ap (λ (o : Post). withdraws_number o pair.1) (sym there.post)
+    ∙ d.1))))
+
+pub none_known : (ls : Logs) (m : Member) (pair : Pair) → knows_withdrawn (published ls) m pair ≡ false
+    → HoldsNoWithdrawal ls m pair
+none_known ls m pair none = none_withdraws ls (λ q. member_holds m (part_of (pair_in q) 0)) pair none
+
+-- ---- what is listed
+
+wholly : (ls : Logs) (m : Member) (pair : Pair) → lists pair (catalogue ls m) ≡ true → BelongsInCatalogue ls m pair
+wholly ls m pair h =
+    let q : Publication = at_pair ls pair in
+    let e : IsEntered ls (is_listed (published ls) m) pair = entered ls (is_listed (published ls) m) pair h in
+    let a : (is_object q ≡ true) × ((holds_all m q && not (knows_withdrawn (published ls) m pair)) ≡ true) =
+    and_parts (is_object q) _ e.passes in
+    let b : (holds_all m q ≡ true) × (not (knows_withdrawn (published ls) m pair) ≡ true) =
+    and_parts (holds_all m q) _ a.1 in
+    record {
+      published = e.there;
+      object = a.0;
+      held = λ x l. each_all (member_holds m) (parts_in q) b.0 (part_of pair x)
+          (in_parts_in q (part_of pair x) (record { pair = refl; counted = l }));
+      not_withdrawn = none_known ls m pair (not-true (knows_withdrawn (published ls) m pair) b.1);
+    }
+
+listed : (ls : Logs) (m : Member) (pair : Pair) → BelongsInCatalogue ls m pair → lists pair (catalogue ls m) ≡ true
 listed ls m pair h =
     let q : Publication = at_pair ls pair in
     let whole : holds_all m q ≡ true = all_in (member_holds m) (parts_in q) (λ t i.
     let p : IsPartOf t q = from_parts_in q t i in
     subst (λ (r : Pair). member_holds m (part_of r t.part) ≡ true) (sym p.pair) (h.held t.part p.counted)) in
-    found (is_of pair) (catalogue ls m) (published_entry q)
-    (in_map published_entry (catalogued ls m) q
-    (in_filter (holds_all m) (published ls) q (is_published ls pair h.published) whole)) (eq_itself exact_pairs pair)
+    let unknown : knows_withdrawn (published ls) m pair ≡ false =
+    withdraws_none ls (λ r. member_holds m (part_of (pair_in r) 0)) pair h.not_withdrawn in
+    enters ls (is_listed (published ls) m) pair (record {
+      there = h.published;
+      passes =
+          and_from (is_object q) _ h.object
+          (and_from (holds_all m q) _ whole (not_from_false (knows_withdrawn (published ls) m pair) unknown));
+    })
 
 pub lists_those : InSoundGroups ListsThose
 lists_those out w sound j pair l =
@@ -180,12 +228,42 @@ lists_those out w sound j pair l =
           true≢false (sym held ∙ r.none_held 0));
     }
 
--- ---- the parts that there are
+-- ---- the join of all publications
 
-pub in_all_parts : (ls : Logs) (t : Part) → IsPublishedPart ls t → In t (all_parts ls)
-in_all_parts ls t h =
-    in_flat_map parts_in (published ls) (at_pair ls (pair_of t)) t (is_published ls (pair_of t) h.there)
-    (in_parts_in (at_pair ls (pair_of t)) t (record { pair = refl; counted = h.counted }))
+-- a withdrawal that passes the test which all pass
+any_withdraws : (ls : Logs) (pair : Pair)
+    → list_any (λ q. withdraws pair q && true) (published ls) ≡ list_any (withdraws pair) (published ls)
+any_withdraws ls pair =
+    same_any (λ q. withdraws pair q && true) (withdraws pair) (published ls) (λ q i. and_one (withdraws pair q))
+
+pub join_lists_those : JoinListsThose
+join_lists_those ls pair =
+    let q : Publication = at_pair ls pair in (
+      λ h.
+          let e : IsEntered ls (is_unwithdrawn (published ls)) pair =
+          entered ls (is_unwithdrawn (published ls)) pair h in
+          let a : (is_object q ≡ true) × (not (list_any (withdraws pair) (published ls)) ≡ true) =
+          and_parts (is_object q) _ e.passes in
+          record {
+            published = e.there;
+            object = a.0;
+            not_withdrawn = λ u there. false_from_ne_true (withdraws_number (post_at ls (pair.0, u)) pair.1) (λ is.
+                true≢false
+                (none_withdraws ls (λ r. true) pair
+                (any_withdraws ls pair ∙ not-true (list_any (withdraws pair) (published ls)) a.1) u there is));
+          },
+      λ b. enters ls (is_unwithdrawn (published ls)) pair (record {
+        there = b.published;
+        passes =
+            and_from (is_object q) _ b.object
+            (not_from_false (list_any (withdraws pair) (published ls))
+            (sym (any_withdraws ls pair)
+            ∙ withdraws_none ls (λ r. true) pair
+            (λ u there is. absurd (true≢false (sym is ∙ b.not_withdrawn u there)))));
+      }),
+    )
+
+-- ---- the parts that there are
 
 pub parts_are_those : PartsAreThose
 parts_are_those ls t = (

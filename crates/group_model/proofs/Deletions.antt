@@ -1,20 +1,21 @@
 -- What a member keeps as it hides publications.
-use Rattle.std.proofs.Common.{◌≡◌, inl, inr, ℕ, ◌≤◌, true, false, not, List, [], ◌∷◌, length, get_or, refl, sym, ap}
-use Rattle.std.proofs.Common.{◌∙◌, subst, arith, Some, None}
+use Rattle.std.proofs.Common.{◌≡◌, inl, inr, ℕ, ◌≤◌, true, false, not, List, [], ◌∷◌, get_or, refl, sym, ap, ◌∙◌, subst}
+use Rattle.std.proofs.Common.{arith, Some, None}
 use Rattle.std.proofs.lemmas.Bool.{true≢false, and_parts, and_from, or_cases, or_right, or_left, or_from, cases_Bool}
 use Rattle.std.proofs.lemmas.Bool.{false_from_ne_true, not-true, not_from_false}
 use Rattle.std.specs.Ordering.{eq_by_cmp}
 use Rattle.repo_plan.specs.declared.part.Part.{Part}
-use Rattle.repo_plan.specs.Parts.{Pair, pair_cmp, pair_of, part_of, record_of}
+use Rattle.repo_plan.specs.Parts.{Pair, pair_cmp, pair_of, part_of, record_of, parent, parts_behind}
 use Rattle.repo_plan.specs.Plan.{is_in}
 use Rattle.repo_plan.proofs.Orders.{exact_parts, exact_pairs}
 use Rattle.sorted_lists.proofs.Sets.{In, eq_same, eq_itself, contains-insert_key, contains-filter, rises_insert}
 use Rattle.sorted_lists.proofs.Sets.{rises_filter}
-use Rattle.repo_object.specs.Objects.{NamedContents}
-use Rattle.group_model.specs.Publications.{Logs, Publication, pair_in, parts_in, published, count}
+use Rattle.repo_object.specs.Objects.{Post, shape_in}
+use Rattle.group_model.specs.Publications.{Logs, Publication, pair_in, parts_in, published, count, shape_at, is_object}
+use Rattle.group_model.specs.Publications.{object_in}
 use Rattle.group_model.specs.Commands.{is_equal_name}
-use Rattle.group_model.specs.Member.{Member, member_holds, member_hides, holds_all, catalogued, catalogued_under}
-use Rattle.group_model.specs.Member.{member_hides_too, member_hides_all}
+use Rattle.group_model.specs.Member.{Member, member_holds, member_hides, holds_all, catalogued, is_listed}
+use Rattle.group_model.specs.Member.{catalogued_under, member_hides_too, member_hides_all}
 use Rattle.group_model.specs.Sound.{IsSoundMember, IsKnown, IsHeldSoundly, IsHiddenSoundly}
 use Rattle.group_model.proofs.Lists.{from_filter, each_all}
 use Rattle.group_model.proofs.Parts.{IsIn, in_published, IsPartOf, in_parts_in}
@@ -64,7 +65,12 @@ module _ (ls : Logs) (j : ℕ) (pair : Pair) (m : Member) (known : IsKnown m.kno
     held = λ t h.
         let o : (member_holds m t ≡ true) × (is_in pair t ≡ false) = still t h in
         let r : IsHeldSoundly ls m.known m.held t = s.held t o.0 in
-        record { known = r.known; counted = r.counted; with_record = stays (record_of t) r.with_record o.1 };
+        record {
+          known = r.known;
+          counted = r.counted;
+          with_record = stays (record_of t) r.with_record o.1;
+          with_parent = stays (parent (shape_at ls (pair_of t)) t) r.with_parent o.1;
+        };
     hidden = λ q h. elim
         (or_cases (eq_by_cmp pair_cmp q pair) (member_hides m q)
         (sym (contains-insert_key exact_pairs pair m.hidden q) ∙ h)) [
@@ -103,7 +109,13 @@ module _ (ls : Logs) (j : ℕ) (pair : Pair) (m : Member) (known : IsKnown m.kno
         wanted_from ls (member_hides_too pair m) t (record {
           known = w.known;
           counted = w.counted;
-          with_record = elim w.with_record [ inl z ↦ inl z | inr r ↦ inr (stays (record_of t) r other) ];
+          with_record = elim w.with_record [
+            | inl z ↦ inl z
+            | inr r ↦ inr (record {
+              with_record = stays (record_of t) r.with_record other;
+              with_parent = stays (parent (shape_at ls (pair_of t)) t) r.with_parent other;
+            })
+          ];
           not_held =
               false_from_ne_true (member_holds (member_hides_too pair m) t)
               (λ yes. true≢false (sym (still t yes).0 ∙ w.not_held));
@@ -139,12 +151,14 @@ known_hides (p ∷ ps) m = known_hides ps (member_hides_too (pair_in p) m)
 pub sound_deletes : (ls : Logs) (j : ℕ) (name : List (ℕ × List ℕ)) (m : Member) → IsSoundMember ls j m
     → IsSoundMember ls j (member_hides_all (catalogued_under ls m name) m)
 sound_deletes ls j name m s = sound_hides_all ls j (catalogued_under ls m name) m (λ p i.
-    let f : In p (catalogued ls m) × (is_equal_name p.object.name name ≡ true) =
-    from_filter (λ q. is_equal_name q.object.name name) (catalogued ls m) p i in
-    let g : In p (published ls) × (holds_all m p ≡ true) = from_filter (holds_all m) (published ls) p f.0 in
+    let f : In p (catalogued ls m) × (is_equal_name (object_in p).name name ≡ true) =
+    from_filter (λ q. is_equal_name (object_in q).name name) (catalogued ls m) p i in
+    let g : In p (published ls) × (is_listed (published ls) m p ≡ true) =
+    from_filter (is_listed (published ls) m) (published ls) p f.0 in
     let there : IsIn ls p = in_published ls p g.0 in
+    let all_held : holds_all m p ≡ true = (and_parts (holds_all m p) _ (and_parts (is_object p) _ g.1).1).0 in
     let held : (t : Part) → IsPartOf t p → member_holds m t ≡ true =
-    λ t h. each_all (member_holds m) (parts_in p) g.1 t (in_parts_in p t h) in
+    λ t h. each_all (member_holds m) (parts_in p) all_held t (in_parts_in p t h) in
     let first : IsHeldSoundly ls m.known m.held (part_of (pair_in p) 0) =
     s.held (part_of (pair_in p) 0) (held (part_of (pair_in p) 0) (record { pair = refl; counted = omega arith })) in (
       first.known,
@@ -154,7 +168,7 @@ sound_deletes ls j name m s = sound_hides_all ls j (catalogued_under ls m name) 
           (sym (held t (record {
             pair = same;
             counted =
-                subst (λ (o : NamedContents). t.part ≤ length o.contents) (sym there.object)
+                subst (λ (o : Post). t.part ≤ parts_behind (shape_in o)) (sym there.post)
                 (subst (λ (q : Pair). t.part ≤ count ls q) same w.counted);
           }))
           ∙ w.not_held),

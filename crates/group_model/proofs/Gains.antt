@@ -8,21 +8,23 @@ use Rattle.std.specs.Prelude.{◌==◌}
 use Rattle.std.specs.Ordering.{eq_by_cmp}
 use Rattle.repo_plan.specs.declared.part.Part.{Part}
 use Rattle.sorted_lists.specs.SortedList.{contains, keys, value_of, with_value, Rises}
-use Rattle.repo_plan.specs.Parts.{Pair, pair_cmp, part_cmp, pair_of, part_of, record_of, parts_of}
+use Rattle.repo_plan.specs.Parts.{Pair, pair_cmp, part_cmp, pair_of, part_of, record_of, parts_of, parts_behind, parent}
+use Rattle.repo_plan.specs.declared.shape.Shape.{Shape}
 use Rattle.repo_plan.specs.Plan.{is_wanted, is_claimed}
 use Rattle.repo_plan.proofs.Orders.{exact_parts}
 use Rattle.sorted_lists.proofs.Sets.{In, contains_in, in_contains, rises_with_value, value_of-with_value}
 use Rattle.repo_plan.proofs.Known.{from_parts_of, in_parts_of}
 use Rattle.repo_plan.proofs.Changes.{unclaimed_at}
-use Rattle.repo_object.specs.Objects.{NamedContents}
-use Rattle.group_model.specs.Publications.{Logs, last_of, count}
+use Rattle.repo_object.specs.Objects.{Post, contents_of, shape_in}
+use Rattle.group_model.specs.Publications.{Logs, last_of, count, shape_at}
 use Rattle.group_model.specs.Member.{Member, member_holds, member_hides, plan_of, gains, tries_of, with_tries}
 use Rattle.group_model.specs.Member.{with_each_tried}
 use Rattle.group_model.specs.Changes.{publishes, takes}
 use Rattle.group_model.specs.Sound.{IsSoundMember, IsPublished, IsKnown, IsHeldSoundly, IsHiddenSoundly}
 use Rattle.group_model.proofs.Lists.{contains-insert_keys, rises_insert_keys}
 use Rattle.group_model.proofs.Plans.{IsWanted, wanted_parts}
-use Rattle.group_model.proofs.Members.{known_published, known_more, Keeps, wanted_kept, at_set, Grows}
+use Rattle.group_model.proofs.Members.{known_published, known_more, Keeps, wanted_kept, at_set, Grows, counts_grown}
+use Rattle.group_model.proofs.Parents.{record_lists_itself, parent_within}
 
 -- ---- any gain
 
@@ -36,6 +38,8 @@ pub record Gain (ls : Logs) (old new : Member) : Type 0 where
   pub counted : (t : Part) → member_holds new t ≡ true → member_holds old t ≡ false → t.part ≤ count ls (pair_of t)
   pub with_record : (t : Part) → member_holds new t ≡ true → member_holds old t ≡ false
       → member_holds new (record_of t) ≡ true
+  pub with_parent : (t : Part) → member_holds new t ≡ true → member_holds old t ≡ false
+      → member_holds new (parent (shape_at ls (pair_of t)) t) ≡ true
   pub not_hidden : (t : Part) → member_holds new t ≡ true → member_holds old t ≡ false
       → member_hides old (pair_of t) ≡ false
 
@@ -51,9 +55,14 @@ module _ (ls : Logs) (j : ℕ) (old new : Member) (g : Gain ls old new) (s : IsS
           known = known_more old.known new.known (pair_of t) g.knows r.known;
           counted = r.counted;
           with_record = g.held (record_of t) r.with_record;
+          with_parent = g.held (parent (shape_at ls (pair_of t)) t) r.with_parent;
         }
-    | inr fresh ↦
-        record { known = g.known t h fresh; counted = g.counted t h fresh; with_record = g.with_record t h fresh }
+    | inr fresh ↦ record {
+      known = g.known t h fresh;
+      counted = g.counted t h fresh;
+      with_record = g.with_record t h fresh;
+      with_parent = g.with_parent t h fresh;
+    }
   ]
 
   pub hidden_after : (pair : Pair) → member_hides new pair ≡ true → IsHiddenSoundly new pair
@@ -89,6 +98,7 @@ same_gain ls old new other k h x g = record {
   known = λ t y o. subst (λ (v : List ℕ). IsKnown v (pair_of t)) (sym k) (g.known t (back t y) o);
   counted = λ t y o. g.counted t (back t y) o;
   with_record = λ t y o. on (record_of t) ∙ g.with_record t (back t y) o;
+  with_parent = λ t y o. on (parent (shape_at ls (pair_of t)) t) ∙ g.with_parent t (back t y) o;
   not_hidden = λ t y o. g.not_hidden t (back t y) o;
 } where
   on : (t : Part) → member_holds other t ≡ member_holds new t
@@ -129,7 +139,12 @@ wanted_gain ls ts m wanted = record {
   counted = λ t h o. (was t h o).counted;
   with_record = λ t h o. elim (was t h o).with_record [
     | inl e ↦ subst (λ (n : ℕ). member_holds (gains ts m) (part_of (pair_of t) n) ≡ true) e h
-    | inr r ↦ held_too ts m (record_of t) r
+    | inr r ↦ held_too ts m (record_of t) r.with_record
+  ];
+  with_parent = λ t h o. elim (was t h o).with_record [
+    | inl e ↦
+        ap (member_holds (gains ts m)) (record_lists_itself (shape_at ls (pair_of t)) t e) ∙ h
+    | inr r ↦ held_too ts m (parent (shape_at ls (pair_of t)) t) r.with_parent
   ];
   not_hidden = λ t h o. (was t h o).not_hidden;
 } where
@@ -254,11 +269,11 @@ sound_gains ls j ts tried m wanted free rises above s =
 
 -- ---- a publication
 
--- the member's own list has one more object
-pub record Publishes (old new : Logs) (j : ℕ) (o : NamedContents) : Type 0 where
+-- the member's own list has one more publication
+pub record Publishes (old new : Logs) (j : ℕ) (o : Post) : Type 0 where
   pub grows : Grows old new
   pub one_more : last_of new j ≡ last_of old j + 1
-  pub counts : count new (j, last_of old j + 1) ≡ length o.contents
+  pub shape : shape_at new (j, last_of old j + 1) ≡ shape_in o
 
 pub at_set_number : (v : List ℕ) (j n p : ℕ) → get_or v j 0 ≤ n → get_or v p 0 ≤ get_or (set v j n) p 0
 at_set_number [] j n p h = omega arith
@@ -274,20 +289,21 @@ at_set_bound (x ∷ xs) zero n (suc p) b h k = h
 at_set_bound (x ∷ xs) (suc j) n zero b h k = h
 at_set_bound (x ∷ xs) (suc j) n (suc p) b h k = at_set_bound xs j n p b h (λ e. k (ap suc e))
 
-pub sound_publishes : (draw moment : ℕ) (ls more : Logs) (j : ℕ) (o : NamedContents) (m : Member) → j < length ls
+pub sound_publishes : (draw moment : ℕ) (ls more : Logs) (j : ℕ) (o : Post) (m : Member) → j < length ls
     → length m.log ≡ last_of ls j → Publishes ls more j o → IsSoundMember ls j m
     → IsSoundMember more j (publishes draw moment j o m)
 sound_publishes draw moment ls more j o m within log g s =
     let seq : ℕ = length m.log + 1 in
     let n : Member = publishes draw moment j o m in
-    let size : ℕ = length o.contents in
+    let size : ℕ = parts_behind (shape_in o) in
     let ts : List Part = parts_of (j, seq) size in
     let is_seq : seq ≡ last_of ls j + 1 = omega (arith, log) in
     let own : get_or m.known j 0 ≡ last_of ls j = s.own in
     let at : get_or n.known j 0 ≡ seq = get_or-set_same m.known j seq 0 (omega (arith, s.width)) in
     let knows_more : (p : ℕ) → get_or m.known p 0 ≤ get_or n.known p 0 =
     λ p. at_set_number m.known j seq p (omega (arith, own, log)) in
-    let counts : count more (j, seq) ≡ size = ap (λ (k : ℕ). count more (j, k)) is_seq ∙ g.counts in
+    let shape : shape_at more (j, seq) ≡ shape_in o = ap (λ (k : ℕ). shape_at more (j, k)) is_seq ∙ g.shape in
+    let counts : count more (j, seq) ≡ size = ap parts_behind shape in
     let new_held : (u : Part) → pair_of u ≡ (j, seq) → u.part ≤ size → member_holds n u ≡ true =
     λ u p l. held_new ts m u (subst (λ (q : Pair). In u (parts_of q size)) p (in_parts_of size u l)) in
     let either : (u : Part) → member_holds n u ≡ true
@@ -323,13 +339,21 @@ sound_publishes draw moment ls more j o m within log g s =
           counted =
               subst (λ (q : Pair). u.part ≤ count more q) (sym p.0) (subst (λ (k : ℕ). u.part ≤ k) (sym counts) p.1);
           with_record = new_held (record_of u) p.0 (omega arith);
+          with_parent =
+              ap (λ (s : Shape). member_holds n (parent s u)) (ap (shape_at more) p.0 ∙ shape)
+              ∙ new_held (parent (shape_in o) u) p.0 (parent_within (length (contents_of o)) u.part p.1);
         }
         | inr b ↦ let r : IsHeldSoundly ls m.known m.held u = s.held u b in record {
           known = known_more m.known n.known (pair_of u) knows_more r.known;
           counted =
               subst (λ (k : ℕ). u.part ≤ k)
-              (sym (g.grows.counts (pair_of u) (known_published ls m.known (pair_of u) s.known r.known))) r.counted;
+              (sym (counts_grown ls more g.grows (pair_of u) (known_published ls m.known (pair_of u) s.known r.known)))
+              r.counted;
           with_record = held_too ts m (record_of u) r.with_record;
+          with_parent =
+              ap (λ (x : Shape). member_holds n (parent x u))
+              (g.grows.shapes (pair_of u) (known_published ls m.known (pair_of u) s.known r.known))
+              ∙ held_too ts m (parent (shape_at ls (pair_of u)) u) r.with_parent;
         }
       ];
       hidden = λ pair h. let r : IsHiddenSoundly m pair = s.hidden pair h in record {
@@ -352,7 +376,8 @@ sound_publishes draw moment ls more j o m within log g s =
               | inl h ↦ inl h
               | inr f ↦
                   inr (λ x le.
-                  held_too ts m (part_of (j, k) x) (f x (subst (λ (c : ℕ). x ≤ c) (g.grows.counts (j, k) there) le)))
+                  held_too ts m (part_of (j, k) x)
+                  (f x (subst (λ (c : ℕ). x ≤ c) (counts_grown ls more g.grows (j, k) there) le)))
             ]
       ];
       claimed = λ f u e.
@@ -362,6 +387,6 @@ sound_publishes draw moment ls more j o m within log g s =
           false_from_ne_true (member_holds n u)
           (λ yes. elim (either u yes) [ inl p ↦ apart u p.0 w.known | inr b ↦ true≢false (sym b ∙ w.not_held) ]) in
           wanted_kept ls more m n u ks
-          (g.grows.counts (pair_of u) (known_published ls m.known (pair_of u) s.known w.known)) c free;
+          (g.grows.shapes (pair_of u) (known_published ls m.known (pair_of u) s.known w.known)) c free;
       apart = s.apart;
     }

@@ -1,13 +1,14 @@
 -- A member that gathers as long as someone holds what it wants has what a settle makes of it.
-use Rattle.std.proofs.Common.{◌≡◌, inl, inr, ℕ, ◌≤◌, ◌<◌, true, false, ◌||◌, List, length, get_or, refl, sym, ap, ◌∙◌}
-use Rattle.std.proofs.Common.{subst, arith}
-use Rattle.std.proofs.lemmas.Bool.{true≢false, or_cases, or_left, or_right, cases_Bool}
+use Rattle.std.proofs.Common.{◌≡◌, ◌≢◌, ◌⊎◌, inl, inr, ℕ, ◌≤◌, ◌<◌, true, false, ◌||◌, List, length, get_or, refl, sym}
+use Rattle.std.proofs.Common.{ap, ◌∙◌, subst, arith}
+use Rattle.std.proofs.lemmas.Bool.{true≢false, or_cases, or_left, or_right, cases_Bool, cases_eq}
 use Rattle.repo_plan.specs.declared.part.Part.{Part}
 use Rattle.sorted_lists.specs.SortedList.{contains}
-use Rattle.repo_plan.specs.Parts.{Pair, part_cmp, pair_of, record_of}
+use Rattle.repo_plan.specs.Parts.{Pair, part_cmp, pair_of, part_of, record_of, parent}
+use Rattle.repo_object.specs.Objects.{contents_of}
 use Rattle.repo_plan.proofs.Orders.{exact_parts}
 use Rattle.sorted_lists.proofs.Sets.{In, in_filter, contains_in, in_contains}
-use Rattle.group_model.specs.Publications.{all_parts}
+use Rattle.group_model.specs.Publications.{all_parts, shape_at, post_at}
 use Rattle.group_model.specs.Member.{Member, member_holds, member_hides, insert_keys}
 use Rattle.group_model.specs.World.{World, member, logs, someone_holds}
 use Rattle.group_model.specs.Steps.{settled_vector, settled_member, comes_to, new_parts}
@@ -18,8 +19,9 @@ use Rattle.group_model.proofs.Lists.{from_filter, in_at, contains-insert_keys, r
 use Rattle.group_model.proofs.Parts.{from_all_parts}
 use Rattle.group_model.proofs.Plans.{IsWanted, wanted_from}
 use Rattle.group_model.proofs.Members.{known_published}
-use Rattle.group_model.proofs.Settles.{ComesTo, comes, comes_from, someone}
-use Rattle.group_model.proofs.Catalogues.{in_all_parts}
+use Rattle.group_model.proofs.Settles.{ComesTo, comes, comes_from, someone, someone_lists}
+use Rattle.group_model.proofs.Parents.{parent_within, parent_of_parent}
+use Rattle.group_model.proofs.Among.{in_all_parts}
 use Rattle.group_model.proofs.SortedSets.{same_members}
 
 module _ (w : World) (j : ℕ) (new : Member) (within : j < length w.members) (group : IsSoundGroup w)
@@ -61,6 +63,35 @@ module _ (w : World) (j : ℕ) (new : Member) (within : j < length w.members) (g
         }) c.record_too)
   ]
 
+  has_parent : (t : Part) → In t (all_parts (logs w)) → ComesTo w m t
+      → member_holds new (parent (shape_at (logs w) (pair_of t)) t) ≡ true
+  has_parent t i c = go (cases_eq (parent (shape_at (logs w) (pair_of t)) t).part 0) where
+    listed : Part
+    listed = parent (shape_at (logs w) (pair_of t)) t
+
+    go : (listed.part ≡ 0) ⊎ (listed.part ≢ 0) → member_holds new listed ≡ true
+    go (inl e) = ap (λ (n : ℕ). member_holds new (part_of (pair_of t) n)) e ∙ has_record t i c
+    go (inr e) = elim (cases_Bool (member_holds new listed)) [
+      | inl on ↦ on
+      | inr off ↦
+          absurd (nobody_holds listed (record {
+            known = knows_it t i c;
+            counted =
+                parent_within (length (contents_of (post_at (logs w) (pair_of t)))) t.part
+                (from_all_parts (logs w) t i).counted;
+            with_record = inr (record {
+              with_record = has_record t i c;
+              with_parent =
+                  ap (λ (n : ℕ). member_holds new (part_of (pair_of t) n))
+                  (parent_of_parent (length (contents_of (post_at (logs w) (pair_of t)))) t.part
+                  (from_all_parts (logs w) t i).counted)
+                  ∙ has_record t i c;
+            });
+            not_held = off;
+            not_hidden = not_hidden t c;
+          }) (someone_lists w group t c.someones))
+    ]
+
   has_it : (t : Part) → In t (all_parts (logs w)) → ComesTo w m t → member_holds new t ≡ true
   has_it t i c = elim (cases_Bool (member_holds new t)) [
     | inl on ↦ on
@@ -68,7 +99,7 @@ module _ (w : World) (j : ℕ) (new : Member) (within : j < length w.members) (g
         absurd (nobody_holds t (record {
           known = knows_it t i c;
           counted = (from_all_parts (logs w) t i).counted;
-          with_record = inr (has_record t i c);
+          with_record = inr (record { with_record = has_record t i c; with_parent = has_parent t i c });
           not_held = off;
           not_hidden = not_hidden t c;
         }) c.someones)

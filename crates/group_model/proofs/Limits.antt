@@ -1,31 +1,24 @@
 -- How far a group's counts can go.
-use Rattle.std.proofs.Common.{◌≡◌, ℕ, suc, zero, ◌+◌, ◌-◌, ◌*◌, ◌≤◌, Bool, true, false, cond, not, List, [], ◌∷◌, ◌++◌}
-use Rattle.std.proofs.Common.{map, length, get_or, set, replicate, refl, sym, ap, ◌∙◌, subst, arith, Option, Some, None}
-use Rattle.std.proofs.Common.{Result, Ok, Err}
+use Rattle.std.proofs.Common.{◌≡◌, ℕ, suc, zero, ◌+◌, ◌-◌, ◌*◌, ◌≤◌, Bool, true, false, cond, List, [], ◌∷◌, ◌++◌, map}
+use Rattle.std.proofs.Common.{length, get_or, set, refl, sym, ap, subst, arith, Option, Some, None, Result, Ok, Err}
 use Rattle.std.proofs.lemmas.Nat.{mul-le}
 use Rattle.std.proofs.lemmas.List.{length-map, length-append, length_push}
 use Rattle.std.proofs.lemmas.List.Sums.{sum_by-le}
-use Rattle.std.proofs.lemmas.List.Concat.{length-flat_map}
-use Rattle.std.proofs.lemmas.Cmp.{nat_cmp_total}
 use Rattle.std.specs.Prelude.{find, sum_by}
-use Rattle.std.specs.Ordering.{nat_cmp, eq_by_cmp}
+use Rattle.std.specs.Ordering.{nat_cmp}
 use Rattle.repo_plan.specs.declared.part.Part.{Part}
-use Rattle.sorted_lists.specs.SortedList.{value_of, with_value, Rises}
-use Rattle.sorted_lists.specs.Range.{numbers_from}
+use Rattle.sorted_lists.specs.SortedList.{value_of, Rises}
 use Rattle.repo_plan.specs.Parts.{part_cmp}
-use Rattle.sorted_lists.proofs.Orders.{Exact, nat_same, nat_itself}
-use Rattle.sorted_lists.proofs.Sets.{In, value_of-with_value}
+use Rattle.sorted_lists.specs.Range.{numbers_from}
 use Rattle.repo_plan.proofs.Known.{unclaimed_rises}
 use Rattle.svs_sync.specs.declared.fired.Fired.{Fired}
 use Rattle.svs_sync.specs.declared.fired.Fired.TheVariants.{Early, Quiet, Send}
 use Rattle.svs_sync.specs.KeptVector.{Keeper, steady_kept, hears_kept}
-use Rattle.svs_sync.specs.Suppression.{periodic}
 use Rattle.svs_vector.specs.Vectors.{covers}
-use Rattle.repo_object.specs.Objects.{NamedContents}
-use Rattle.group_model.specs.Publications.{Logs, Publication, no_object, numbered_publications, published_from}
-use Rattle.group_model.specs.Publications.{published, pair_in, parts_in, all_parts}
-use Rattle.repo_process.specs.Processes.{Process, BlockState, indexes, has_index, has_block, with_block, with_it}
-use Rattle.repo_process.specs.Processes.{is_whole, block_in, starting, closed, object_of}
+use Rattle.repo_object.specs.Objects.{Post, contents_of}
+use Rattle.repo_object.specs.Objects.Post.{Offers, Withdraws}
+use Rattle.group_model.specs.Publications.{Logs, Publication, no_post, published, pair_in}
+use Rattle.repo_process.specs.Processes.{Process, BlockState, indexes, starting, closed, object_of}
 use Rattle.repo_process.specs.Processes.BlockState.{Unknown, Already, Waiting, Whole}
 use Rattle.repo_command.specs.declared.command.Command.{Command}
 use Rattle.repo_command.specs.declared.command.Command.TheVariants.{Insert, Check, Delete}
@@ -35,164 +28,53 @@ use Rattle.group_model.specs.Changes.{member_with_process, member_starts}
 use Rattle.group_model.specs.Events.{SyncInterest, Came, Event}
 use Rattle.group_model.specs.Events.Came.{Nothing, Its, Another}
 use Rattle.group_model.specs.World.{Tally, Issued, World, Outside, no_member, member, with_member, logs, logs_of}
-use Rattle.group_model.specs.World.{sent_at, opening_world}
+use Rattle.group_model.specs.World.{sent_at}
 use Rattle.group_model.specs.Steps.{drawn, claim_at, to_claim, open_at, timer_at, tells_too_much, came_from, came_as}
-use Rattle.group_model.specs.Steps.{comes_to, new_parts, settled_member, after_gathering, syncs_of, planned_parts}
-use Rattle.group_model.specs.Steps.{fetched_parts, attempts_for, attempts_made, fetches, can_start, block_at}
-use Rattle.group_model.specs.Steps.{with_process_at, after_event, after_events, after_publish, after_deliver}
-use Rattle.group_model.specs.Steps.{after_hear, after_fire, after_reset, after_claiming, after_part, after_came}
-use Rattle.group_model.specs.Steps.{after_settle, after_fetch, after_command, after_order, after_block}
-use Rattle.group_model.specs.Limits.{IsShortInsertion, IsInRange, IsMemberWithin, IsTallyWithin, IsWithinSteps}
-use Rattle.group_model.specs.Limits.{HasSmallPackets, BeginsWithin, StaysWithin, GatheringStaysWithin, MoreIsWithin}
-use Rattle.group_model.specs.Limits.{RunsStayWithin, ReachedRunsStayWithin, PartsStayFew}
-use Rattle.group_model.proofs.Lists.{in_at}
-use Rattle.group_model.proofs.Parts.{in_published}
+use Rattle.group_model.specs.Steps.{new_parts, settled_member, after_gathering, syncs_of, planned_parts, fetched_parts}
+use Rattle.group_model.specs.Steps.{attempts_for, attempts_made, fetches, can_start, block_at, with_process_at}
+use Rattle.group_model.specs.Steps.{after_event, after_events, after_publish, after_deliver, after_hear, after_fire}
+use Rattle.group_model.specs.Steps.{after_reset, after_claiming, after_part, after_came, after_settle, after_fetch}
+use Rattle.group_model.specs.Steps.{after_command, after_order, after_block}
+use Rattle.group_model.proofs.PublishedCounts.{HasFew, one_published, few_published, few_new}
+use Rattle.group_model.proofs.MemberLimits.{HasFewBlocks, few_in, mem_change, mem_beside, mem_machine, mem_process}
+use Rattle.group_model.proofs.MemberLimits.{short_process, mem_more, each_set}
+use Rattle.group_model.specs.Limits.{TalliesFit, IsShortInsertion, IsInRange, IsMemberWithin, IsTallyWithin}
+use Rattle.group_model.specs.Limits.{IsWithinSteps, HasSmallPackets, StaysWithin, GatheringStaysWithin, MoreIsWithin}
+use Rattle.group_model.specs.Limits.{RunsStayWithin}
 use Rattle.group_model.proofs.Settles.{settles, settle_each, logs_settled, logs_gathered}
 use Rattle.group_model.proofs.Worlds.{same_logs, sound_after}
-use Rattle.group_model.proofs.Runs.{sound_opening, length_numbers}
+use Rattle.group_model.proofs.Runs.{length_numbers}
 use Rattle.group_model.proofs.Lasting.{lasts}
 use Rattle.group_model.proofs.Tries.{filter_short, take_short, rises_take, each_tried_at, few_attempts}
 
-exact_numbers : Exact nat_cmp
-exact_numbers = record { total = nat_cmp_total; same = nat_same; itself = nat_itself }
-
--- ---- publications and parts
-
-length_numbered : (p s : ℕ) (os : List NamedContents) → length (numbered_publications p s os) ≡ length os
-length_numbered p s [] = refl
-length_numbered p s (o ∷ os) = ap suc (length_numbered p (s + 1) os)
-
-length_published : (p : ℕ) (l : List NamedContents) (ls : Logs)
-    → length (published_from p (l ∷ ls)) ≡ length l + length (published_from (p + 1) ls)
-length_published p l ls =
-    length-append (numbered_publications p 1 l) (published_from (p + 1) ls)
-    ∙ ap (λ (n : ℕ). n + length (published_from (p + 1) ls)) (length_numbered p 1 l)
-
--- a member has one object more
-one_published : (p : ℕ) (ms : List Member) (j : ℕ) (m : Member) (o : NamedContents)
-    → m.log ≡ (get_or ms j no_member).log ++ o ∷ []
-    → length (published_from p (logs_of (set ms j m))) ≤ length (published_from p (logs_of ms)) + 1
-one_published p [] j m o e = omega arith
-one_published p (x ∷ xs) zero m o e =
-    let a : length (published_from p (m.log ∷ logs_of xs))
-    ≡ length m.log + length (published_from (p + 1) (logs_of xs)) =
-    length_published p m.log (logs_of xs) in
-    let b : length (published_from p (x.log ∷ logs_of xs))
-    ≡ length x.log + length (published_from (p + 1) (logs_of xs)) =
-    length_published p x.log (logs_of xs) in
-    let c : length m.log ≡ length x.log + 1 = ap length e ∙ length_push x.log o in
-    omega (arith, a, b, c)
-one_published p (x ∷ xs) (suc j) m o e =
-    let a : length (published_from p (x.log ∷ logs_of (set xs j m)))
-    ≡ length x.log + length (published_from (p + 1) (logs_of (set xs j m))) =
-    length_published p x.log (logs_of (set xs j m)) in
-    let b : length (published_from p (x.log ∷ logs_of xs))
-    ≡ length x.log + length (published_from (p + 1) (logs_of xs)) =
-    length_published p x.log (logs_of xs) in
-    let h : length (published_from (p + 1) (logs_of (set xs j m))) ≤ length (published_from (p + 1) (logs_of xs)) + 1 =
-    one_published (p + 1) xs j m o e in
-    omega (arith, a, b, h)
-
-abbrev HasFew : NamedContents → Type 0
-HasFew o = length o.contents ≤ 200
-
-few_pushed : (os : List NamedContents) (o : NamedContents) → HasFew o → ((k : ℕ) → HasFew (get_or os k no_object))
-    → (k : ℕ) → HasFew (get_or (os ++ o ∷ []) k no_object)
-few_pushed [] o h each zero = h
-few_pushed [] o h each (suc k) = omega arith
-few_pushed (x ∷ xs) o h each zero = each zero
-few_pushed (x ∷ xs) o h each (suc k) = few_pushed xs o h (λ i. each (suc i)) k
-
-few_published : (ms : List Member) (j : ℕ) (m : Member) (o : NamedContents)
-    → m.log ≡ (get_or ms j no_member).log ++ o ∷ [] → HasFew o
-    → ((p k : ℕ) → HasFew (get_or (get_or (logs_of ms) p []) k no_object)) → (p k : ℕ)
-    → HasFew (get_or (get_or (logs_of (set ms j m)) p []) k no_object)
-few_published [] j m o e h each p k = each p k
-few_published (x ∷ xs) zero m o e h each zero k =
-    subst (λ (l : List NamedContents). HasFew (get_or l k no_object)) (sym e) (few_pushed x.log o h (each zero) k)
-few_published (x ∷ xs) zero m o e h each (suc p) k = each (suc p) k
-few_published (x ∷ xs) (suc j) m o e h each zero k = each zero k
-few_published (x ∷ xs) (suc j) m o e h each (suc p) k = few_published xs j m o e h (λ q. each (suc q)) p k
-
--- ---- a member
-
--- a change that uses at most one draw, tries no part more than 16 times, and keeps insertions short
-mem_change : (old new : ℕ) (m n : Member) → n.machine.draws ≤ m.machine.draws + (new - old)
-    → ((t : Part) → tries_of n.attempts t ≤ tries_of m.attempts t + (new - old) * 16)
-    → ((i : ℕ) (p : Process) → value_of nat_cmp n.processes i ≡ Some p → length (indexes p) ≤ 200) → old ≤ new
-    → IsMemberWithin old m → IsMemberWithin new n
-mem_change old new m n d a b l h = record {
-  draws = let x : m.machine.draws ≤ old + 1 = h.draws in omega (arith, d, x, l);
-  tried = λ t.
-      let x : tries_of m.attempts t ≤ old * 16 = h.tried t in
-      let y : tries_of n.attempts t ≤ tries_of m.attempts t + (new - old) * 16 = a t in omega (arith, x, y, l);
-  blocks = b;
-}
-
--- a change of neither machine, attempts nor processes
-mem_beside : (old new : ℕ) (m n : Member) → n.machine ≡ m.machine → n.attempts ≡ m.attempts → n.processes ≡ m.processes
-    → old ≤ new → IsMemberWithin old m → IsMemberWithin new n
-mem_beside old new m n k a p l h = mem_change old new m n
-    (let e : n.machine.draws ≡ m.machine.draws = ap (λ (x : Keeper). x.draws) k in omega (arith, e))
-    (λ t.
-    let e : tries_of n.attempts t ≡ tries_of m.attempts t = ap (λ (x : List (Part × ℕ)). tries_of x t) a in
-    omega (arith, e))
-    (λ i q e. h.blocks i q (sym (ap (λ (x : List (ℕ × Process)). value_of nat_cmp x i) p) ∙ e)) l h
-
--- a change of the machine, by at most one draw
-mem_machine : (s : ℕ) (m n : Member) → n.machine.draws ≤ m.machine.draws + 1 → n.attempts ≡ m.attempts
-    → ((i : ℕ) (q : Process) → value_of nat_cmp n.processes i ≡ Some q → length (indexes q) ≤ 200) → IsMemberWithin s m
-    → IsMemberWithin (s + 1) n
-mem_machine s m n d a b h = mem_change s (s + 1) m n
-    (omega (arith, d))
-    (λ t.
-    let e : tries_of n.attempts t ≡ tries_of m.attempts t = ap (λ (x : List (Part × ℕ)). tries_of x t) a in
-    omega (arith, e))
-    b (omega arith) h
-
-abbrev AreShort : List (ℕ × Process) → Type 0
-AreShort ps = (i : ℕ) (q : Process) → value_of nat_cmp ps i ≡ Some q → length (indexes q) ≤ 200
-
-short_process : (ps : List (ℕ × Process)) (number : ℕ) (p : Process) → length (indexes p) ≤ 200 → AreShort ps
-    → AreShort (with_value nat_cmp number p ps)
-short_process ps number p short each i q e =
-    go (eq_by_cmp nat_cmp i number) (sym (value_of-with_value exact_numbers number p ps i) ∙ e) where
-      go : (b : Bool) → cond b (Some p) (value_of nat_cmp ps i) ≡ Some q → length (indexes q) ≤ 200
-      go true e = let same : p ≡ q = cc in subst (λ (x : Process). length (indexes x) ≤ 200) same short
-      go false e = each i q e
-
--- a change of insertions alone
-mem_process : (old new : ℕ) (m n : Member) → n.machine ≡ m.machine → n.attempts ≡ m.attempts → AreShort n.processes
-    → old ≤ new → IsMemberWithin old m → IsMemberWithin new n
-mem_process old new m n k a short l h = mem_change old new m n
-    (let e : n.machine.draws ≡ m.machine.draws = ap (λ (x : Keeper). x.draws) k in omega (arith, e))
-    (λ t.
-    let e : tries_of n.attempts t ≡ tries_of m.attempts t = ap (λ (x : List (Part × ℕ)). tries_of x t) a in
-    omega (arith, e))
-    short l h
-
 -- ---- a world
+
+next_square : (s : ℕ) → (s + 1) * (s + 1) ≡ s * s + (s + s + 1)
+next_square s = omega arith
 
 tally_more : (old new : ℕ) (t : Tally) → old ≤ new → IsTallyWithin old t → IsTallyWithin new t
 tally_more old new t l h = record {
   delivered = let x : t.delivered ≤ old * 240 = h.delivered in omega (arith, x, l);
   attempts = let x : t.attempts ≤ old * 65536 = h.attempts in omega (arith, x, l);
-  parts = let x : t.parts ≤ old * 321600000 = h.parts in omega (arith, x, l);
-  octets = let x : t.octets ≤ old * 2830080000000 = h.octets in omega (arith, x, l);
+  parts =
+      let x : t.parts ≤ old * old * 160808 = h.parts in
+      let y : old * old ≤ new * new = mul-le old old new new l l in omega (arith, x, y);
+  octets =
+      let x : t.octets ≤ old * old * 1415110400 = h.octets in
+      let y : old * old ≤ new * new = mul-le old old new new l l in omega (arith, x, y);
 }
 
-each_set : (s : ℕ) (ms : List Member) (i : ℕ) (m : Member) → ((j : ℕ) → IsMemberWithin s (get_or ms j no_member))
-    → IsMemberWithin s m → (j : ℕ) → IsMemberWithin s (get_or (set ms i m) j no_member)
-each_set s [] i m each h j = each j
-each_set s (x ∷ xs) zero m each h zero = h
-each_set s (x ∷ xs) zero m each h (suc j) = each (suc j)
-each_set s (x ∷ xs) (suc i) m each h zero = each zero
-each_set s (x ∷ xs) (suc i) m each h (suc j) = each_set s xs i m (λ k. each (suc k)) h j
+pub tallies_fit : TalliesFit
+tallies_fit steps t l h =
+    let squares : steps * steps ≤ 100000 * 100000 = mul-le steps steps 100000 100000 l l in
+    record {
+      delivered = let x : t.delivered ≤ steps * 240 = h.delivered in omega (arith, x, l);
+      attempts = let x : t.attempts ≤ steps * 65536 = h.attempts in omega (arith, x, l);
+      parts = let x : t.parts ≤ steps * steps * 160808 = h.parts in omega (arith, x, squares);
+      octets = let x : t.octets ≤ steps * steps * 1415110400 = h.octets in omega (arith, x, squares);
+    }
 
-mem_more : (old new : ℕ) (m : Member) → old ≤ new → IsMemberWithin old m → IsMemberWithin new m
-mem_more old new m l h = mem_beside old new m m refl refl refl l h
-
--- a member changes, and its objects stay
+-- a member changes, and what it published stays
 within_set : (old new : ℕ) (w : World) (j : ℕ) (m : Member) (sent : List SyncInterest) (issued : List Issued)
     (tally : Tally)
     → old ≤ new → m.log ≡ (member w j).log → IsMemberWithin new m → length sent ≤ new * 16 → IsTallyWithin new tally
@@ -207,7 +89,7 @@ within_set old new w j m sent issued tally l e h few t s =
       published =
           let x : length (published (logs w)) ≤ old = s.published in
           subst (λ (ls : Logs). length (published ls) ≤ new) (sym same) (omega (arith, x, l));
-      segments = subst (λ (ls : Logs). (p k : ℕ) → HasFew (get_or (get_or ls p []) k no_object)) (sym same) s.segments;
+      segments = subst (λ (ls : Logs). (p k : ℕ) → HasFew (get_or (get_or ls p []) k no_post)) (sym same) s.segments;
       members = each_set new w.members j m (λ i. mem_more old new (member w i) l (s.members i)) h;
       tally = t;
     }
@@ -244,7 +126,7 @@ more_tally s w h = tally_more s (s + 1) w.tally (omega arith) h.tally
 
 -- ---- each event
 
-within_publish : (out : Outside) (s : ℕ) (w : World) (j : ℕ) (o : NamedContents) → HasFew o → IsWithinSteps s w
+within_publish : (out : Outside) (s : ℕ) (w : World) (j : ℕ) (o : Post) → HasFew o → IsWithinSteps s w
     → IsWithinSteps (s + 1) (after_publish out w j o)
 within_publish out s w j o few h =
     let m : Member = publishes (drawn out w j) w.moment j o (member w j) in
@@ -281,10 +163,10 @@ within_part out s w j f t made one size h =
     (mem_beside s (s + 1) (member w j) _ refl refl refl (omega arith) (h.members j)) (same_sent s w h) (record {
       delivered = let x : w.tally.delivered ≤ s * 240 = h.tally.delivered in omega (arith, x);
       attempts = let x : w.tally.attempts ≤ s * 65536 = h.tally.attempts in omega (arith, x, one);
-      parts = let x : w.tally.parts ≤ s * 321600000 = h.tally.parts in omega (arith, x);
+      parts = let x : w.tally.parts ≤ s * s * 160808 = h.tally.parts in omega (arith, x, next_square s);
       octets =
-          let x : w.tally.octets ≤ s * 2830080000000 = h.tally.octets in
-          let y : out.size (logs w) t ≤ 8800 = size t in omega (arith, x, y);
+          let x : w.tally.octets ≤ s * s * 1415110400 = h.tally.octets in
+          let y : out.size (logs w) t ≤ 8800 = size t in omega (arith, x, y, next_square s);
     }) h
 
 within_tried : (s : ℕ) (w : World) (made : ℕ) → made ≤ 1 → IsWithinSteps s w
@@ -294,8 +176,8 @@ within_tried s w made one h =
     (let x : w.moment ≤ s * 1000000000 = h.moment in omega (arith, x)) (record {
       delivered = let x : w.tally.delivered ≤ s * 240 = h.tally.delivered in omega (arith, x);
       attempts = let x : w.tally.attempts ≤ s * 65536 = h.tally.attempts in omega (arith, x, one);
-      parts = let x : w.tally.parts ≤ s * 321600000 = h.tally.parts in omega (arith, x);
-      octets = let x : w.tally.octets ≤ s * 2830080000000 = h.tally.octets in omega (arith, x);
+      parts = let x : w.tally.parts ≤ s * s * 160808 = h.tally.parts in omega (arith, x, next_square s);
+      octets = let x : w.tally.octets ≤ s * s * 1415110400 = h.tally.octets in omega (arith, x, next_square s);
     }) h
 
 within_came : (out : Outside) (s : ℕ) (w : World) (j f : ℕ) (c : Option Part) (came : Came) (made : ℕ) → made ≤ 1
@@ -339,8 +221,8 @@ within_deliver out s w j told h =
     (h.members j).blocks (h.members j)) (same_sent s w h) (record {
       delivered = let x : w.tally.delivered ≤ s * 240 = h.tally.delivered in omega (arith, x);
       attempts = let x : w.tally.attempts ≤ s * 65536 = h.tally.attempts in omega (arith, x);
-      parts = let x : w.tally.parts ≤ s * 321600000 = h.tally.parts in omega (arith, x);
-      octets = let x : w.tally.octets ≤ s * 2830080000000 = h.tally.octets in omega (arith, x);
+      parts = let x : w.tally.parts ≤ s * s * 160808 = h.tally.parts in omega (arith, x, next_square s);
+      octets = let x : w.tally.octets ≤ s * s * 1415110400 = h.tally.octets in omega (arith, x, next_square s);
     }) h
 
 within_hear : (out : Outside) (s : ℕ) (w : World) (j : ℕ) (read : Option SyncInterest) → IsWithinSteps s w
@@ -397,35 +279,6 @@ within_order : (s : ℕ) (w : World) (j : ℕ) (read : Result (ℕ × Command) �
 within_order s w j (Ok order) r h = within_command s w w.issued j order.1 r h
 within_order s w j (Err code) r h = within_stays s w h
 
--- what a block comes to has as many blocks as its insertion
-abbrev HasFewBlocks : BlockState → Type 0
-HasFewBlocks Unknown = Unit {0}
-HasFewBlocks Already = Unit {0}
-HasFewBlocks (Waiting p) = length (indexes p) ≤ 200
-HasFewBlocks (Whole p) = length (indexes p) ≤ 200
-
-few_with_it : (p : Process) → length (indexes p) ≤ 200 → HasFewBlocks (with_it p)
-few_with_it p h = go (is_whole p) where
-  go : (b : Bool) → HasFewBlocks (cond b (Whole p) (Waiting p))
-  go true = h
-  go false = h
-
-few_with_block : (index : ℕ) (content : List ℕ) (p : Process) → length (indexes p) ≤ 200
-    → length (indexes (with_block index content p)) ≤ 200
-few_with_block index content p h = go (has_block p index) where
-  go : (b : Bool) → length (indexes (cond b p (record p { blocks = with_value nat_cmp index content p.blocks }))) ≤ 200
-  go true = h
-  go false = h
-
-few_in : (index : ℕ) (content : List ℕ) (p : Option Process) → ((q : Process) → p ≡ Some q → length (indexes q) ≤ 200)
-    → HasFewBlocks (block_in index content p)
-few_in index content None each = tt
-few_in index content (Some p) each = go (not (has_index p index)) p.published where
-  go : (a b : Bool) → HasFewBlocks (cond a Unknown (cond b Already (with_it (with_block index content p))))
-  go true b = tt
-  go false true = tt
-  go false false = few_with_it (with_block index content p) (few_with_block index content p (each p refl))
-
 within_process : (old new : ℕ) (w : World) (j number : ℕ) (p : Process) → old ≤ new → length (indexes p) ≤ 200
     → IsWithinSteps old w → IsWithinSteps new (with_process_at w j number p)
 within_process old new w j number p l few h =
@@ -440,37 +293,14 @@ within_block out s w j process Unknown few h = within_stays s w h
 within_block out s w j process Already few h = within_stays s w h
 within_block out s w j process (Waiting p) few h = within_process s (s + 1) w j process p (omega arith) few h
 within_block out s w j process (Whole p) few h =
-    let size : length (object_of p).contents ≡ length (indexes p) = length-map (indexes p) _ in
-    within_publish out s (with_process_at w j process (closed p)) j (object_of p) (omega (arith, size, few))
+    let size : length (contents_of (Offers (object_of p))) ≡ length (indexes p) = length-map (indexes p) _ in
+    within_publish out s (with_process_at w j process (closed p)) j (Offers (object_of p)) (omega (arith, size, few))
     (within_process s s w j process (closed p) (omega arith) few h)
 
 -- ---- a settle and a fetch
 
 sized : {A : Type 0} (f : A → ℕ) (b : ℕ) (xs : List A) → ((x : A) → f x ≤ b) → sum_by f xs ≤ length xs * b
 sized f b xs h = sum_by-le f b xs (λ k d l. h (get_or xs k d))
-
-few_parts_in : (w : World) (s : ℕ) → IsWithinSteps s w → (q : Publication) → In q (published (logs w))
-    → length (parts_in q) ≤ 201
-few_parts_in w s h q i =
-    let there = in_published (logs w) q i in
-    let few : length q.object.contents ≤ 200 = subst HasFew (sym there.object) (h.segments q.publisher (q.seq - 1)) in
-    let size : length (parts_in q) ≡ length q.object.contents + 1 =
-    length-map (numbers_from 0 (length q.object.contents + 1)) _ ∙ length_numbers 0 (length q.object.contents + 1) in
-    omega (arith, few, size)
-
-pub few_parts : PartsStayFew
-few_parts s w l h =
-    let sum : length (all_parts (logs w)) ≤ length (published (logs w)) * 201 =
-    subst (λ (n : ℕ). n ≤ length (published (logs w)) * 201) (sym (length-flat_map parts_in (published (logs w))))
-    (sum_by-le (λ q. length (parts_in q)) 201 (published (logs w))
-    (λ k d i. few_parts_in w s h (get_or (published (logs w)) k d) (in_at (published (logs w)) k d i))) in
-    let few : length (published (logs w)) ≤ s = h.published in
-    omega (arith, sum, few, l)
-
-few_new : (w : World) (s : ℕ) → s ≤ 100000 → IsWithinSteps s w → (m : Member) → length (new_parts w m) ≤ 20100000
-few_new w s l h m =
-    let a : length (new_parts w m) ≤ length (all_parts (logs w)) = filter_short (comes_to w m) (all_parts (logs w)) in
-    let b : length (all_parts (logs w)) ≤ 20100000 = few_parts s w l h in omega (arith, a, b)
 
 length_syncs : (k : ℕ) (ms : List Member) → length (syncs_of k ms) ≡ length ms
 length_syncs k [] = refl
@@ -484,6 +314,9 @@ each_settled out w s k (m ∷ ms) each zero =
     mem_machine s m (settles out w k m) (omega arith) refl (each zero).blocks (each zero)
 each_settled out w s k (m ∷ ms) each (suc j) = each_settled out w s (k + 1) ms (λ i. each (suc i)) j
 
+at_most : {sum : ℕ} (n b : ℕ) → n ≤ 16 → sum ≤ n * b → sum ≤ 16 * b
+at_most n b l h = let a : n * b ≤ 16 * b = mul-le n b 16 b l (omega arith) in omega (arith, a, h)
+
 pairs_of : (n : ℕ) → n ≤ 16 → n * (n - 1) ≤ 240
 pairs_of n l = let a : n * (n - 1) ≤ 16 * 15 = mul-le n (n - 1) 16 15 l (omega (arith, l)) in omega (arith, a)
 
@@ -493,14 +326,16 @@ within_settled : (out : Outside) (s : ℕ) (w : World) (ms : List Member) → s 
     → ((j : ℕ) → IsMemberWithin (s + 1) (get_or ms j no_member))
     → IsWithinSteps (s + 1) (record (after_gathering out w) { members = ms })
 within_settled out s w ms l few size h same each =
-    let gained : sum_by (λ m. length (new_parts w m)) w.members ≤ length w.members * 20100000 =
-    sized (λ (m : Member). length (new_parts w m)) 20100000 w.members (few_new w s l h) in
-    let octets_of : (m : Member) → sum_by (out.size (logs w)) (new_parts w m) ≤ 176880000000 = λ m.
+    let gained : sum_by (λ m. length (new_parts w m)) w.members ≤ 16 * (s * 20101) =
+    at_most (length w.members) (s * 20101) few
+    (sized (λ (m : Member). length (new_parts w m)) (s * 20101) w.members (few_new w s h)) in
+    let octets_of : (m : Member) → sum_by (out.size (logs w)) (new_parts w m) ≤ s * 176888800 = λ m.
     (let a : sum_by (out.size (logs w)) (new_parts w m) ≤ length (new_parts w m) * 8800 =
     sized (out.size (logs w)) 8800 (new_parts w m) size in
-    let b : length (new_parts w m) ≤ 20100000 = few_new w s l h m in omega (arith, a, b)) in
-    let octets : sum_by (λ m. sum_by (out.size (logs w)) (new_parts w m)) w.members ≤ length w.members * 176880000000 =
-    sized (λ (m : Member). sum_by (out.size (logs w)) (new_parts w m)) 176880000000 w.members octets_of in
+    let b : length (new_parts w m) ≤ s * 20101 = few_new w s h m in omega (arith, a, b)) in
+    let octets : sum_by (λ m. sum_by (out.size (logs w)) (new_parts w m)) w.members ≤ 16 * (s * 176888800) =
+    at_most (length w.members) (s * 176888800) few
+    (sized (λ (m : Member). sum_by (out.size (logs w)) (new_parts w m)) (s * 176888800) w.members octets_of) in
     record {
       moment = let x : w.moment ≤ s * 1000000000 = h.moment in omega (arith, x);
       sent =
@@ -512,7 +347,7 @@ within_settled out s w ms l few size h same each =
       published =
           let x : length (published (logs w)) ≤ s = h.published in
           subst (λ (ls : Logs). length (published ls) ≤ s + 1) (sym same) (omega (arith, x));
-      segments = subst (λ (ls : Logs). (p k : ℕ) → HasFew (get_or (get_or ls p []) k no_object)) (sym same) h.segments;
+      segments = subst (λ (ls : Logs). (p k : ℕ) → HasFew (get_or (get_or ls p []) k no_post)) (sym same) h.segments;
       members = each;
       tally = record {
         delivered =
@@ -520,8 +355,10 @@ within_settled out s w ms l few size h same each =
             let y : length w.members * (length w.members - 1) ≤ 240 = pairs_of (length w.members) few in
             omega (arith, x, y);
         attempts = let x : w.tally.attempts ≤ s * 65536 = h.tally.attempts in omega (arith, x);
-        parts = let x : w.tally.parts ≤ s * 321600000 = h.tally.parts in omega (arith, x, gained, few);
-        octets = let x : w.tally.octets ≤ s * 2830080000000 = h.tally.octets in omega (arith, x, octets, few);
+        parts = let x : w.tally.parts ≤ s * s * 160808 = h.tally.parts in omega (arith, x, next_square s, gained);
+        octets =
+            let x : w.tally.octets ≤ s * s * 1415110400 = h.tally.octets in
+            omega (arith, x, next_square s, octets);
       };
     }
 
@@ -565,14 +402,17 @@ within_fetch out s w j tries loss l size h =
     (same_sent s w h) (record {
       delivered = let x : w.tally.delivered ≤ s * 240 = h.tally.delivered in omega (arith, x);
       attempts = let x : w.tally.attempts ≤ s * 65536 = h.tally.attempts in omega (arith, x, made, some);
-      parts = let x : w.tally.parts ≤ s * 321600000 = h.tally.parts in omega (arith, x, came, some);
-      octets = let x : w.tally.octets ≤ s * 2830080000000 = h.tally.octets in omega (arith, x, octets, came, some);
+      parts = let x : w.tally.parts ≤ s * s * 160808 = h.tally.parts in omega (arith, x, next_square s, came, some);
+      octets =
+          let x : w.tally.octets ≤ s * s * 1415110400 = h.tally.octets in
+          omega (arith, x, next_square s, octets, came, some);
     }) h
 
 -- ---- any event
 
 pub within_after : StaysWithin
-within_after out s w (Event.Publish j o) l few size r h = within_publish out s w j o r h
+within_after out s w (Event.Publish j o) l few size r h = within_publish out s w j (Offers o) r h
+within_after out s w (Event.Withdraw j seq) l few size r h = within_publish out s w j (Withdraws seq) (omega arith) h
 within_after out s w (Event.Deliver k j) l few size r h = within_deliver out s w j (sent_at w k).vector h
 within_after out s w (Event.Sync k) l few size r h = within_stays s w h
 within_after out s w (Event.Advance ms) l few size r h =
@@ -631,57 +471,3 @@ within_all out s w (e ∷ es) sound l few taken r size h =
     (within_all out (s + 1) (after_event out w e) es (sound_after out w e taken.0 sound) (omega (arith, l))
     (subst (λ (n : ℕ). n ≤ 16) (sym width) few) taken.1 r.1 size.1
     (within_after out s w e (omega (arith, l)) few size.0 r.0 h))
-
--- ---- the opening
-
-nothing_published : (p : ℕ) (f : ℕ → Member) (xs : List ℕ) → ((x : ℕ) → (f x).log ≡ [])
-    → published_from p (logs_of (map f xs)) ≡ []
-nothing_published p f [] e = refl
-nothing_published p f (x ∷ xs) e =
-    subst (λ (l : List NamedContents). numbered_publications p 1 l ++ published_from (p + 1) (logs_of (map f xs)) ≡ [])
-    (sym (e x)) (nothing_published (p + 1) f xs e)
-
-no_objects : (f : ℕ → Member) (xs : List ℕ) (p k : ℕ) → ((x : ℕ) → (f x).log ≡ [])
-    → HasFew (get_or (get_or (logs_of (map f xs)) p []) k no_object)
-no_objects f [] p k e = omega arith
-no_objects f (x ∷ xs) zero k e =
-    subst (λ (l : List NamedContents). HasFew (get_or l k no_object)) (sym (e x)) (omega arith)
-no_objects f (x ∷ xs) (suc p) k e = no_objects f xs p k e
-
-each_opening : (f : ℕ → Member) (xs : List ℕ) (j : ℕ) → ((x : ℕ) → IsMemberWithin 0 (f x)) → IsMemberWithin 0 no_member
-    → IsMemberWithin 0 (get_or (map f xs) j no_member)
-each_opening f [] j e n = n
-each_opening f (x ∷ xs) zero e n = e x
-each_opening f (x ∷ xs) (suc j) e n = each_opening f xs j e n
-
-pub within_opening : BeginsWithin
-within_opening out n =
-    let f : ℕ → Member = λ j. record no_member {
-      known = replicate n 0;
-      machine = record { members = n; heard = None; deadline = periodic (out.draw j 0); draws = 1 };
-    } in
-    record {
-      moment = omega arith;
-      sent = omega arith;
-      published =
-          let e : published (logs (opening_world out n)) ≡ [] = nothing_published 0 f (numbers_from 0 n) (λ x. refl) in
-          let z : length (published (logs (opening_world out n))) ≡ 0 = ap length e in omega (arith, z);
-      segments = λ p k. no_objects f (numbers_from 0 n) p k (λ x. refl);
-      members =
-          λ j. each_opening f (numbers_from 0 n) j
-          (λ x. record { draws = omega arith; tried = λ t. omega arith; blocks = λ i q e. absurd cc })
-          (record { draws = omega arith; tried = λ t. omega arith; blocks = λ i q e. absurd cc });
-      tally = record { delivered = omega arith; attempts = omega arith; parts = omega arith; octets = omega arith };
-    }
-
-pub reached_within : ReachedRunsStayWithin
-reached_within out n es few l taken r size =
-    let f : ℕ → Member = λ j. record no_member {
-      known = replicate n 0;
-      machine = record { members = n; heard = None; deadline = periodic (out.draw j 0); draws = 1 };
-    } in
-    let wide : length (opening_world out n).members ≡ n = length-map (numbers_from 0 n) f ∙ length_numbers 0 n in
-    let none : 0 + length es ≡ length es = omega arith in
-    subst (λ (k : ℕ). IsWithinSteps k (after_events out (opening_world out n) es)) none
-    (within_all out 0 (opening_world out n) es (sound_opening out n) (omega (arith, l)) (omega (arith, wide, few)) taken
-    r size (within_opening out n))

@@ -10,20 +10,19 @@ use Rattle.sorted_lists.specs.Range.{numbers_from}
 use Rattle.svs_vector.specs.Vectors.{covers}
 use Rattle.svs_sync.specs.declared.fired.Fired.{Fired}
 use Rattle.svs_sync.specs.declared.fired.Fired.TheVariants.{Early, Quiet, Send}
-use Rattle.svs_sync.specs.Suppression
 use Rattle.svs_sync.specs.Suppression.{periodic}
 use Rattle.svs_sync.specs.Suppression.SyncEvent.{published, heard, fired, reset}
 use Rattle.svs_sync.specs.KeptVector.{Keeper, kept, steady_kept, due_kept, fires_kept, after_kept, after_all_kept}
 use Rattle.svs_sync.proofs.KeptLemmas.{after_all_same, fires_same}
-use Rattle.repo_object.specs.Objects.{NamedContents}
-use Rattle.group_model.specs.Publications.{Publication}
+use Rattle.repo_object.specs.Objects.{Post}
+use Rattle.repo_object.specs.Objects.Post.{Offers, Withdraws}
+use Rattle.group_model.specs.Publications.{Publication, pair_in}
 use Rattle.repo_process.specs.Processes.{BlockState, closed, object_of}
 use Rattle.repo_process.specs.Processes.BlockState.{Unknown, Already, Waiting, Whole}
 use Rattle.repo_command.specs.declared.command.Command.{Command}
 use Rattle.repo_command.specs.declared.command.Command.TheVariants.{Insert, Check, Delete}
 use Rattle.group_model.specs.Member.{Member, catalogued_under, member_hides_too, member_hides_all}
 use Rattle.group_model.specs.Changes.{publishes, learns, member_starts}
-use Rattle.group_model.specs.Publications.{pair_in}
 use Rattle.group_model.specs.Events.{SyncInterest, Came, Event}
 use Rattle.group_model.specs.Events.Came.{Nothing, Its, Another}
 use Rattle.group_model.specs.World.{Outside, World, no_member, member, with_member, logs, sent_at, opening_world}
@@ -40,6 +39,7 @@ use Rattle.group_model.proofs.Settles.{member_settled}
 use Rattle.group_model.proofs.Worlds.{sound_after}
 use Rattle.group_model.proofs.Lasting.{lasts}
 use Rattle.group_model.proofs.Runs.{sound_opening, length_numbers}
+use Rattle.svs_sync.specs.Suppression
 
 -- what befell a machine makes the second of the first
 abbrev Makes : List Suppression.SyncEvent → Member → Member → Type 0
@@ -133,7 +133,7 @@ makes_order : (w : World) (i : ℕ) (read : Result (ℕ × Command) ℕ) (j : �
 makes_order w i (Ok order) j = makes_command w w i order.1 j refl
 makes_order w i (Err code) j = makes_none (member w j)
 
-makes_publish : (out : Outside) (w : World) (i : ℕ) (o : NamedContents) (j : ℕ) → j < length w.members
+makes_publish : (out : Outside) (w : World) (i : ℕ) (o : Post) (j : ℕ) → j < length w.members
     → Makes (only_at i j (published w.moment (drawn out w i))) (member w j) (member (after_publish out w i o) j)
 unfolding after_kept
 makes_publish out w i o j l =
@@ -228,7 +228,7 @@ makes_block out w i process (Whole p) j li l =
     let there : (member v j).machine ≡ (member w j).machine =
     makes_beside w.members i _ j refl ∙ none (member w j).machine in
     let same : drawn out v i ≡ drawn out w i = ap (λ (k : Keeper). out.draw i k.draws) here in
-    makes_publish out v i (object_of p) j (subst (λ (n : ℕ). j < n) (sym (length-set w.members i _)) l)
+    makes_publish out v i (Offers (object_of p)) j (subst (λ (n : ℕ). j < n) (sym (length-set w.members i _)) l)
     ∙ ap (λ (d : ℕ). after_all_kept (only_at i j (published w.moment d)) (member v j).machine) same
     ∙ ap (λ (k : Keeper). after_all_kept (only_at i j (published w.moment (drawn out w i))) k) there
 
@@ -239,7 +239,8 @@ makes_settle out w j l = ap (λ (m : Member). m.machine) (member_settled out w j
 
 makes : (out : Outside) (w : World) (e : Event) (j : ℕ) → EventIsTaken out w e → j < length w.members
     → Makes (befalls out w j e) (member w j) (member (after_event out w e) j)
-makes out w (Event.Publish i o) j h l = makes_publish out w i o j l
+makes out w (Event.Publish i o) j h l = makes_publish out w i (Offers o) j l
+makes out w (Event.Withdraw i seq) j h l = makes_publish out w i (Withdraws seq) j l
 makes out w (Event.Deliver k i) j h l = makes_deliver out w i (sent_at w k).vector j l
 makes out w (Event.Sync k) j h l = makes_none (member w j)
 makes out w (Event.Advance ms) j h l = makes_none (member w j)

@@ -4,13 +4,14 @@ use Rattle.std.proofs.Common.{◌∷◌, length, get_or, set, refl, sym, ap, ◌
 use Rattle.std.proofs.lemmas.List.{length-set}
 use Rattle.repo_plan.specs.declared.part.Part.{Part}
 use Rattle.sorted_lists.specs.SortedList.{contains}
-use Rattle.repo_plan.specs.Parts.{Pair, pair_cmp, pair_of, record_of}
+use Rattle.repo_plan.specs.Parts.{Pair, pair_cmp, pair_of, record_of, parent, parts_behind}
+use Rattle.repo_plan.specs.declared.shape.Shape.{Shape}
 use Rattle.repo_plan.specs.Plan.{is_wanted, is_claimed}
 use Rattle.repo_plan.proofs.Changes.{unclaimed_at}
 use Rattle.svs_vector.specs.Vectors.{join, covers}
 use Rattle.svs_vector.proofs.JoinLemmas.{join-at, length-join}
 use Rattle.svs_sync.specs.KeptVector.{Keeper, steady_kept, hears_kept}
-use Rattle.group_model.specs.Publications.{Logs, last_of, count}
+use Rattle.group_model.specs.Publications.{Logs, last_of, count, shape_at}
 use Rattle.repo_process.specs.Processes.{Process}
 use Rattle.group_model.specs.Member.{Member, member_holds, plan_of}
 use Rattle.group_model.specs.Changes.{learns, member_with_claim}
@@ -35,7 +36,11 @@ known_more old new pair more k =
 pub record Grows (old new : Logs) : Type 0 where
   pub width : length new ≡ length old
   pub last : (p : ℕ) → last_of old p ≤ last_of new p
-  pub counts : (pair : Pair) → IsPublished old pair → count new pair ≡ count old pair
+  pub shapes : (pair : Pair) → IsPublished old pair → shape_at new pair ≡ shape_at old pair
+
+pub counts_grown : (old new : Logs) → Grows old new → (pair : Pair) → IsPublished old pair
+    → count new pair ≡ count old pair
+counts_grown old new g pair p = ap parts_behind (g.shapes pair p)
 
 pub no_more_grown : (old new : Logs) (v : List ℕ) → Grows old new → TellsNoMore old v → TellsNoMore new v
 no_more_grown old new v g t p =
@@ -58,14 +63,22 @@ pub record Keeps (old new : Member) : Type 0 where
   pub hidden : new.hidden ≡ old.hidden
 
 pub wanted_kept : (ls more : Logs) (old new : Member) (t : Part) → Keeps old new
-    → count more (pair_of t) ≡ count ls (pair_of t) → is_wanted (plan_of ls old) t ≡ true → member_holds new t ≡ false
-    → is_wanted (plan_of more new) t ≡ true
+    → shape_at more (pair_of t) ≡ shape_at ls (pair_of t) → is_wanted (plan_of ls old) t ≡ true
+    → member_holds new t ≡ false → is_wanted (plan_of more new) t ≡ true
 wanted_kept ls more old new t k same h out =
     let w : IsWanted ls old t = wanted_parts ls old t h in
     wanted_from more new t (record {
       known = known_more old.known new.known (pair_of t) k.knows w.known;
-      counted = subst (λ (n : ℕ). t.part ≤ n) (sym same) w.counted;
-      with_record = elim w.with_record [ inl e ↦ inl e | inr r ↦ inr (k.held (record_of t) r) ];
+      counted = subst (λ (n : ℕ). t.part ≤ n) (sym (ap parts_behind same)) w.counted;
+      with_record = elim w.with_record [
+        | inl e ↦ inl e
+        | inr r ↦ inr (record {
+          with_record = k.held (record_of t) r.with_record;
+          with_parent =
+              ap (λ (s : Shape). member_holds new (parent s t)) same
+              ∙ k.held (parent (shape_at ls (pair_of t)) t) r.with_parent;
+        })
+      ];
       not_held = out;
       not_hidden = subst (λ (x : List Pair). contains pair_cmp x (pair_of t) ≡ false) (sym k.hidden) w.not_hidden;
     })
@@ -85,8 +98,12 @@ grown old new j m g own s = record {
     known = r.known;
     counted =
         subst (λ (n : ℕ). t.part ≤ n)
-        (sym (g.counts (pair_of t) (known_published old m.known (pair_of t) s.known r.known))) r.counted;
+        (sym (counts_grown old new g (pair_of t) (known_published old m.known (pair_of t) s.known r.known))) r.counted;
     with_record = r.with_record;
+    with_parent =
+        ap (λ (x : Shape). member_holds m (parent x t))
+        (g.shapes (pair_of t) (known_published old m.known (pair_of t) s.known r.known))
+        ∙ r.with_parent;
   };
   hidden = s.hidden;
   own_held = λ n p.
@@ -94,12 +111,12 @@ grown old new j m g own s = record {
       record { from_one = p.from_one; to_last = subst (λ (k : ℕ). n ≤ k) own p.to_last } in
       elim (s.own_held n there) [
         | inl h ↦ inl h
-        | inr f ↦ inr (λ x le. f x (subst (λ (k : ℕ). x ≤ k) (g.counts (j, n) there) le))
+        | inr f ↦ inr (λ x le. f x (subst (λ (k : ℕ). x ≤ k) (counts_grown old new g (j, n) there) le))
       ];
   claimed = λ f t e.
       let w : IsWanted old m t = wanted_parts old m t (s.claimed f t e) in
       wanted_kept old new m m t (record { knows = λ p. omega arith; held = λ u h. h; hidden = refl })
-      (g.counts (pair_of t) (known_published old m.known (pair_of t) s.known w.known)) (s.claimed f t e) w.not_held;
+      (g.shapes (pair_of t) (known_published old m.known (pair_of t) s.known w.known)) (s.claimed f t e) w.not_held;
   apart = s.apart;
 }
 
@@ -185,6 +202,7 @@ sound_learns draw moment ls j told m t s =
             known = known_more m.known _ (pair_of u) more r.known;
             counted = r.counted;
             with_record = r.with_record;
+            with_parent = r.with_parent;
           };
       hidden = λ pair h.
           let r : IsHiddenSoundly m pair = s.hidden pair h in

@@ -7,23 +7,23 @@ use Rattle.std.specs.List.{flat_map}
 use Rattle.std.specs.Ordering.{nat_cmp}
 use Rattle.repo_plan.specs.declared.part.Part.{Part}
 use Rattle.sorted_lists.specs.SortedList.{Rises}
+use Rattle.repo_plan.specs.Parts.{Pair, part_cmp, pair_of, part_of, record_of, parts_of, parts_behind}
 use Rattle.sorted_lists.specs.Range.{numbers_from}
-use Rattle.repo_plan.specs.Parts.{Pair, part_cmp, pair_of, part_of, record_of, parts_of}
-use Rattle.sorted_lists.proofs.Orders.{nat_less, nat_itself, first_less, then_second}
 use Rattle.repo_plan.proofs.Orders.{exact_parts}
+use Rattle.sorted_lists.proofs.Orders.{nat_less, nat_itself, first_less, then_second}
 use Rattle.sorted_lists.proofs.Sets.{In, in_append, in_flat_map, from_flat_map, from_map, before_each, rises_append}
 use Rattle.repo_plan.proofs.Known.{from_numbers, from_parts_of, in_parts_of}
-use Rattle.repo_object.specs.Objects.{NamedContents}
+use Rattle.repo_object.specs.Objects.{Post, shape_in}
 use Rattle.group_model.specs.Publications.{Logs, Publication, pair_in, numbered_publications, published, published_from}
-use Rattle.group_model.specs.Publications.{parts_in, all_parts, object_at, count, no_object}
+use Rattle.group_model.specs.Publications.{parts_in, all_parts, post_at, count, no_post}
 use Rattle.group_model.specs.Member.{Member}
 use Rattle.group_model.specs.World.{World, logs}
 use Rattle.group_model.specs.Sound.{IsPublished, IsPublishedPart}
 
 -- ---- publications
 
-pub from_numbered : (p s : ℕ) (os : List NamedContents) (q : Publication) → In q (numbered_publications p s os)
-    → (q.publisher ≡ p) × (s ≤ q.seq) × (q.seq < s + length os) × (q.object ≡ get_or os (q.seq - s) no_object)
+pub from_numbered : (p s : ℕ) (os : List Post) (q : Publication) → In q (numbered_publications p s os)
+    → (q.publisher ≡ p) × (s ≤ q.seq) × (q.seq < s + length os) × (q.post ≡ get_or os (q.seq - s) no_post)
 from_numbered p s [] q i = absurd i
 from_numbered p s (o ∷ os) q (inl e) =
     let seq : q.seq ≡ s = ap (λ (x : Publication). x.seq) e in
@@ -31,63 +31,63 @@ from_numbered p s (o ∷ os) q (inl e) =
       ap (λ (x : Publication). x.publisher) e,
       omega arith,
       omega arith,
-      ap (λ (x : Publication). x.object) e ∙ ap (λ (n : ℕ). get_or (o ∷ os) n no_object) (sym zero_at),
+      ap (λ (x : Publication). x.post) e ∙ ap (λ (n : ℕ). get_or (o ∷ os) n no_post) (sym zero_at),
     )
 from_numbered p s (o ∷ os) q (inr i) =
     let r : (q.publisher ≡ p)
     × (s + 1 ≤ q.seq)
     × (q.seq < s + 1 + length os)
-    × (q.object ≡ get_or os (q.seq - (s + 1)) no_object) =
+    × (q.post ≡ get_or os (q.seq - (s + 1)) no_post) =
     from_numbered p (s + 1) os q i in
     let later : q.seq - s ≡ suc (q.seq - (s + 1)) = omega (arith, r.1) in
-    (r.0, omega (arith, r.1), omega (arith, r.2), r.3 ∙ ap (λ (n : ℕ). get_or (o ∷ os) n no_object) (sym later))
+    (r.0, omega (arith, r.1), omega (arith, r.2), r.3 ∙ ap (λ (n : ℕ). get_or (o ∷ os) n no_post) (sym later))
 
 -- what is among the publications of the members from p on, of all members
 from_published : (p : ℕ) (ls : Logs) (q : Publication) → In q (published_from p ls) →
     (p ≤ q.publisher)
     × (1 ≤ q.seq)
     × (q.seq ≤ length (get_or ls (q.publisher - p) []))
-    × (q.object ≡ get_or (get_or ls (q.publisher - p) []) (q.seq - 1) no_object)
+    × (q.post ≡ get_or (get_or ls (q.publisher - p) []) (q.seq - 1) no_post)
 from_published p [] q i = absurd i
 from_published p (l ∷ ls) q i = elim (in_append (numbered_publications p 1 l) (published_from (p + 1) ls) q i) [
   | inl a ↦
-      let r : (q.publisher ≡ p) × (1 ≤ q.seq) × (q.seq < 1 + length l) × (q.object ≡ get_or l (q.seq - 1) no_object) =
+      let r : (q.publisher ≡ p) × (1 ≤ q.seq) × (q.seq < 1 + length l) × (q.post ≡ get_or l (q.seq - 1) no_post) =
       from_numbered p 1 l q a in
       let here : q.publisher - p ≡ 0 = omega (arith, r.0) in (
         omega (arith, r.0),
         r.1,
         subst (λ (n : ℕ). q.seq ≤ length (get_or (l ∷ ls) n [])) (sym here) (omega (arith, r.2)),
-        r.3 ∙ ap (λ (n : ℕ). get_or (get_or (l ∷ ls) n []) (q.seq - 1) no_object) (sym here),
+        r.3 ∙ ap (λ (n : ℕ). get_or (get_or (l ∷ ls) n []) (q.seq - 1) no_post) (sym here),
       )
   | inr b ↦
       let r : (p + 1 ≤ q.publisher)
       × (1 ≤ q.seq)
       × (q.seq ≤ length (get_or ls (q.publisher - (p + 1)) []))
-      × (q.object ≡ get_or (get_or ls (q.publisher - (p + 1)) []) (q.seq - 1) no_object) =
+      × (q.post ≡ get_or (get_or ls (q.publisher - (p + 1)) []) (q.seq - 1) no_post) =
       from_published (p + 1) ls q b in
       let later : q.publisher - p ≡ suc (q.publisher - (p + 1)) = omega (arith, r.0) in (
         omega (arith, r.0),
         r.1,
         subst (λ (n : ℕ). q.seq ≤ length (get_or (l ∷ ls) n [])) (sym later) r.2,
-        r.3 ∙ ap (λ (n : ℕ). get_or (get_or (l ∷ ls) n []) (q.seq - 1) no_object) (sym later),
+        r.3 ∙ ap (λ (n : ℕ). get_or (get_or (l ∷ ls) n []) (q.seq - 1) no_post) (sym later),
       )
 ]
 
 pub record IsIn (ls : Logs) (q : Publication) : Type 0 where
   pub there : IsPublished ls (pair_in q)
-  pub object : q.object ≡ object_at ls (pair_in q)
+  pub post : q.post ≡ post_at ls (pair_in q)
 
 pub in_published : (ls : Logs) (q : Publication) → In q (published ls) → IsIn ls q
 in_published ls q i =
     let r : (0 ≤ q.publisher)
     × (1 ≤ q.seq)
     × (q.seq ≤ length (get_or ls (q.publisher - 0) []))
-    × (q.object ≡ get_or (get_or ls (q.publisher - 0) []) (q.seq - 1) no_object) =
+    × (q.post ≡ get_or (get_or ls (q.publisher - 0) []) (q.seq - 1) no_post) =
     from_published 0 ls q i in
     let same : q.publisher - 0 ≡ q.publisher = omega arith in
     record {
       there = record { from_one = r.1; to_last = subst (λ (n : ℕ). q.seq ≤ length (get_or ls n [])) same r.2 };
-      object = r.3 ∙ ap (λ (n : ℕ). get_or (get_or ls n []) (q.seq - 1) no_object) same;
+      post = r.3 ∙ ap (λ (n : ℕ). get_or (get_or ls n []) (q.seq - 1) no_post) same;
     }
 
 in_range : (ls : Logs) (p n : ℕ) → 1 ≤ n → n ≤ length (get_or ls p []) → p < length ls
@@ -107,18 +107,18 @@ publisher_within w pair h =
 
 pub record IsPartOf (t : Part) (q : Publication) : Type 0 where
   pub pair : pair_of t ≡ pair_in q
-  pub counted : t.part ≤ length q.object.contents
+  pub counted : t.part ≤ parts_behind (shape_in q.post)
 
 pub from_parts_in : (q : Publication) (t : Part) → In t (parts_in q) → IsPartOf t q
 from_parts_in q t i =
-    let r : (pair_of t ≡ pair_in q) × (t.part ≤ length q.object.contents) =
-    from_parts_of (pair_in q) (length q.object.contents) t i in
+    let r : (pair_of t ≡ pair_in q) × (t.part ≤ parts_behind (shape_in q.post)) =
+    from_parts_of (pair_in q) (parts_behind (shape_in q.post)) t i in
     record { pair = r.0; counted = r.1 }
 
 pub in_parts_in : (q : Publication) (t : Part) → IsPartOf t q → In t (parts_in q)
 in_parts_in q t h =
-    subst (λ (pair : Pair). In t (parts_of pair (length q.object.contents))) h.pair
-    (in_parts_of (length q.object.contents) t h.counted)
+    subst (λ (pair : Pair). In t (parts_of pair (parts_behind (shape_in q.post)))) h.pair
+    (in_parts_of (parts_behind (shape_in q.post)) t h.counted)
 
 pub from_all_parts : (ls : Logs) (t : Part) → In t (all_parts ls) → IsPublishedPart ls t
 from_all_parts ls t i =
@@ -129,7 +129,7 @@ from_all_parts ls t i =
       there = subst (IsPublished ls) (sym p.pair) q.there;
       counted =
           subst (λ (pair : Pair). t.part ≤ count ls pair) (sym p.pair)
-          (subst (λ (o : NamedContents). t.part ≤ length o.contents) q.object p.counted);
+          (subst (λ (o : Post). t.part ≤ parts_behind (shape_in o)) q.post p.counted);
     }
 
 pub record_among : (ls : Logs) (t : Part) → In t (all_parts ls) → In (record_of t) (all_parts ls)
@@ -153,7 +153,7 @@ rises_numbers pair first (suc n) = (
   rises_numbers pair (first + 1) n,
 )
 
-of_numbered : (p s : ℕ) (os : List NamedContents) (t : Part) → In t (flat_map parts_in (numbered_publications p s os))
+of_numbered : (p s : ℕ) (os : List Post) (t : Part) → In t (flat_map parts_in (numbered_publications p s os))
     → (t.publisher ≡ p) × (s ≤ t.seq)
 of_numbered p s os t i =
     let r : (q : Publication) × (In q (numbered_publications p s os)) × In t (parts_in q) =
@@ -163,11 +163,11 @@ of_numbered p s os t i =
     let seq : t.seq ≡ r.0.seq = ap (λ (x : Pair). x.1) q.pair in
     (ap (λ (x : Pair). x.0) q.pair ∙ n.0, subst (λ (k : ℕ). s ≤ k) (sym seq) n.1)
 
-rises_numbered : (p s : ℕ) (os : List NamedContents) → Rises part_cmp (flat_map parts_in (numbered_publications p s os))
+rises_numbered : (p s : ℕ) (os : List Post) → Rises part_cmp (flat_map parts_in (numbered_publications p s os))
 rises_numbered p s [] = tt
 rises_numbered p s (o ∷ os) =
-    let one : Publication = record { publisher = p; seq = s; object = o } in
-    rises_append exact_parts.total (parts_in one) _ (rises_numbers (p, s) 0 (length o.contents + 1))
+    let one : Publication = record { publisher = p; seq = s; post = o } in
+    rises_append exact_parts.total (parts_in one) _ (rises_numbers (p, s) 0 (parts_behind (shape_in o) + 1))
     (rises_numbered p (s + 1) os) (λ x y i k.
     let a : IsPartOf x one = from_parts_in one x i in
     let b : (y.publisher ≡ p) × (s + 1 ≤ y.seq) = of_numbered p (s + 1) os y k in

@@ -7,15 +7,16 @@ use Rattle.std.specs.Prelude.{nat_le, ◌==◌, filter}
 use Rattle.std.specs.Ordering.{eq_by_cmp}
 use Rattle.repo_plan.specs.declared.part.Part.{Part}
 use Rattle.sorted_lists.specs.SortedList.{contains, value_of}
-use Rattle.repo_plan.specs.Parts.{Pair, Shape, pair_cmp, part_cmp, pair_of, part_of, record_of}
-use Rattle.repo_plan.specs.Plan
+use Rattle.repo_plan.specs.Parts.{Pair, pair_cmp, part_cmp, pair_of, part_of, record_of, parent}
+use Rattle.repo_plan.specs.declared.shape.Shape.{Shape}
 use Rattle.repo_plan.specs.Plan.{is_wanted, shape_of, can_be_asked}
 use Rattle.repo_plan.proofs.Orders.{exact_parts, exact_pairs}
 use Rattle.sorted_lists.proofs.Sets.{eq_same, eq_itself}
-use Rattle.repo_plan.proofs.Changes
-use Rattle.group_model.specs.Publications.{Logs, count}
+use Rattle.group_model.specs.Publications.{Logs, count, shape_at}
 use Rattle.group_model.specs.Member.{Member, member_holds, member_hides, told_by, plan_of}
 use Rattle.group_model.specs.Sound.{IsKnown}
+use Rattle.repo_plan.specs.Plan
+use Rattle.repo_plan.proofs.Changes
 
 -- ---- what held records tell
 
@@ -42,44 +43,50 @@ other_part pair t z =
 
 pub told-at : (ls : Logs) (held : List Part) (pair : Pair)
     → value_of pair_cmp (told_by ls held) pair
-    ≡ cond (contains part_cmp held (part_of pair 0)) (Some (count ls pair)) None
+    ≡ cond (contains part_cmp held (part_of pair 0)) (Some (shape_at ls pair)) None
 told-at ls [] pair = refl
 told-at ls (t ∷ ts) pair = go (told-at ls ts pair) (t.part == 0) refl where
   here : (b : Bool) → eq_by_cmp pair_cmp pair (pair_of t) ≡ b
-      → cond b (Some (count ls (pair_of t))) (value_of pair_cmp (told_by ls ts) pair)
-      ≡ cond b (Some (count ls pair)) (value_of pair_cmp (told_by ls ts) pair)
-  here true e = ap (λ (q : Pair). Some (count ls q)) (sym (eq_same exact_pairs pair (pair_of t) e))
+      → cond b (Some (shape_at ls (pair_of t))) (value_of pair_cmp (told_by ls ts) pair)
+      ≡ cond b (Some (shape_at ls pair)) (value_of pair_cmp (told_by ls ts) pair)
+  here true e = ap (λ (q : Pair). Some (shape_at ls q)) (sym (eq_same exact_pairs pair (pair_of t) e))
   here false e = refl
 
   either : (a b : Bool) (x : Option Shape) → cond a x (cond b x None) ≡ cond (a || b) x None
   either true b x = refl
   either false b x = refl
 
-  go : value_of pair_cmp (told_by ls ts) pair ≡ cond (contains part_cmp ts (part_of pair 0)) (Some (count ls pair)) None
+  go : value_of pair_cmp (told_by ls ts) pair
+      ≡ cond (contains part_cmp ts (part_of pair 0)) (Some (shape_at ls pair)) None
       → (z : Bool) → (t.part == 0) ≡ z
       → value_of pair_cmp
-      (map (λ (u : Part). (pair_of u, count ls (pair_of u)))
+      (map (λ (u : Part). (pair_of u, shape_at ls (pair_of u)))
       (cond z (t ∷ filter (λ u. u.part == 0) ts) (filter (λ u. u.part == 0) ts))) pair
-      ≡ cond (eq_by_cmp part_cmp (part_of pair 0) t || contains part_cmp ts (part_of pair 0)) (Some (count ls pair))
+      ≡ cond (eq_by_cmp part_cmp (part_of pair 0) t || contains part_cmp ts (part_of pair 0)) (Some (shape_at ls pair))
       None
   go h true z =
       here (eq_by_cmp pair_cmp pair (pair_of t)) refl
-      ∙ ap (λ (x : Option Shape). cond (eq_by_cmp pair_cmp pair (pair_of t)) (Some (count ls pair)) x) h
-      ∙ either (eq_by_cmp pair_cmp pair (pair_of t)) (contains part_cmp ts (part_of pair 0)) (Some (count ls pair))
-      ∙ ap (λ (b : Bool). cond (b || contains part_cmp ts (part_of pair 0)) (Some (count ls pair)) None)
+      ∙ ap (λ (x : Option Shape). cond (eq_by_cmp pair_cmp pair (pair_of t)) (Some (shape_at ls pair)) x) h
+      ∙ either (eq_by_cmp pair_cmp pair (pair_of t)) (contains part_cmp ts (part_of pair 0)) (Some (shape_at ls pair))
+      ∙ ap (λ (b : Bool). cond (b || contains part_cmp ts (part_of pair 0)) (Some (shape_at ls pair)) None)
       (sym (same_pair pair t (eqb-true t.part 0 z)))
   go h false z =
       h
-      ∙ ap (λ (b : Bool). cond (b || contains part_cmp ts (part_of pair 0)) (Some (count ls pair)) None)
+      ∙ ap (λ (b : Bool). cond (b || contains part_cmp ts (part_of pair 0)) (Some (shape_at ls pair)) None)
       (sym (other_part pair t z))
 
 -- ---- wanted parts
+
+-- the record of a part is held, and what lists it
+pub record IsListedIn (ls : Logs) (m : Member) (t : Part) : Type 0 where
+  pub with_record : member_holds m (record_of t) ≡ true
+  pub with_parent : member_holds m (parent (shape_at ls (pair_of t)) t) ≡ true
 
 -- what is wanted, in parts
 pub record IsWanted (ls : Logs) (m : Member) (t : Part) : Type 0 where
   pub known : IsKnown m.known (pair_of t)
   pub counted : t.part ≤ count ls (pair_of t)
-  pub with_record : (t.part ≡ 0) ⊎ (member_holds m (record_of t) ≡ true)
+  pub with_record : (t.part ≡ 0) ⊎ IsListedIn ls m t
   pub not_held : member_holds m t ≡ false
   pub not_hidden : member_hides m (pair_of t) ≡ false
 
@@ -101,9 +108,9 @@ wanted_parts ls m t h =
     let asked : (Plan.knows (plan_of ls m) (pair_of t) ≡ true)
     × (can_be_asked m.held (shape_of (plan_of ls m) (pair_of t)) t ≡ true) =
     and_parts (Plan.knows (plan_of ls m) (pair_of t)) _ w.asked in
-    let can : can_be_asked m.held (cond (member_holds m (record_of t)) (Some (count ls (pair_of t))) None) t ≡ true =
+    let can : can_be_asked m.held (cond (member_holds m (record_of t)) (Some (shape_at ls (pair_of t))) None) t ≡ true =
     subst (λ (s : Option Shape). can_be_asked m.held s t ≡ true) (told-at ls m.held (pair_of t)) asked.1 in
-    let both : (t.part ≤ count ls (pair_of t)) × ((t.part ≡ 0) ⊎ (member_holds m (record_of t) ≡ true)) =
+    let both : (t.part ≤ count ls (pair_of t)) × ((t.part ≡ 0) ⊎ IsListedIn ls m t) =
     told (member_holds m (record_of t)) refl can in
     record {
       known = known_from m.known (pair_of t) asked.0;
@@ -113,18 +120,23 @@ wanted_parts ls m t h =
       not_hidden = w.not_hidden;
     } where
       told : (b : Bool) → member_holds m (record_of t) ≡ b
-          → can_be_asked m.held (cond b (Some (count ls (pair_of t))) None) t ≡ true
-          → (t.part ≤ count ls (pair_of t)) × ((t.part ≡ 0) ⊎ (member_holds m (record_of t) ≡ true))
+          → can_be_asked m.held (cond b (Some (shape_at ls (pair_of t))) None) t ≡ true
+          → (t.part ≤ count ls (pair_of t)) × ((t.part ≡ 0) ⊎ IsListedIn ls m t)
       told true e c = elim (or_cases (t.part == 0) _ c) [
         | inl z ↦ let n : t.part ≡ 0 = eqb-true t.part 0 z in (omega (arith, n), inl n)
         | inr r ↦
-            (leb-true t.part (count ls (pair_of t)) (and_parts (nat_le t.part (count ls (pair_of t))) _ r).0, inr e)
+            let both : (nat_le t.part (count ls (pair_of t)) ≡ true)
+            × (member_holds m (parent (shape_at ls (pair_of t)) t) ≡ true) =
+            and_parts (nat_le t.part (count ls (pair_of t))) _ r in (
+              leb-true t.part (count ls (pair_of t)) both.0,
+              inr (record { with_record = e; with_parent = both.1 }),
+            )
       ]
       told false e c = let n : t.part ≡ 0 = eqb-true t.part 0 c in (omega (arith, n), inl n)
 
 pub wanted_from : (ls : Logs) (m : Member) (t : Part) → IsWanted ls m t → is_wanted (plan_of ls m) t ≡ true
 wanted_from ls m t w =
-    let can : can_be_asked m.held (cond (member_holds m (record_of t)) (Some (count ls (pair_of t))) None) t ≡ true =
+    let can : can_be_asked m.held (cond (member_holds m (record_of t)) (Some (shape_at ls (pair_of t))) None) t ≡ true =
     asks (member_holds m (record_of t)) refl w.with_record in
     Changes.wanted_from (plan_of ls m) t (record {
       asked =
@@ -133,13 +145,14 @@ wanted_from ls m t w =
       not_held = w.not_held;
       not_hidden = w.not_hidden;
     }) where
-      asks : (b : Bool) → member_holds m (record_of t) ≡ b → (t.part ≡ 0) ⊎ (member_holds m (record_of t) ≡ true)
-          → can_be_asked m.held (cond b (Some (count ls (pair_of t))) None) t ≡ true
+      asks : (b : Bool) → member_holds m (record_of t) ≡ b → (t.part ≡ 0) ⊎ IsListedIn ls m t
+          → can_be_asked m.held (cond b (Some (shape_at ls (pair_of t))) None) t ≡ true
       asks true e h = elim h [
         | inl z ↦ or_left (t.part == 0) _ (eq-eqb t.part 0 z)
         | inr r ↦
             or_right (t.part == 0) _
-            (and_from (nat_le t.part (count ls (pair_of t))) _ (le-leb t.part (count ls (pair_of t)) w.counted) r)
+            (and_from (nat_le t.part (count ls (pair_of t))) _ (le-leb t.part (count ls (pair_of t)) w.counted)
+            r.with_parent)
       ]
       asks false e (inl z) = eq-eqb t.part 0 z
-      asks false e (inr r) = absurd (true≢false (sym r ∙ e))
+      asks false e (inr r) = absurd (true≢false (sym r.with_record ∙ e))

@@ -1,26 +1,29 @@
 -- What a settle keeps and gives.
 use Rattle.std.proofs.Common.{◌≡◌, inl, inr, ℕ, suc, zero, ◌+◌, ◌≤◌, ◌<◌, max, true, false, not, ◌&&◌, List, [], ◌∷◌}
 use Rattle.std.proofs.Common.{map, length, get_or, replicate, refl, sym, ap, ◌∙◌, subst, arith, Option, None}
-use Rattle.std.proofs.lemmas.Bool.{true≢false, and_parts, and_from, or_right, or_left, cases_Bool, not-true}
+use Rattle.std.proofs.lemmas.Bool.{true≢false, and_parts, and_from, or_right, or_left, or_cases, cases_Bool, not-true}
 use Rattle.std.proofs.lemmas.Bool.{not_from_false, leb-true, le-leb}
 use Rattle.std.proofs.lemmas.List.{length-map, get_or-map}
 use Rattle.std.specs.Prelude.{nat_le}
 use Rattle.repo_plan.specs.declared.part.Part.{Part}
 use Rattle.sorted_lists.specs.SortedList.{contains}
-use Rattle.repo_plan.specs.Parts.{Pair, pair_cmp, pair_of, part_of, record_of}
+use Rattle.repo_plan.specs.Parts.{Pair, pair_cmp, pair_of, part_of, record_of, parent, parts_behind}
 use Rattle.repo_plan.specs.Plan.{no_claims}
 use Rattle.sorted_lists.proofs.Sets.{In, in_filter, in_flat_map, in_map, from_map}
 use Rattle.svs_vector.specs.Vectors.{join, join_all}
 use Rattle.svs_vector.proofs.JoinLemmas.{join-at, length-join, join-[]}
-use Rattle.repo_object.specs.Objects.{NamedContents}
+use Rattle.repo_object.specs.Objects.{Post, contents_of, shape_in}
 use Rattle.group_model.specs.Publications.{Logs, Publication, pair_in, parts_in, published, all_parts, published_entry}
-use Rattle.group_model.specs.Publications.{join_of, last_of, count}
+use Rattle.group_model.specs.Publications.{join_of, last_of, count, shape_at, post_at}
 use Rattle.group_model.specs.Member.{Member, member_holds, member_hides, holds_all, catalogue}
 use Rattle.group_model.specs.World.{Outside, World, no_member, member, logs, logs_of, someone_holds}
 use Rattle.group_model.specs.Steps.{settled_vector, settled_member, comes_to, new_parts, after_gathering, reset_each}
 use Rattle.group_model.specs.Steps.{after_settle}
-use Rattle.group_model.specs.Sound.{IsSoundGroup, IsSoundMember, TellsNoMore}
-use Rattle.group_model.proofs.Lists.{from_filter, filter_whole, all_in, in_at, at_in, rises_insert_keys}
+use Rattle.group_model.proofs.OneMember.{listed_whole}
+use Rattle.group_model.specs.Sound.{IsSoundGroup, IsSoundMember, IsPublishedPart, TellsNoMore}
+use Rattle.group_model.proofs.Lists.{from_filter, all_in, in_at, at_in, rises_insert_keys}
+use Rattle.group_model.proofs.Parents.{parent_within}
+use Rattle.group_model.proofs.Among.{in_all_parts}
 use Rattle.group_model.proofs.Parts.{IsIn, in_published, publisher_within, IsPartOf, from_parts_in, from_all_parts}
 use Rattle.group_model.proofs.Parts.{record_among}
 use Rattle.group_model.specs.Changes.{resets}
@@ -124,6 +127,24 @@ comes_from w m t h =
     (and_from (someone_holds w.members (record_of t)) (not (member_holds m t)) h.record_too
     (not_from_false (member_holds m t) h.fresh))))
 
+holder : (ms : List Member) (t : Part) → someone_holds ms t ≡ true → (m : Member) × In m ms × (member_holds m t ≡ true)
+holder [] t h = absurd (true≢false (sym h))
+holder (x ∷ xs) t h = elim (or_cases (member_holds x t) (someone_holds xs t) h) [
+  | inl a ↦ (x, inl refl, a)
+  | inr b ↦ let r : (m : Member) × In m xs × (member_holds m t ≡ true) = holder xs t b in (r.0, inr r.1, r.2)
+]
+
+-- who holds a part holds what lists it
+pub someone_lists : (w : World) → IsSoundGroup w → (t : Part) → someone_holds w.members t ≡ true
+    → someone_holds w.members (parent (shape_at (logs w) (pair_of t)) t) ≡ true
+someone_lists w s t h =
+    let r : (m : Member) × In m w.members × (member_holds m t ≡ true) = holder w.members t h in
+    let k : (k : ℕ) × (k < length w.members) × (r.0 ≡ get_or w.members k no_member) =
+    at_in w.members r.0 no_member r.1 in
+    someone w.members r.0 (parent (shape_at (logs w) (pair_of t)) t) r.1
+    (subst (λ (m : Member). member_holds m (parent (shape_at (logs w) (pair_of t)) t) ≡ true) (sym k.2)
+    ((s.members k.0 k.1).held t (subst (λ (m : Member). member_holds m t ≡ true) k.2 r.2)).with_parent)
+
 module _ (w : World) (s : IsSoundGroup w) (j : ℕ) (within : j < length w.members) where
   abbrev old : Member
   old = member w j
@@ -189,6 +210,24 @@ module _ (w : World) (s : IsSoundGroup w) (j : ℕ) (within : j < length w.membe
                 fresh = free;
               })
         ];
+    with_parent = λ t h o.
+        let r : In t (all_parts (logs w)) × ComesTo w old t = came t h o in
+        let listed : Part = parent (shape_at (logs w) (pair_of t)) t in
+        let there : IsPublishedPart (logs w) t = from_all_parts (logs w) t r.0 in
+        elim (cases_Bool (member_holds old listed)) [
+          | inl was ↦ keeps_held listed was
+          | inr free ↦
+              gets listed (in_all_parts (logs w) listed (record {
+                there = there.there;
+                counted = parent_within (length (contents_of (post_at (logs w) (pair_of t)))) t.part there.counted;
+              })) (record {
+                told = r.1.told;
+                not_hidden = r.1.not_hidden;
+                someones = someone_lists w s t r.1.someones;
+                record_too = r.1.record_too;
+                fresh = free;
+              })
+        ];
     not_hidden = λ t h o. (came t h o).1.not_hidden;
   }
 
@@ -238,11 +277,12 @@ module _ (w : World) (s : IsSoundGroup w) (j : ℕ) (within : j < length w.membe
       ] in
       all_in (member_holds new) (parts_in q) (λ t it.
       let p : IsPartOf t q = from_parts_in q t it in
-      let theirs_too : (x : ℕ) → x ≤ length q.object.contents → someone_holds w.members (part_of (pair_of t) x) ≡ true =
+      let theirs_too : (x : ℕ) → x ≤ parts_behind (shape_in q.post)
+      → someone_holds w.members (part_of (pair_of t) x) ≡ true =
       λ x le.
       someone w.members (member w q.publisher) (part_of (pair_of t) x) (in_at w.members q.publisher no_member publisher)
       (subst (λ (pair : Pair). member_holds (member w q.publisher) (part_of pair x) ≡ true) (sym p.pair)
-      (held x (subst (λ (o : NamedContents). x ≤ length o.contents) there.object le))) in
+      (held x (subst (λ (o : Post). x ≤ parts_behind (shape_in o)) there.post le))) in
       elim (cases_Bool (member_holds old t)) [
         | inl was ↦ keeps_held t was
         | inr free ↦ gets t (in_flat_map parts_in (published (logs w)) q t i it) (record {
@@ -296,7 +336,7 @@ catalogue_joined : (w : World) (j : ℕ) → IsSoundGroup w → j < length w.mem
     → catalogue (logs w) (settled_member w (member w j)) ≡ join_of (logs w)
 catalogue_joined w j s within clear =
     ap (map published_entry)
-    (filter_whole (holds_all (settled_member w (member w j))) (published (logs w)) (complete w s j within clear))
+    (listed_whole (settled_member w (member w j)) (published (logs w)) (complete w s j within clear))
 
 pub settle_joins : InSoundGroups JoinsInSettle
 settle_joins out w s clear j l =

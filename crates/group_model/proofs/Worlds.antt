@@ -17,8 +17,9 @@ use Rattle.repo_plan.proofs.Known.{contains-unclaimed}
 use Rattle.svs_sync.specs.declared.fired.Fired.{Fired}
 use Rattle.svs_sync.specs.declared.fired.Fired.TheVariants.{Early, Quiet, Send}
 use Rattle.svs_sync.specs.KeptVector.{steady_kept}
-use Rattle.repo_object.specs.Objects.{NamedContents}
-use Rattle.group_model.specs.Publications.{Logs, last_of, object_at, no_object}
+use Rattle.repo_object.specs.Objects.{Post, shape_in}
+use Rattle.repo_object.specs.Objects.Post.{Offers, Withdraws}
+use Rattle.group_model.specs.Publications.{Logs, last_of, post_at, no_post}
 use Rattle.repo_process.specs.Processes.{Process, BlockState, closed, object_of}
 use Rattle.repo_process.specs.Processes.BlockState.{Unknown, Already, Waiting, Whole}
 use Rattle.repo_command.specs.declared.command.Command.{Command}
@@ -47,12 +48,12 @@ use Rattle.group_model.proofs.Deletions.{sound_deletes, same_log_hides}
 use Rattle.group_model.proofs.Settles.{settle_each, sound_gathered, sound_settles, logs_settled, logs_gathered}
 use Rattle.group_model.proofs.Settles.{length_settled, member_settled, member_gathered, no_claim}
 
--- ---- a member changes, and its objects stay
+-- ---- a member changes, and what it published stays
 
 pub same_logs : (ms : List Member) (j : ℕ) (m : Member) → m.log ≡ (get_or ms j no_member).log
     → logs_of (set ms j m) ≡ logs_of ms
 same_logs [] j m e = refl
-same_logs (x ∷ xs) zero m e = ap (λ (l : List NamedContents). let ls : Logs = l ∷ logs_of xs in ls) e
+same_logs (x ∷ xs) zero m e = ap (λ (l : List Post). let ls : Logs = l ∷ logs_of xs in ls) e
 same_logs (x ∷ xs) (suc j) m e = ap (λ (ls : Logs). x.log ∷ ls) (same_logs xs j m e)
 
 abbrev Members : Logs → List Member → Type 0
@@ -115,7 +116,7 @@ sound_sync w j l s = record {
 
 -- ---- a publication
 
-last_at : (ms : List Member) (j : ℕ) (m : Member) (o : NamedContents) → m.log ≡ (get_or ms j no_member).log ++ o ∷ []
+pub last_at : (ms : List Member) (j : ℕ) (m : Member) (o : Post) → m.log ≡ (get_or ms j no_member).log ++ o ∷ []
     → (p : ℕ) → last_of (logs_of ms) p ≤ last_of (logs_of (set ms j m)) p
 last_at [] j m o e p = omega arith
 last_at (x ∷ xs) zero m o e zero =
@@ -124,7 +125,7 @@ last_at (x ∷ xs) zero m o e (suc p) = omega arith
 last_at (x ∷ xs) (suc j) m o e zero = omega arith
 last_at (x ∷ xs) (suc j) m o e (suc p) = last_at xs j m o e p
 
-last_other : (ms : List Member) (j : ℕ) (m : Member) (p : ℕ) → p ≢ j
+pub last_other : (ms : List Member) (j : ℕ) (m : Member) (p : ℕ) → p ≢ j
     → last_of (logs_of (set ms j m)) p ≡ last_of (logs_of ms) p
 last_other [] j m p d = refl
 last_other (x ∷ xs) zero m zero d = absurd (d refl)
@@ -132,31 +133,31 @@ last_other (x ∷ xs) zero m (suc p) d = refl
 last_other (x ∷ xs) (suc j) m zero d = refl
 last_other (x ∷ xs) (suc j) m (suc p) d = last_other xs j m p (λ e. d (ap suc e))
 
-last_own : (ms : List Member) (j : ℕ) (m : Member) → j < length ms → last_of (logs_of (set ms j m)) j ≡ length m.log
+pub last_own : (ms : List Member) (j : ℕ) (m : Member) → j < length ms → last_of (logs_of (set ms j m)) j ≡ length m.log
 last_own [] j m l = absurd (omega arith)
 last_own (x ∷ xs) zero m l = refl
 last_own (x ∷ xs) (suc j) m l = last_own xs j m (omega arith)
 
-object_kept : (ms : List Member) (j : ℕ) (m : Member) (o : NamedContents)
+pub post_kept : (ms : List Member) (j : ℕ) (m : Member) (o : Post)
     → m.log ≡ (get_or ms j no_member).log ++ o ∷ [] → (p n : ℕ) → 1 ≤ n → n ≤ last_of (logs_of ms) p
-    → object_at (logs_of (set ms j m)) (p, n) ≡ object_at (logs_of ms) (p, n)
-object_kept [] j m o e p n a b = refl
-object_kept (x ∷ xs) zero m o e zero n a b =
-    ap (λ (l : List NamedContents). get_or l (n - 1) no_object) e
-    ∙ get_or_append_left x.log (o ∷ []) no_object (n - 1) (omega arith)
-object_kept (x ∷ xs) zero m o e (suc p) n a b = refl
-object_kept (x ∷ xs) (suc j) m o e zero n a b = refl
-object_kept (x ∷ xs) (suc j) m o e (suc p) n a b = object_kept xs j m o e p n a b
+    → post_at (logs_of (set ms j m)) (p, n) ≡ post_at (logs_of ms) (p, n)
+post_kept [] j m o e p n a b = refl
+post_kept (x ∷ xs) zero m o e zero n a b =
+    ap (λ (l : List Post). get_or l (n - 1) no_post) e
+    ∙ get_or_append_left x.log (o ∷ []) no_post (n - 1) (omega arith)
+post_kept (x ∷ xs) zero m o e (suc p) n a b = refl
+post_kept (x ∷ xs) (suc j) m o e zero n a b = refl
+post_kept (x ∷ xs) (suc j) m o e (suc p) n a b = post_kept xs j m o e p n a b
 
-object_new : (ms : List Member) (j : ℕ) (m : Member) (o : NamedContents) → m.log ≡ (get_or ms j no_member).log ++ o ∷ []
-    → j < length ms → object_at (logs_of (set ms j m)) (j, last_of (logs_of ms) j + 1) ≡ o
-object_new [] j m o e l = absurd (omega arith)
-object_new (x ∷ xs) zero m o e l =
-    ap (λ (log : List NamedContents). get_or log (length x.log + 1 - 1) no_object) e
-    ∙ get_or_push x.log o no_object (length x.log + 1 - 1) (omega arith)
-object_new (x ∷ xs) (suc j) m o e l = object_new xs j m o e (omega arith)
+pub post_new : (ms : List Member) (j : ℕ) (m : Member) (o : Post) → m.log ≡ (get_or ms j no_member).log ++ o ∷ []
+    → j < length ms → post_at (logs_of (set ms j m)) (j, last_of (logs_of ms) j + 1) ≡ o
+post_new [] j m o e l = absurd (omega arith)
+post_new (x ∷ xs) zero m o e l =
+    ap (λ (log : List Post). get_or log (length x.log + 1 - 1) no_post) e
+    ∙ get_or_push x.log o no_post (length x.log + 1 - 1) (omega arith)
+post_new (x ∷ xs) (suc j) m o e l = post_new xs j m o e (omega arith)
 
-publishes_one : (ms : List Member) (j : ℕ) (m : Member) (o : NamedContents)
+publishes_one : (ms : List Member) (j : ℕ) (m : Member) (o : Post)
     → m.log ≡ (get_or ms j no_member).log ++ o ∷ [] → j < length ms → Publishes (logs_of ms) (logs_of (set ms j m)) j o
 publishes_one ms j m o e l =
     let own : last_of (logs_of ms) j ≡ length (get_or ms j no_member).log =
@@ -168,16 +169,16 @@ publishes_one ms j m o e l =
             ∙ length-set ms j m
             ∙ sym (length-map ms (λ (x : Member). x.log));
         last = last_at ms j m o e;
-        counts =
+        shapes =
             λ pair p.
-            ap (λ (x : NamedContents). length x.contents) (object_kept ms j m o e pair.0 pair.1 p.from_one p.to_last);
+            ap shape_in (post_kept ms j m o e pair.0 pair.1 p.from_one p.to_last);
       };
       one_more =
           last_own ms j m l ∙ ap length e ∙ length_push (get_or ms j no_member).log o ∙ ap (λ (n : ℕ). n + 1) (sym own);
-      counts = ap (λ (x : NamedContents). length x.contents) (object_new ms j m o e l);
+      shape = ap shape_in (post_new ms j m o e l);
     }
 
-pub sound_publish : (out : Outside) (w : World) (j : ℕ) (o : NamedContents) → j < length w.members → IsSoundGroup w
+pub sound_publish : (out : Outside) (w : World) (j : ℕ) (o : Post) → j < length w.members → IsSoundGroup w
     → IsSoundGroup (after_publish out w j o)
 sound_publish out w j o l s =
     let m : Member = publishes (drawn out w j) w.moment j o (member w j) in
@@ -411,7 +412,7 @@ sound_block out w j process Unknown l s = s
 sound_block out w j process Already l s = s
 sound_block out w j process (Waiting p) l s = sound_process w j process p l s
 sound_block out w j process (Whole p) l s =
-    sound_publish out (with_process_at w j process (closed p)) j (object_of p)
+    sound_publish out (with_process_at w j process (closed p)) j (Offers (object_of p))
     (subst (λ (n : ℕ). j < n) (sym (length-set w.members j _)) l) (sound_process w j process (closed p) l s)
 
 -- ---- any event
@@ -425,7 +426,8 @@ sent_within w k e =
 
 pub sound_after : (out : Outside) (w : World) (e : Event) → EventIsTaken out w e → IsSoundGroup w
     → IsSoundGroup (after_event out w e)
-sound_after out w (Event.Publish j o) h s = sound_publish out w j o h.named s
+sound_after out w (Event.Publish j o) h s = sound_publish out w j (Offers o) h.named s
+sound_after out w (Event.Withdraw j seq) h s = sound_publish out w j (Withdraws seq) h.named s
 sound_after out w (Event.Deliver k j) h s =
     let b : (1 ≤ k) × (k ≤ length w.sent) = sent_within w k h.taken in
     sound_deliver out w j (sent_at w k).vector (s.sent (k - 1) (omega (arith, b))) h.named s

@@ -5,10 +5,10 @@ use Rattle.std.specs.Ordering.{nat_cmp}
 use Rattle.ndn_name.specs.Names.{Component}
 use Rattle.repo_plan.specs.declared.part.Part.{Part}
 use Rattle.sorted_lists.specs.SortedList.{with_value}
-use Rattle.repo_plan.specs.Parts.{parts_of}
+use Rattle.repo_plan.specs.Parts.{parts_of, parts_behind}
 use Rattle.svs_vector.specs.Vectors.{join}
 use Rattle.svs_sync.specs.KeptVector.{steady_kept, hears_kept}
-use Rattle.repo_object.specs.Objects.{NamedContents}
+use Rattle.repo_object.specs.Objects.{Post, shape_in}
 use Rattle.repo_process.specs.Processes.{Process, starting}
 use Rattle.group_model.specs.Member.{Member, gains, insert_keys, member_without_claims}
 
@@ -16,14 +16,14 @@ use Rattle.group_model.specs.Member.{Member, gains, insert_keys, member_without_
 abbrev pub resets : (draw moment : ℕ) → Member → Member
 resets draw moment m = record m { machine = steady_kept moment draw m.machine }
 
--- The member, whose number is given, publishes an object under its next number and holds all its parts.
-abbrev pub publishes : (draw moment number : ℕ) → NamedContents → Member → Member
-publishes draw moment number o m =
+-- The member, whose number is given, publishes an object or a withdrawal under its next number and holds all its parts.
+abbrev pub publishes : (draw moment number : ℕ) → Post → Member → Member
+publishes draw moment number post m =
     let seq = length m.log + 1 in
     record m {
-      log = m.log ++ o ∷ [];
+      log = m.log ++ post ∷ [];
       known = slice_set m.known number seq;
-      held = insert_keys (parts_of (number, seq) (length o.contents)) m.held;
+      held = insert_keys (parts_of (number, seq) (parts_behind (shape_in post))) m.held;
       machine = steady_kept moment draw m.machine;
     }
 

@@ -9,7 +9,7 @@ use Rattle.repo_plan.specs.Parts.{part_cmp, part_of}
 use Rattle.repo_catalog.specs.declared.entry.Entry.{Entry}
 use Rattle.svs_sync.specs.declared.mode.Mode.TheVariants.{Steady, Suppressed}
 use Rattle.repo_object.specs.Objects.{NamedContents}
-use Rattle.group_model.specs.Publications.{Logs, no_object, join_of}
+use Rattle.group_model.specs.Publications.{Logs, no_post, join_of}
 use Rattle.repo_command.specs.Answers.{code_alone}
 use Rattle.repo_command.specs.declared.command.Command.TheVariants.{Insert, Check, Delete}
 use Rattle.group_model.specs.Events.{Came, Found, Event}
@@ -326,10 +326,10 @@ OrderIsForeign = Refuses plain_outside 2 ((Issue 0 0 (Check 1), Commanded (code_
     ∷ []
     )
 
--- A member that has published so many objects.
+-- A member that has published so often.
 abbrev pub after_so_many : ℕ → World
 after_so_many n = record (opening_world plain_outside 1) {
-  members = record no_member { log = replicate n no_object } ∷ [];
+  members = record no_member { log = replicate n no_post } ∷ [];
 }
 
 -- A member publishes under the number 65,535, and under none after it.

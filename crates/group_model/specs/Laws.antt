@@ -20,7 +20,7 @@ NothingHidden w = (j : ℕ) → j < length w.members → (member w j).hidden ≡
 abbrev pub NothingWanted : World → Type 0
 NothingWanted w = (j : ℕ) → j < length w.members → wanted (plan_of (logs w) (member w j)) ≡ []
 
--- Every member's catalogue lists all publications.
+-- Every member's catalogue is the join of all publications.
 abbrev pub AllJoined : World → Type 0
 AllJoined w = (j : ℕ) → j < length w.members → catalogue_at w j ≡ join_of (logs w)
 
@@ -33,6 +33,7 @@ IsNotWhole _ = Unit {0}
 -- The event publishes nothing.
 abbrev pub IsQuiet : World → Event → Type 0
 IsQuiet w (Event.Publish j o) = ⊥
+IsQuiet w (Event.Withdraw j seq) = ⊥
 IsQuiet w (Event.Block j process index content) = IsNotWhole (block_at w j process index content)
 IsQuiet w _ = Unit {0}
 
@@ -70,6 +71,6 @@ JoinsWhereAllAreTold out w = (es : List Event) → EventsAreTaken out w es → T
 abbrev pub PartsRise : Type 0
 PartsRise = (logs : Logs) → Rises part_cmp (all_parts logs)
 
--- They are the records and the segments of what was published.
+-- They are the records, the index packets and the segments of what was published.
 abbrev pub PartsAreThose : Type 0
 PartsAreThose = (logs : Logs) (t : Part) → (contains part_cmp (all_parts logs) t ≡ true) ↔ IsPublishedPart logs t

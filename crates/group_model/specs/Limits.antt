@@ -1,9 +1,10 @@
 -- How far a group's counts can go in a run of at most 100,000 events.
-use Rattle.std.specs.Prelude.{ℕ, ◌+◌, ◌*◌, ◌≤◌, ◌<◌, ◌≡◌, List, [], ◌∷◌, length, Some, Ok, slice_index_or}
+use Rattle.std.specs.Prelude.{ℕ, ◌+◌, ◌*◌, ◌^◌, ◌≤◌, ◌<◌, ◌≡◌, List, [], ◌∷◌, length, Some, Ok, slice_index_or}
 use Rattle.std.specs.Ordering.{nat_cmp}
 use Rattle.repo_plan.specs.declared.part.Part.{Part}
 use Rattle.sorted_lists.specs.SortedList.{value_of}
-use Rattle.group_model.specs.Publications.{no_object, published, all_parts}
+use Rattle.repo_object.specs.Objects.{contents_of}
+use Rattle.group_model.specs.Publications.{no_post, published, all_parts}
 use Rattle.repo_process.specs.Processes.{Process, indexes}
 use Rattle.repo_command.specs.declared.command.Command.{Command}
 use Rattle.repo_command.specs.declared.command.Command.TheVariants.{Insert}
@@ -21,10 +22,10 @@ abbrev pub IsShortInsertion : Command → Type 0
 IsShortInsertion (Insert name first last) = last < first + 200
 IsShortInsertion _ = Unit {0}
 
--- An object has at most 200 segments, the moment moves by at most 1,000,000,000 milliseconds, and a fetch tries each
+-- An object has at most 20,000 segments, the moment moves by at most 1,000,000,000 milliseconds, and a fetch tries each
 -- part 16 times at most.
 abbrev pub IsInRange : Event → Type 0
-IsInRange (Event.Publish m o) = length o.contents ≤ 200
+IsInRange (Event.Publish m o) = length o.contents ≤ 20000
 IsInRange (Event.Advance ms) = ms ≤ 1000000000
 IsInRange (Event.Fetch m tries loss) = tries ≤ 16
 IsInRange (Event.Order m (Ok order)) = IsShortInsertion order.1
@@ -46,16 +47,16 @@ pub record IsMemberWithin (steps : ℕ) (m : Member) : Type 0 where
 pub record IsTallyWithin (steps : ℕ) (t : Tally) : Type 0 where
   pub delivered : t.delivered ≤ steps * 240
   pub attempts : t.attempts ≤ steps * 65536
-  pub parts : t.parts ≤ steps * 321600000
-  pub octets : t.octets ≤ steps * 2830080000000
+  pub parts : t.parts ≤ steps * steps * 160808
+  pub octets : t.octets ≤ steps * steps * 1415110400
 
 -- After so many events the moment, what was sent and what was published are within these numbers, and each object has
--- at most 200 segments.
+-- at most 20,000 segments.
 pub record IsWithinSteps (steps : ℕ) (w : World) : Type 0 where
   pub moment : w.moment ≤ steps * 1000000000
   pub sent : length w.sent ≤ steps * 16
   pub published : length (published (logs w)) ≤ steps
-  pub segments : (p k : ℕ) → length (slice_index_or (slice_index_or (logs w) p []) k no_object).contents ≤ 200
+  pub segments : (p k : ℕ) → length (contents_of (slice_index_or (slice_index_or (logs w) p []) k no_post)) ≤ 20000
   pub members : (j : ℕ) → IsMemberWithin steps (member w j)
   pub tally : IsTallyWithin steps w.tally
 
@@ -98,6 +99,17 @@ ReachedRunsStayWithin = (out : Outside) (n : ℕ) (es : List Event) → n ≤ 16
     → EventsAreTaken out (opening_world out n) es → AreInRange es → AreSmall out (opening_world out n) es
     → IsWithinSteps (length es) (after_events out (opening_world out n) es)
 
--- Within these counts there are at most 20,100,000 parts.
+-- Within these counts there are at most 2,010,100,000 parts.
 abbrev pub PartsStayFew : Type 0
-PartsStayFew = (steps : ℕ) (w : World) → steps ≤ 100000 → IsWithinSteps steps w → length (all_parts (logs w)) ≤ 20100000
+PartsStayFew = (steps : ℕ) (w : World) → steps ≤ 100000 → IsWithinSteps steps w
+    → length (all_parts (logs w)) ≤ 2010100000
+
+-- So 64 bits hold each tally.
+pub record FitsIn64Bits (t : Tally) : Type 0 where
+  pub delivered : t.delivered < 2 ^ 64
+  pub attempts : t.attempts < 2 ^ 64
+  pub parts : t.parts < 2 ^ 64
+  pub octets : t.octets < 2 ^ 64
+
+abbrev pub TalliesFit : Type 0
+TalliesFit = (steps : ℕ) (t : Tally) → steps ≤ 100000 → IsTallyWithin steps t → FitsIn64Bits t

@@ -1,6 +1,5 @@
 -- The suppression machines of a group's members, over the lists of vectors that they heard.
 use Rattle.std.specs.Prelude.{ℕ, ◌≡◌, ◌<◌, List, [], ◌∷◌, ◌++◌, length, Option, Some, None, ◌==◌, if◌then◌else◌}
-use Rattle.svs_sync.specs.Suppression
 use Rattle.svs_sync.specs.Suppression.{periodic, fires}
 use Rattle.svs_sync.specs.Suppression.SyncEvent.{published, heard, fired, reset}
 use Rattle.svs_sync.specs.KeptVector.{kept}
@@ -10,6 +9,7 @@ use Rattle.group_model.specs.Events.{SyncInterest, Event}
 use Rattle.group_model.specs.World.{Outside, World, member, sent_at, opening_world}
 use Rattle.group_model.specs.Steps.{drawn, timer_at, tells_too_much, block_at, after_event, after_events}
 use Rattle.group_model.specs.Refusals.{EventsAreTaken}
+use Rattle.svs_sync.specs.Suppression
 
 -- What befalls the machine of member j where something befalls that of member i.
 abbrev pub only_at : (i j : ℕ) → Suppression.SyncEvent → List Suppression.SyncEvent
@@ -29,6 +29,7 @@ befalls_block out w i j _ = []
 -- What befalls the machine of a member in an event of the group.
 abbrev pub befalls : Outside → World → ℕ → Event → List Suppression.SyncEvent
 befalls out w j (Event.Publish i o) = only_at i j (published w.moment (drawn out w i))
+befalls out w j (Event.Withdraw i seq) = only_at i j (published w.moment (drawn out w i))
 befalls out w j (Event.Deliver k i) = hears_of out w i j (sent_at w k).vector
 befalls out w j (Event.Fire i) = only_at i j (fired w.moment (member w i).known (drawn out w i))
 befalls out w j (Event.Restart i) = only_at i j (reset w.moment (drawn out w i))

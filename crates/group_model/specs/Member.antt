@@ -1,20 +1,23 @@
 -- What one member of a group has published, knows, holds, hides and claims.
-use Rattle.std.specs.Prelude.{ℕ, ◌+◌, Bool, not, List, [], ◌∷◌, map, filter, Option, unwrap_or, ◌==◌, if◌then◌else◌}
-use Rattle.std.specs.List.{list_all}
+use Rattle.std.specs.Prelude.{ℕ, ◌+◌, Bool, not, List, [], ◌∷◌, map, filter, Option, unwrap_or, ◌==◌, ◌&&◌}
+use Rattle.std.specs.Prelude.{if◌then◌else◌}
+use Rattle.std.specs.List.{list_all, list_any}
 use Rattle.ndn_name.specs.Names.{Component}
 use Rattle.repo_plan.specs.declared.part.Part.{Part}
 use Rattle.sorted_lists.specs.SortedList.{contains, insert_key, value_of, with_value}
-use Rattle.repo_plan.specs.Parts.{Pair, Shape, pair_cmp, part_cmp, pair_of}
+use Rattle.repo_plan.specs.Parts.{Pair, pair_cmp, part_cmp, pair_of, part_of}
+use Rattle.repo_plan.specs.declared.shape.Shape.{Shape}
 use Rattle.repo_plan.specs.Plan.{PlanState, no_claims, is_in}
 use Rattle.svs_sync.specs.KeptVector.{Keeper}
-use Rattle.repo_object.specs.Objects.{NamedContents}
+use Rattle.repo_object.specs.Objects.{Post}
 use Rattle.repo_catalog.specs.declared.entry.Entry.{Entry}
-use Rattle.group_model.specs.Publications.{Logs, Publication, count, pair_in, parts_in, published, published_entry}
+use Rattle.group_model.specs.Publications.{Logs, Publication, shape_at, pair_in, parts_in, published, published_entry}
+use Rattle.group_model.specs.Publications.{is_object, withdraws, object_in}
 use Rattle.repo_process.specs.Processes.{Process}
 use Rattle.group_model.specs.Commands.{is_equal_name}
 
 pub record Member : Type 0 where
-  pub log : List NamedContents  -- what it published, in order
+  pub log : List Post  -- what it published, in order
   pub known : List ℕ  -- its vector: one number a member
   pub held : List Part  -- in order
   pub hidden : List Pair  -- what it deleted, in order
@@ -32,9 +35,9 @@ member_hides m pair = contains pair_cmp m.hidden pair
 
 -- ---- wanted parts
 
--- What the held records tell: how many segments their publications have.
+-- What the held records tell of the parts of their publications.
 abbrev pub told_by : Logs → List Part → List (Pair × Shape)
-told_by logs held = map (λ t. (pair_of t, count logs (pair_of t))) (filter (λ t. t.part == 0) held)
+told_by logs held = map (λ t. (pair_of t, shape_at logs (pair_of t))) (filter (λ t. t.part == 0) held)
 
 -- The fetch plan of a member. What it wants and what its fetchers claim is read there.
 abbrev pub plan_of : Logs → Member → PlanState
@@ -54,16 +57,25 @@ plan_of logs m = record {
 abbrev pub holds_all : Member → Publication → Bool
 holds_all m p = list_all (member_holds m) (parts_in p)
 
--- The publications that are wholly held, in order.
+-- The record of a withdrawal of the publication is held.
+abbrev pub knows_withdrawn : List Publication → Member → Pair → Bool
+knows_withdrawn publications m pair =
+    list_any (λ q. withdraws pair q && member_holds m (part_of (pair_in q) 0)) publications
+
+-- An object that is wholly held, and of which no withdrawal is known.
+abbrev pub is_listed : List Publication → Member → Publication → Bool
+is_listed publications m p = is_object p && (holds_all m p && not (knows_withdrawn publications m (pair_in p)))
+
+-- Those, in order.
 abbrev pub catalogued : Logs → Member → List Publication
-catalogued logs m = filter (holds_all m) (published logs)
+catalogued logs m = filter (is_listed (published logs) m) (published logs)
 
 abbrev pub catalogue : Logs → Member → List Entry
 catalogue logs m = map published_entry (catalogued logs m)
 
 -- Those of one object name.
 abbrev pub catalogued_under : Logs → Member → List Component → List Publication
-catalogued_under logs m name = filter (λ p. is_equal_name p.object.name name) (catalogued logs m)
+catalogued_under logs m name = filter (λ p. is_equal_name (object_in p).name name) (catalogued logs m)
 
 -- ---- changes
 

@@ -7,6 +7,7 @@ use Rattle.repo_plan.specs.declared.part.Part.{Part}
 use Rattle.repo_process.specs.Processes.{BlockState}
 use Rattle.repo_process.specs.Processes.BlockState.{Whole}
 use Rattle.repo_command.specs.declared.command.Command.{Command}
+use Rattle.group_model.specs.Publications.{has_unwithdrawn}
 use Rattle.group_model.specs.Commands.{is_equal_command}
 use Rattle.group_model.specs.Events.{SyncInterest, Came, Event}
 use Rattle.group_model.specs.Events.Came.{Another}
@@ -19,6 +20,7 @@ pub data Refusal : Type 0 where
   FetcherIdle : Refusal
   Foreign : Refusal
   NumbersSpent : Refusal
+  NoSuchNumber : Refusal
 
 -- The number that a report has for a refusal; what is foreign ends a report without one.
 abbrev pub reported_number : Refusal → Option ℕ
@@ -26,6 +28,7 @@ reported_number NoSuchPacket = Some 5
 reported_number FetcherBusy = Some 6
 reported_number FetcherIdle = Some 7
 reported_number NumbersSpent = Some 8
+reported_number NoSuchNumber = Some 14
 reported_number Foreign = None
 
 -- ---- foreign octets
@@ -73,12 +76,18 @@ if_unissued w j (Err code) = None
 abbrev pub if_spent : World → ℕ → Option Refusal
 if_spent w j = unless (not (nat_le 65535 (length (member w j).log))) Refusal.NumbersSpent
 
+-- A member withdraws an object of its own that it has not withdrawn.
+abbrev pub if_no_object_or_spent : World → ℕ → ℕ → Option Refusal
+if_no_object_or_spent w j seq =
+    if has_unwithdrawn (member w j).log seq then if_spent w j else Some Refusal.NoSuchNumber
+
 abbrev pub if_whole : World → ℕ → BlockState → Option Refusal
 if_whole w j (Whole p) = if_spent w j
 if_whole w j _ = None
 
 abbrev pub refusal : Outside → World → Event → Option Refusal
 refusal out w (Event.Publish j o) = if_spent w j
+refusal out w (Event.Withdraw j seq) = if_no_object_or_spent w j seq
 refusal out w (Event.Deliver k j) = unless_sent w k
 refusal out w (Event.Sync k) = unless_sent w k
 refusal out w (Event.Claim j f) = if_busy (claim_at w j f)
@@ -99,6 +108,7 @@ IsFetcherOf w j f = (j < length w.members) × (1 ≤ f) × (f ≤ 16)
 -- The members and fetchers that an event names are there.
 abbrev pub NamesThose : World → Event → Type 0
 NamesThose w (Event.Publish j o) = j < length w.members
+NamesThose w (Event.Withdraw j seq) = j < length w.members
 NamesThose w (Event.Deliver k j) = j < length w.members
 NamesThose w (Event.Sync k) = Unit {0}
 NamesThose w (Event.Advance ms) = Unit {0}

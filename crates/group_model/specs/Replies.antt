@@ -2,13 +2,13 @@
 use Rattle.std.specs.Prelude.{ℕ, Bool, List, Option, Some, None, Result, Ok, Err, if◌then◌else◌}
 use Rattle.repo_plan.specs.declared.part.Part.{Part}
 use Rattle.svs_sync.specs.declared.fired.Fired.{Fired}
-use Rattle.svs_sync.specs.declared.fired.Fired.TheVariants as fired
 use Rattle.svs_sync.specs.declared.mode.Mode.{Mode}
 use Rattle.repo_catalog.specs.declared.entry.Entry.{Entry}
 use Rattle.repo_command.specs.declared.answer.Answer.{Answer}
 use Rattle.repo_process.specs.Processes.{BlockState}
 use Rattle.repo_process.specs.Processes.BlockState.{Unknown, Already, Waiting, Whole}
 use Rattle.group_model.specs.Events.{SyncInterest, Found, Event}
+use Rattle.svs_sync.specs.declared.fired.Fired.TheVariants as fired
 
 -- What a catalogue comes to: entries, segments and octets.
 pub record CatalogueTotals : Type 0 where
@@ -20,6 +20,11 @@ pub record CatalogueTotals : Type 0 where
 pub record PublishOutcome : Type 0 where
   pub seq : ℕ
   pub segments : ℕ
+  pub sync : ℕ
+
+-- A withdrawal: its number, and that of the sync Interest that tells of it.
+pub record WithdrawOutcome : Type 0 where
+  pub seq : ℕ
   pub sync : ℕ
 
 -- What a timer says, and the number of the next sync Interest.
@@ -58,6 +63,7 @@ HearOutcome (Some sync) = Result Mode (ℕ × ℕ)
 -- What is told of each event.
 abbrev pub OutcomeOf : Event → Type 0
 OutcomeOf (Event.Publish j o) = PublishOutcome
+OutcomeOf (Event.Withdraw j seq) = WithdrawOutcome
 OutcomeOf (Event.Deliver k j) = Mode
 OutcomeOf (Event.Sync k) = SyncInterest
 OutcomeOf (Event.Advance ms) = ℕ
@@ -84,6 +90,7 @@ OutcomeOf Event.Traffic = TrafficOutcome
 
 pub data Reply : Type 0 where
   Published : (seq segments sync : ℕ) → Reply
+  Withdrawn : (seq withdrawn sync : ℕ) → Reply
   Delivered : (mode : Mode) → Reply
   Synced : (sync : SyncInterest) → Reply
   Advanced : (moment : ℕ) → Reply
@@ -133,6 +140,7 @@ block_reply seq sync (Whole p) = Reply.BlockPublished seq sync
 
 abbrev pub reply_of : (e : Event) → OutcomeOf e → Reply
 reply_of (Event.Publish j o) told = Reply.Published told.seq told.segments told.sync
+reply_of (Event.Withdraw j seq) told = Reply.Withdrawn told.seq seq told.sync
 reply_of (Event.Deliver k j) mode = Reply.Delivered mode
 reply_of (Event.Sync k) sync = Reply.Synced sync
 reply_of (Event.Advance ms) moment = Reply.Advanced moment

@@ -3,9 +3,9 @@ use Rattle.std.specs.Prelude.{ℕ, ◌≤◌, ◌<◌, ◌≡◌, ◌⊎◌, tru
 use Rattle.std.specs.Prelude.{slice_index_or}
 use Rattle.repo_plan.specs.declared.part.Part.{Part}
 use Rattle.sorted_lists.specs.SortedList.{contains, keys, value_of, Rises}
-use Rattle.repo_plan.specs.Parts.{Pair, pair_cmp, part_cmp, pair_of, part_of, record_of}
+use Rattle.repo_plan.specs.Parts.{Pair, pair_cmp, part_cmp, pair_of, part_of, record_of, parent}
 use Rattle.repo_plan.specs.Plan.{is_wanted}
-use Rattle.group_model.specs.Publications.{Logs, last_of, count}
+use Rattle.group_model.specs.Publications.{Logs, last_of, count, shape_at}
 use Rattle.group_model.specs.Member.{Member, member_holds, member_hides, plan_of}
 use Rattle.group_model.specs.World.{World, no_sync, member, logs}
 
@@ -14,7 +14,7 @@ pub record IsPublished (logs : Logs) (pair : Pair) : Type 0 where
   pub from_one : 1 ≤ pair.1
   pub to_last : pair.1 ≤ last_of logs pair.0
 
--- There is such a part: it is the record or a segment of a publication that there is.
+-- There is such a part: it is the record, an index packet or a segment of a publication that there is.
 pub record IsPublishedPart (logs : Logs) (t : Part) : Type 0 where
   pub there : IsPublished logs (pair_of t)
   pub counted : t.part ≤ count logs (pair_of t)
@@ -45,11 +45,12 @@ pub record IsMemberInOrder (m : Member) : Type 0 where
   pub attempts : Rises part_cmp (keys m.attempts)
   pub tried : (t : Part) (n : ℕ) → value_of part_cmp m.attempts t ≡ Some n → 0 < n
 
--- A held part is one of a known publication, whose record is held too.
+-- A held part is one of a known publication, whose record is held too, and so is the part that lists it.
 pub record IsHeldSoundly (logs : Logs) (vector : List ℕ) (held : List Part) (t : Part) : Type 0 where
   pub known : IsKnown vector (pair_of t)
   pub counted : t.part ≤ count logs (pair_of t)
   pub with_record : contains part_cmp held (record_of t) ≡ true
+  pub with_parent : contains part_cmp held (parent (shape_at logs (pair_of t)) t) ≡ true
 
 -- A hidden publication is known, and no part of it is held.
 pub record IsHiddenSoundly (m : Member) (pair : Pair) : Type 0 where

@@ -14,7 +14,8 @@ use Rattle.svs_sync.specs.declared.fired.Fired.TheVariants.{Early, Quiet, Send}
 use Rattle.svs_sync.specs.declared.mode.Mode.{Mode}
 use Rattle.svs_sync.specs.Suppression.{mode_of}
 use Rattle.svs_sync.specs.KeptVector.{fires_kept}
-use Rattle.repo_object.specs.Objects.{NamedContents}
+use Rattle.repo_object.specs.Objects.{Post}
+use Rattle.repo_object.specs.Objects.Post.{Offers, Withdraws}
 use Rattle.repo_catalog.specs.declared.entry.Entry.{Entry}
 use Rattle.group_model.specs.Publications.{Logs, all_parts}
 use Rattle.repo_process.specs.Processes.{Process, BlockState, present, object_of, closed, block_state}
@@ -213,14 +214,14 @@ module _ (out : Outside) where
   abbrev pub drawn : World → ℕ → ℕ
   drawn w j = out.draw j (member w j).machine.draws
 
-  abbrev pub after_publish : World → ℕ → NamedContents → World
-  after_publish w j o = with_sync (with_member w j (publishes (drawn w j) w.moment j o (member w j))) j
+  abbrev pub after_publish : World → ℕ → Post → World
+  after_publish w j post = with_sync (with_member w j (publishes (drawn w j) w.moment j post (member w j))) j
 
   abbrev pub after_block : World → ℕ → ℕ → BlockState → World
   after_block w j process Unknown = w
   after_block w j process Already = w
   after_block w j process (Waiting p) = with_process_at w j process p
-  after_block w j process (Whole p) = after_publish (with_process_at w j process (closed p)) j (object_of p)
+  after_block w j process (Whole p) = after_publish (with_process_at w j process (closed p)) j (Offers (object_of p))
 
   abbrev pub after_deliver : World → ℕ → List ℕ → World
   after_deliver w j told = record (with_member w j (learns (drawn w j) w.moment told (member w j))) {
@@ -278,7 +279,8 @@ module _ (out : Outside) where
   -- ---- any event
 
   abbrev pub after_event : World → Event → World
-  after_event w (Event.Publish j o) = after_publish w j o
+  after_event w (Event.Publish j o) = after_publish w j (Offers o)
+  after_event w (Event.Withdraw j seq) = after_publish w j (Withdraws seq)
   after_event w (Event.Deliver k j) = after_deliver w j (sent_at w k).vector
   after_event w (Event.Sync k) = w
   after_event w (Event.Advance ms) = record w { moment = w.moment + ms }
@@ -338,6 +340,7 @@ hear_outcome out w j (Some sync) =
 abbrev pub outcome : Outside → World → (e : Event) → OutcomeOf e
 outcome out w (Event.Publish j o) =
     record { seq = next_seq_at w j; segments = length o.contents; sync = next_sync w }
+outcome out w (Event.Withdraw j seq) = record { seq = next_seq_at w j; sync = next_sync w }
 outcome out w (Event.Deliver k j) = mode_at (after_deliver out w j (sent_at w k).vector) j
 outcome out w (Event.Sync k) = sent_at w k
 outcome out w (Event.Advance ms) = w.moment + ms

@@ -4,6 +4,9 @@ ghost use Rattle.group_model.specs.Examples.{Fetches, ThirdAttempts, FromOutside
 ghost use Rattle.group_model.specs.Examples.{Blocks, DeletedBefore, ToldOfAll, JoinOfThem};
 ghost use Rattle.group_model.specs.Examples.{UnsentIsRefused, BusyIsRefused, IdleIsRefused, HearIsForeign};
 ghost use Rattle.group_model.specs.Examples.{FeedIsForeign, AnswerIsForeign, OrderIsForeign, SpentIsRefused};
+ghost use Rattle.group_model.specs.KindExamples.{WithdrawnOnce, WithdrawnBefore, WithdrawnAfter, DeletedAndWithdrawn};
+ghost use Rattle.group_model.specs.KindExamples.{WithdrawingIsSpent, JoinLessWithdrawn, PartsOfLongObjects};
+ghost use Rattle.group_model.specs.KindExamples.{BehindIndexPackets, FetchesInTurn};
 
 /// What small groups reply to events that they take, event by event, computed from the definitions.
 pub fn groups_reply_so()
@@ -26,6 +29,13 @@ pub fn groups_reply_so()
     ensures deleted_before { DeletedBefore }
     ensures told_of_all { ToldOfAll }
     ensures join_of_them { JoinOfThem }
+    ensures withdrawn_before { WithdrawnBefore }
+    ensures withdrawn_after { WithdrawnAfter }
+    ensures deleted_and_withdrawn { DeletedAndWithdrawn }
+    ensures join_less_withdrawn { JoinLessWithdrawn }
+    ensures parts_of_long_objects { PartsOfLongObjects }
+    ensures behind_index_packets { BehindIndexPackets }
+    ensures fetches_in_turn { FetchesInTurn }
 {}
 
 /// Which events small groups refuse, computed from the definitions.
@@ -38,4 +48,6 @@ pub fn groups_refuse_so()
     ensures answer { AnswerIsForeign }
     ensures order { OrderIsForeign }
     ensures spent { SpentIsRefused }
+    ensures withdrawn_once { WithdrawnOnce }
+    ensures withdrawing_is_spent { WithdrawingIsSpent }
 {}

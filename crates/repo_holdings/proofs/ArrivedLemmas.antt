@@ -11,16 +11,18 @@ use Rattle.sha2.specs.Sha256.{sha256}
 use Rattle.sorted_lists.specs.SortedList.{keys, contains, value_of, with_value}
 use Rattle.sorted_lists.proofs.Sets.{eq_same, eq_itself, value_of-with_value}
 use Rattle.repo_plan.specs.declared.part.Part.{Part}
-use Rattle.repo_plan.specs.Parts.{Pair, part_cmp, part_of}
+use Rattle.repo_plan.specs.declared.shape.Shape.{Shape}
+use Rattle.repo_plan.specs.Parts.{Pair, part_cmp, part_of, parts_behind}
 use Rattle.repo_plan.specs.Plan.{PlanState, shape_of}
 use Rattle.repo_plan.proofs.Orders.{exact_parts}
-use Rattle.repo_object.specs.Publication.{Listed}
-use Rattle.repo_object.specs.Verdict.{listing_in}
+use Rattle.repo_object.specs.Publication.{RecordSays, shape_said}
+use Rattle.repo_object.specs.Publication.RecordSays.{Lists, WithdrawsNumber}
+use Rattle.repo_object.specs.Verdict.{said_in}
 use Rattle.repo_store.specs.StoreList.{with_packet}
 use Rattle.repo_catalog.specs.declared.entry.Entry.{Entry}
 use Rattle.repo_holdings.specs.Records.{Packet}
-use Rattle.repo_holdings.specs.Listed.{listing_at, listed_shape, stored_at, are_stored, contents_joined, entry_listed}
-use Rattle.repo_holdings.specs.Listed.{entry_of_listing, entry_at}
+use Rattle.repo_holdings.specs.Listed.{object_said, listing_in, listed_shape, stored_at, said_at, are_stored}
+use Rattle.repo_holdings.specs.Listed.{contents_joined, entry_listed, entry_of_listing, whole_at}
 use Rattle.repo_holdings.specs.declared.contents.ContentsDigest.{ContentsDigest}
 use Rattle.repo_holdings.specs.Contents.{IsOver, IsToldBy, IsDigestIn}
 use Rattle.repo_holdings.specs.declared.holdings.whole.Whole.{Whole}
@@ -29,7 +31,7 @@ use Rattle.repo_holdings.specs.Gaining.{AreTied}
 use Rattle.repo_holdings.specs.Taking.{came, with_fetched, with_all_fetched, PartsDiffer}
 use Rattle.repo_holdings.specs.declared.holdings.taking.Tried.{Tried}
 use Rattle.repo_holdings.proofs.ContentLemmas.{flat_append, append_nothing}
-use Rattle.repo_holdings.proofs.GainingLemmas.{contains-value, put_here, shape_told}
+use Rattle.repo_holdings.proofs.GainingLemmas.{contains-value, put_here, shape_stored}
 use Rattle.repo_holdings.proofs.FreshLemmas.{StayStored, fetched_stays}
 
 -- ---- packets that came
@@ -102,41 +104,44 @@ told_truly packets w d publisher seq octets digest whole =
     let here : Pair = (d.publisher, d.seq) in
     let there : Pair = (w.publisher, w.seq) in
     let same : here ≡ there = cc in
-    subst (λ (q : Pair). IfSome (entry_at packets q) (IsToldBy d)) (sym same)
-    (go (entry_at packets there) whole.contents) where
+    subst (λ (q : Pair). IfSome (whole_at packets q) (IsToldBy d)) (sym same)
+    (go (whole_at packets there) whole.contents) where
       go : (o : Option Entry) → IfSome o (IsOver (joined w.contents.items)) → IfSome o (IsToldBy d)
       go None h = tt
       go (Some e) h = record { octets = octets ∙ sym h.octets; digest = digest ∙ sym h.digest }
 
-none_shape : (n : ℕ) → (let none : Option ℕ = None in none) ≡ Some n → ⊥
-none_shape n h = cc
+-- the contents of the segments of an object of the shape that its stored record tells
+pub contents_are : (plan : PlanState) (packets after : List Packet) (pair : Pair) (shape : Shape)
+    (contents : List (Bor (List ℕ))) → AreTied plan packets → StayStored packets after
+    → Some shape ≡ shape_of plan pair → joined contents ≡ contents_joined after pair shape
+    → AreContentsIn after pair contents
+contents_are plan packets after pair shape contents tied stays told same =
+    over (stored_at packets pair 0) refl (told ∙ shape_stored plan packets pair tied) where
+      -- what the record says, it says afterwards too
+      over : (o : Option (List ℕ)) → stored_at packets pair 0 ≡ o
+          → Some shape ≡ option_map shape_said (said_at packets pair)
+          → IfSome (whole_at after pair) (IsOver (joined contents))
+      over None p h =
+          let none : Some shape
+          ≡ option_map shape_said (option_and_then said_in (let n : Option (List ℕ) = None in n)) =
+          h ∙ ap (λ (o : Option (List ℕ)). option_map shape_said (option_and_then said_in o)) p in absurd cc
+      over (Some octets) p h =
+          subst (λ (o : Option (List ℕ)).
+          IfSome (option_and_then (entry_listed after pair) (option_and_then listing_in o)) (IsOver (joined contents)))
+          (sym (stays (part_of pair 0) octets p))
+          (says (said_in octets) refl
+          (h ∙ ap (λ (o : Option (List ℕ)). option_map shape_said (option_and_then said_in o)) p)) where
+            says : (o : Option RecordSays) → said_in octets ≡ o → Some shape ≡ option_map shape_said o
+                → IfSome (option_and_then (entry_listed after pair) (option_and_then object_said o))
+                (IsOver (joined contents))
+            says None q t = tt
+            says (Some (WithdrawsNumber seq)) q t = tt
+            says (Some (Lists l)) q t = at (are_stored after pair (parts_behind (listed_shape l))) where
+              here : contents_joined after pair (listed_shape l) ≡ joined contents
+              here =
+                  let is : shape ≡ listed_shape l = cc in
+                  ap (contents_joined after pair) (sym is) ∙ sym same
 
--- the contents of so many segments as the stored record lists
-pub contents_are : (plan : PlanState) (packets after : List Packet) (pair : Pair) (n : ℕ)
-    (contents : List (Bor (List ℕ))) → AreTied plan packets → StayStored packets after → Some n ≡ shape_of plan pair
-    → joined contents ≡ contents_joined after pair n → AreContentsIn after pair contents
-contents_are plan packets after pair n contents tied stays told same =
-    over (listing_at after pair)
-    (ap (option_map listed_shape) (listing_stays (stored_at packets pair 0) refl counted) ∙ counted) where
-      counted : option_map listed_shape (listing_at packets pair) ≡ Some n
-      counted = sym (shape_told plan packets pair tied) ∙ sym told
-
-      listing_stays : (o : Option (List ℕ)) → stored_at packets pair 0 ≡ o
-          → option_map listed_shape (option_and_then listing_in o) ≡ Some n
-          → listing_at after pair ≡ option_and_then listing_in o
-      listing_stays None p h = absurd (none_shape n h)
-      listing_stays (Some octets) p h = ap (option_and_then listing_in) (stays (part_of pair 0) octets p)
-
-      over : (o : Option Listed) → option_map listed_shape o ≡ Some n
-          → IfSome (option_and_then (entry_listed after pair) o) (IsOver (joined contents))
-      over None h = tt
-      over (Some l) h = at (are_stored after pair (listed_shape l)) where
-        shape : listed_shape l ≡ n
-        shape = cc
-
-        here : contents_joined after pair (listed_shape l) ≡ joined contents
-        here = ap (contents_joined after pair) shape ∙ sym same
-
-        at : (b : Bool) → IfSome (cond b (Some (entry_of_listing after pair l)) None) (IsOver (joined contents))
-        at true = record { octets = ap length here; digest = ap sha256 here }
-        at false = tt
+              at : (b : Bool) → IfSome (cond b (Some (entry_of_listing after pair l)) None) (IsOver (joined contents))
+              at true = record { octets = ap length here; digest = ap sha256 here }
+              at false = tt

@@ -1,51 +1,152 @@
 -- What a part that a member asks for tells of what is stored.
-use Rattle.std.proofs.Common.{◌≡◌, inl, inr, List, ◌≤◌, ◌<◌, true, false, ◌&&◌, ◌==◌, refl, sym, ap, ◌∙◌, subst, Option}
-use Rattle.std.proofs.Common.{Some, None, option_map, length, arith}
-use Rattle.std.specs.Prelude.{nat_le, slice_index}
-use Rattle.std.proofs.lemmas.Bool.{true≢false, and_parts, or_cases, leb-true, cases_lt}
+use Rattle.std.proofs.Common.{◌≡◌, inl, inr, ℕ, Bool, List, ◌-◌, ◌≤◌, ◌<◌, true, false, cond, ◌&&◌, ◌==◌}
+use Rattle.std.proofs.Common.{refl, sym, ap, ◌∙◌, subst, Option, Some, None, option_map, is_some, length, arith}
+use Rattle.std.specs.Prelude.{nat_le, slice_index, IsSome}
+use Rattle.std.specs.Option.{option_and_then}
+use Rattle.std.proofs.lemmas.Bool.{true≢false, and_parts, or_cases, leb-true, le-leb, cases_lt, eqb-false, eqb-true}
+use Rattle.std.proofs.lemmas.Bool.{false_from_ne_true}
 use Rattle.std.proofs.lemmas.List.{get_or_past}
 use Rattle.repo_plan.specs.declared.part.Part.{Part}
-use Rattle.sorted_lists.specs.SortedList.{contains, value_of}
-use Rattle.repo_plan.specs.Parts.{Shape, pair_cmp, part_cmp, pair_of, parent}
+use Rattle.repo_plan.specs.declared.shape.Shape.{Shape}
+use Rattle.sorted_lists.specs.SortedList.{contains}
+use Rattle.repo_plan.specs.Parts.{part_cmp, pair_of, part_of, parent, parent_number, parts_behind, shape_of_segments}
+use Rattle.repo_plan.specs.Parts.{IsShape}
+use Rattle.repo_plan.proofs.Parents.{lists_in_turn}
 use Rattle.repo_plan.specs.Plan.{PlanState, can_be_asked, is_asked, knows, shape_of}
-use Rattle.repo_object.specs.Publication.{Listed}
+use Rattle.repo_object.specs.Publication.{Listed, RecordSays, shape_said}
+use Rattle.repo_object.specs.Publication.RecordSays.{Lists, WithdrawsNumber}
+use Rattle.repo_object.specs.Records.{record_of}
+use Rattle.repo_object.specs.Verdict.{content_in, said_in, index_in}
+use Rattle.repo_object.proofs.RecordLemmas.{listing_said}
+use Rattle.repo_object.specs.Wants.{listed_in}
 use Rattle.repo_holdings.specs.Records.{Packet}
-use Rattle.repo_holdings.specs.Listed.{listing_at, listed_shape}
-use Rattle.repo_holdings.specs.Gaining.{AreTied}
-use Rattle.repo_holdings.proofs.CatalogueLemmas.{shapes_value}
+use Rattle.repo_holdings.specs.Listed.{object_said, listing_in, stored_at, said_at, listing_at, listed_shape}
+use Rattle.repo_holdings.specs.StoredParents.{index_at, index_count, lists_at, ListsAsMany, HasParent}
+use Rattle.repo_holdings.specs.declared.told.Told.{Told}
+use Rattle.repo_holdings.specs.Gaining.{AreTied, told_of, shape_told}
+use Rattle.repo_holdings.proofs.GainingLemmas.{shape_stored, shape_listed, held_value, listing_says}
 
--- a segment that is asked for is listed by the stored record of its publication
-pub record IsListedSegment (packets : List Packet) (t : Part) : Type 0 where
-  pub listing : Listed
-  pub listed : listing_at packets (pair_of t) ≡ Some listing
-  pub counted : t.part ≤ listed_shape listing
+-- ---- what records tell
 
+-- what a record tells of parts is a shape that a record may tell
+pub told_sized : (octets : List ℕ) (says : RecordSays) → said_in octets ≡ Some says → IsShape (shape_said says)
+told_sized octets (WithdrawsNumber seq) h = record { index = refl; segments = omega (arith) }
+told_sized octets (Lists l) h = go (content_in octets) h where
+  go : (o : Option (List ℕ)) → option_and_then record_of o ≡ Some (Lists l) → IsShape (listed_shape l)
+  go None p = absurd cc
+  go (Some content) p =
+      let is = listing_said content l p in record { index = refl; segments = omega (arith, is.few) }
+
+pub listing_sized : (o : Option (List ℕ)) (l : Listed) → option_and_then listing_in o ≡ Some l
+    → IsShape (listed_shape l)
+listing_sized None l h = absurd cc
+listing_sized (Some octets) l h = told_sized octets (Lists l) (listing_says (Some octets) l h)
+
+-- what is told of a record that is told of so
+pub shape_sized : (octets : List ℕ) (told : Told) → option_map told_of (said_in octets) ≡ Some told
+    → IsShape (shape_told told)
+shape_sized octets told h = go (said_in octets) refl h where
+  go : (o : Option RecordSays) → said_in octets ≡ o → option_map told_of o ≡ Some told → IsShape (shape_told told)
+  go None p t = absurd cc
+  go (Some (Lists l)) p t =
+      let is : told_of (Lists l) ≡ told = cc in
+      subst (λ (x : Told). IsShape (shape_told x)) is (told_sized octets (Lists l) p)
+  go (Some (WithdrawsNumber seq)) p t =
+      let is : told_of (WithdrawsNumber seq) ≡ told = cc in
+      subst (λ (x : Told). IsShape (shape_told x)) is (told_sized octets (WithdrawsNumber seq) p)
+
+-- ---- what lists a part that is asked for
+
+-- what lists a part that is asked for is stored
 pub asked_segment : (plan : PlanState) (packets : List Packet) (t : Part) → AreTied plan packets
-    → is_asked plan t ≡ true → (t.part == 0) ≡ false → IsListedSegment packets t
-asked_segment plan packets t tied asked segment = go (listing_at packets (pair_of t)) refl where
-  told : shape_of plan (pair_of t) ≡ option_map listed_shape (listing_at packets (pair_of t))
-  told = ap (λ es. value_of pair_cmp es (pair_of t)) tied.shapes ∙ shapes_value packets (pair_of t) tied.in_order
+    → is_asked plan t ≡ true → (t.part == 0) ≡ false → HasParent packets t
+asked_segment plan packets t tied asked behind = go (stored_at packets (pair_of t) 0) refl where
+  told : shape_of plan (pair_of t) ≡ option_map shape_said (said_at packets (pair_of t))
+  told = shape_stored plan packets (pair_of t) tied
 
   can : can_be_asked plan.held (shape_of plan (pair_of t)) t ≡ true
   can = (and_parts (knows plan (pair_of t)) (can_be_asked plan.held (shape_of plan (pair_of t)) t) asked).1
 
-  go : (o : Option Listed) → listing_at packets (pair_of t) ≡ o → IsListedSegment packets t
+  above : 0 < t.part
+  above = omega (arith, eqb-false t.part 0 behind)
+
+  -- the part is counted, and what lists it is held
+  counts : (shape : Shape) → shape_of plan (pair_of t) ≡ Some shape
+      → (nat_le t.part (parts_behind shape) && contains part_cmp plan.held (parent shape t)) ≡ true
+  counts shape p =
+      let some : can_be_asked plan.held (Some shape) t ≡ true =
+      subst (λ (s : Option Shape). can_be_asked plan.held s t ≡ true) p can in
+      elim (or_cases (t.part == 0) (nat_le t.part (parts_behind shape) && contains part_cmp plan.held (parent shape t))
+      some) [
+        | inl zero ↦ absurd (true≢false (sym zero ∙ behind))
+        | inr both ↦ both
+      ]
+
+  of_listing : (l : Listed) → listing_at packets (pair_of t) ≡ Some l → HasParent packets t
+  of_listing l p =
+      let shape : Shape = listed_shape l in
+      let both = counts shape (shape_listed plan packets (pair_of t) tied l p) in
+      let two = and_parts (nat_le t.part (parts_behind shape)) (contains part_cmp plan.held (parent shape t)) both in
+      let counted : t.part ≤ parts_behind shape = leb-true t.part (parts_behind shape) two.0 in
+      record {
+        behind = above;
+        listing = l;
+        listed = p;
+        counted = counted;
+        index = λ k. index_there l p counted two.1 k;
+      } where
+        index_there : (l : Listed) → listing_at packets (pair_of t) ≡ Some l → t.part ≤ parts_behind (listed_shape l)
+            → contains part_cmp plan.held (parent (listed_shape l) t) ≡ true
+            → 0 < parent_number (listed_shape l) t.part
+            → IsSome (index_at packets (pair_of t) l.segments (parent_number (listed_shape l) t.part))
+        index_there l p counted held some =
+            there (stored_at packets (pair_of t) k) refl
+            (sym (held_value plan packets (pair_of t) tied (part_of (pair_of t) k)) ∙ held) where
+              k : ℕ
+              k = parent_number (listed_shape l) t.part
+
+              count : lists_at packets (part_of (pair_of t) k) ≡ Some (listed_in l.segments (k - 1))
+              count =
+                  ap (option_and_then (index_count k)) p
+                  ∙ ap (λ (b : Bool). cond b None
+                  (cond (nat_le k (listed_shape l).index) (Some (listed_in l.segments (k - 1))) None))
+                  (false_from_ne_true (k == 0) (λ e. absurd (omega (arith, eqb-true k 0 e, some))))
+                  ∙ ap (λ (b : Bool). cond b (Some (listed_in l.segments (k - 1))) None)
+                  (le-leb k (listed_shape l).index
+                  ((lists_in_turn (listed_shape l) (listing_sized (stored_at packets (pair_of t) 0) l p)).listed t.part
+                  counted))
+
+              there : (o : Option (List ℕ)) → stored_at packets (pair_of t) k ≡ o → is_some o ≡ true
+                  → IsSome (option_and_then (λ octets. index_in octets (listed_in l.segments (k - 1))) o)
+              there None q h = absurd (true≢false (sym h))
+              there (Some octets) q h =
+                  subst (ListsAsMany octets) count (tied.indexed (part_of (pair_of t) k) octets q)
+
+  go : (o : Option (List ℕ)) → stored_at packets (pair_of t) 0 ≡ o → HasParent packets t
   go None p =
       let none : can_be_asked plan.held None t ≡ true =
-      subst (λ (s : Option Shape). can_be_asked plan.held s t ≡ true) (told ∙ ap (option_map listed_shape) p) can in
-      absurd (true≢false (sym none ∙ segment))
-  go (Some l) p =
-      let some : can_be_asked plan.held (Some (listed_shape l)) t ≡ true =
-      subst (λ (s : Option Shape). can_be_asked plan.held s t ≡ true) (told ∙ ap (option_map listed_shape) p) can in
-      elim (or_cases (t.part == 0)
-      (nat_le t.part (listed_shape l) && contains part_cmp plan.held (parent (listed_shape l) t)) some) [
-        | inl zero ↦ absurd (true≢false (sym zero ∙ segment))
-        | inr both ↦ record {
-          listing = l;
-          listed = p;
-          counted = leb-true t.part (listed_shape l) (and_parts (nat_le t.part (listed_shape l)) _ both).0;
-        }
-      ]
+      subst (λ (s : Option Shape). can_be_asked plan.held s t ≡ true)
+      (told ∙ ap (λ (o : Option (List ℕ)). option_map shape_said (option_and_then said_in o)) p) can in
+      absurd (true≢false (sym none ∙ behind))
+  go (Some octets) p = says (said_in octets) refl where
+    says : (o : Option RecordSays) → said_in octets ≡ o → HasParent packets t
+    says None q =
+        let none : can_be_asked plan.held None t ≡ true =
+        subst (λ (s : Option Shape). can_be_asked plan.held s t ≡ true)
+        (told ∙ ap (λ (o : Option (List ℕ)). option_map shape_said (option_and_then said_in o)) p
+        ∙ ap (option_map shape_said) q) can in
+        absurd (true≢false (sym none ∙ behind))
+    says (Some (Lists l)) q =
+        of_listing l (ap (option_and_then listing_in) p ∙ ap (option_and_then object_said) q)
+    says (Some (WithdrawsNumber seq)) q =
+        let shape : shape_of plan (pair_of t) ≡ Some (shape_of_segments 0) =
+        told ∙ ap (λ (o : Option (List ℕ)). option_map shape_said (option_and_then said_in o)) p
+        ∙ ap (option_map shape_said) q in
+        let counted : t.part ≤ 0 =
+        leb-true t.part 0
+        (and_parts (nat_le t.part 0) (contains part_cmp plan.held (parent (shape_of_segments 0) t))
+        (counts (shape_of_segments 0) shape)).0 in
+        absurd (omega (arith, counted, above))
 
 -- the publisher of a part that is asked for is a member
 pub asked_member : (plan : PlanState) (t : Part) → is_asked plan t ≡ true → t.publisher < length plan.known

@@ -5,7 +5,7 @@ use Rattle.std.specs.List.{flat_map}
 use Rattle.sorted_lists.specs.Range.{numbers_from}
 use Rattle.repo_plan.specs.Parts.{Pair}
 use Rattle.repo_holdings.specs.Records.{Packet}
-use Rattle.repo_holdings.specs.Listed.{stored_content, contents_joined}
+use Rattle.repo_holdings.specs.Listed.{stored_content, contents_from}
 
 numbers_last : (first n : ℕ) → numbers_from first (suc n) ≡ numbers_from first n ++ (first + n) ∷ []
 numbers_last first zero = let e : first ≡ first + 0 = omega arith in ap (λ (k : ℕ). k ∷ []) e
@@ -25,16 +25,15 @@ append_nothing [] = refl
 append_nothing {A = A} (x ∷ xs) = ap (λ (rest : List A). x ∷ rest) (append_nothing xs)
 
 -- one content more
-pub joined_more : (packets : List Packet) (pair : Pair) (n : ℕ)
-    → contents_joined packets pair (n + 1) ≡ contents_joined packets pair n ++ stored_content packets pair (n + 1)
-joined_more packets pair n =
-    let e : 1 + n ≡ n + 1 = omega arith in
-    ap (λ (m : ℕ). contents_joined packets pair m) (add-one n)
-    ∙ ap (flat_map (stored_content packets pair)) (numbers_last 1 n)
-    ∙ flat_append (stored_content packets pair) (numbers_from 1 n) ((1 + n) ∷ [])
-    ∙ ap (λ (m : ℕ). contents_joined packets pair n ++ (stored_content packets pair m ++ [])) e
-    ∙ ap (λ (rest : List ℕ). contents_joined packets pair n ++ rest)
-    (append_nothing (stored_content packets pair (n + 1)))
+pub joined_more : (packets : List Packet) (pair : Pair) (first n : ℕ)
+    → contents_from packets pair first (n + 1)
+    ≡ contents_from packets pair first n ++ stored_content packets pair (first + n)
+joined_more packets pair first n =
+    ap (λ (m : ℕ). contents_from packets pair first m) (add-one n)
+    ∙ ap (flat_map (stored_content packets pair)) (numbers_last first n)
+    ∙ flat_append (stored_content packets pair) (numbers_from first n) ((first + n) ∷ [])
+    ∙ ap (λ (rest : List ℕ). contents_from packets pair first n ++ rest)
+    (append_nothing (stored_content packets pair (first + n)))
 
 -- what is lent where nothing is stored is nothing
 pub lent_or : (o : Option (Bor (List ℕ))) (d : Bor (List ℕ))

@@ -1,24 +1,28 @@
 -- A part that is gained: what is stored, what the plan holds and knows, and what becomes whole.
 use Rattle.std.proofs.Common.{◌≡◌, ℕ, ◌+◌, Bool, true, false, cond, ◌&&◌, ◌||◌, ◌==◌, List, [], ◌∷◌, map, refl, sym, ap}
 use Rattle.std.proofs.Common.{◌∙◌, subst, Option, Some, None, option_map, is_some, add-one}
-use Rattle.std.proofs.lemmas.Bool.{true≢false, eqb-true}
+use Rattle.std.proofs.lemmas.Bool.{true≢false, eqb-true, and_parts}
 use Rattle.std.specs.List.{list_all}
 use Rattle.std.specs.Option.{option_and_then}
 use Rattle.std.specs.Ordering.{eq_by_cmp}
 use Rattle.repo_plan.specs.declared.part.Part.{Part}
 use Rattle.sorted_lists.specs.SortedList.{keys, Rises, contains, value_of, with_value, insert_key}
 use Rattle.sorted_lists.specs.Range.{numbers_from}
-use Rattle.repo_plan.specs.Parts.{Pair, Shape, pair_cmp, part_cmp, pair_of, part_of, parts_of, parts_told}
-use Rattle.repo_plan.specs.Plan.{PlanState, holds, holds_too, uses_room, with_shape, shape_of, is_complete}
+use Rattle.repo_plan.specs.declared.shape.Shape.{Shape}
+use Rattle.repo_plan.specs.Parts.{Pair, pair_cmp, part_cmp, pair_of, part_of, parts_of, parts_told, parts_behind}
+use Rattle.repo_plan.specs.Plan.{PlanState, holds, holds_too, uses_room, with_shape, shape_of, is_complete, is_asked}
+use Rattle.repo_plan.specs.Plan.{can_be_asked, knows}
 use Rattle.repo_plan.proofs.Orders.{exact_pairs, exact_parts}
 use Rattle.sorted_lists.proofs.Sets.{eq_same, eq_itself, keys-with_value, rises_with_value, value_of-with_value}
-use Rattle.repo_object.specs.Publication.{Listed}
-use Rattle.repo_object.specs.Verdict.{listing_in}
+use Rattle.repo_object.specs.Publication.{Listed, RecordSays, shape_said}
+use Rattle.repo_object.specs.Publication.RecordSays.{Lists, WithdrawsNumber}
+use Rattle.repo_object.specs.Verdict.{said_in}
 use Rattle.repo_store.specs.StoreList.{with_packet}
 use Rattle.repo_holdings.specs.Records.{Packet}
-use Rattle.repo_holdings.specs.Listed.{listing_at, stored_at, listed_shape, shapes_in, are_stored, entry_at}
-use Rattle.repo_holdings.specs.Listed.{entry_listed}
-use Rattle.repo_holdings.specs.Gaining.{AreTied, KeepsOthers, told_shape, listing_told}
+use Rattle.repo_holdings.specs.Listed.{object_said, listing_in, listing_at, stored_at, said_at, listed_shape}
+use Rattle.repo_holdings.specs.Listed.{shapes_in, are_stored, whole_at, entry_listed}
+use Rattle.repo_holdings.specs.StoredParents.{index_count, lists_at, ListsAsMany}
+use Rattle.repo_holdings.specs.Gaining.{AreTied, KeepsOthers, told_of, shape_told, told_shape}
 use Rattle.repo_holdings.proofs.SortedMaps.{same_map}
 use Rattle.repo_holdings.proofs.CatalogueLemmas.{shapes_value, shapes_rise}
 
@@ -31,10 +35,6 @@ contains-value (e ∷ es) t = go (eq_by_cmp part_cmp t e.0) (contains-value es t
       → (b || contains part_cmp (keys es) t) ≡ is_some (cond b (Some e.1) (value_of part_cmp es t))
   go true h = refl
   go false h = h
-
-none_from : (o : Option (List ℕ)) → is_some o ≡ false → o ≡ None
-none_from None h = refl
-none_from (Some x) h = absurd (true≢false h)
 
 -- ---- one packet more
 
@@ -73,20 +73,19 @@ module _ (packets : List Packet) (t : Part) (octets : List ℕ)
         sym (eq_itself exact_pairs q) ∙ ap (eq_by_cmp pair_cmp q) pairs ∙ other
     go false p = refl
 
-  -- what is told of the part's publication from then on
-  pub listing_put : listing_at (with_packet t octets packets) (pair_of t) ≡ listing_told packets t octets
-  listing_put = go (t.part == 0) refl where
+  -- the record of the part's publication from then on: the packet itself, if the part is a record
+  pub record_put : stored_at (with_packet t octets packets) (pair_of t) 0
+      ≡ cond (t.part == 0) (Some octets) (stored_at packets (pair_of t) 0)
+  record_put = go (t.part == 0) refl where
     go : (b : Bool) → (t.part == 0) ≡ b
-        → listing_at (with_packet t octets packets) (pair_of t)
-        ≡ cond b (listing_in octets) (listing_at packets (pair_of t))
+        → stored_at (with_packet t octets packets) (pair_of t) 0
+        ≡ cond b (Some octets) (stored_at packets (pair_of t) 0)
     go true p =
         let zero : t.part ≡ 0 = eqb-true t.part 0 p in
         let is : part_of (pair_of t) 0 ≡ t = ap (part_of (pair_of t)) (sym zero) in
-        ap (λ (q : Part). option_and_then listing_in (value_of part_cmp (with_packet t octets packets) q)) is
-        ∙ ap (option_and_then listing_in) put_here
+        ap (value_of part_cmp (with_packet t octets packets)) is ∙ put_here
     go false p =
-        ap (option_and_then listing_in)
-        (put_elsewhere (part_of (pair_of t) 0) (other (eq_by_cmp part_cmp (part_of (pair_of t) 0) t) refl)) where
+        put_elsewhere (part_of (pair_of t) 0) (other (eq_by_cmp part_cmp (part_of (pair_of t) 0) t) refl) where
           other : (b : Bool) → eq_by_cmp part_cmp (part_of (pair_of t) 0) t ≡ b → b ≡ false
           other true h =
               let same : part_of (pair_of t) 0 ≡ t = eq_same exact_parts (part_of (pair_of t) 0) t h in
@@ -94,9 +93,43 @@ module _ (packets : List Packet) (t : Part) (octets : List ℕ)
               ap (λ (n : ℕ). n == 0) zero ∙ p
           other false h = refl
 
+  pub said_put : said_at (with_packet t octets packets) (pair_of t)
+      ≡ option_and_then said_in (cond (t.part == 0) (Some octets) (stored_at packets (pair_of t) 0))
+  said_put = ap (option_and_then said_in) record_put
+
+  -- what stays where it is no record
+  pub record_stays : (t.part == 0) ≡ false
+      → stored_at (with_packet t octets packets) (pair_of t) 0 ≡ stored_at packets (pair_of t) 0
+  record_stays p = record_put ∙ ap (λ (b : Bool). cond b (Some octets) (stored_at packets (pair_of t) 0)) p
+
+-- ---- what is told
+
+told_said : (o : Option RecordSays) → option_map shape_told (option_map told_of o) ≡ option_map shape_said o
+told_said None = refl
+told_said (Some (Lists l)) = refl
+told_said (Some (WithdrawsNumber seq)) = refl
+
+pub told_shape_is : (t : Part) (octets : List ℕ)
+    → told_shape t octets ≡ cond (t.part == 0) (option_map shape_said (said_in octets)) None
+told_shape_is t octets = go (t.part == 0) where
+  go : (b : Bool)
+      → option_map shape_told (cond b (option_map told_of (said_in octets)) None)
+      ≡ cond b (option_map shape_said (said_in octets)) None
+  go true = told_said (said_in octets)
+  go false = refl
+
+some_mapped : {A B : Type 0} (f : A → B) (o : Option A) → is_some (option_map f o) ≡ is_some o
+some_mapped f None = refl
+some_mapped f (Some x) = refl
+
+pub list_nothing : (octets : List ℕ) (o : Option Listed)
+    → ListsAsMany octets (option_and_then (index_count 0) o)
+list_nothing octets None = tt
+list_nothing octets (Some l) = tt
+
 -- ---- the plan of one part more
 
-module _ (plan : PlanState) (packets : List Packet) (t : Part) (octets : List ℕ) (segments : Option Shape)
+module _ (plan : PlanState) (packets : List Packet) (t : Part) (octets : List ℕ) (shape : Option Shape)
     (tied : AreTied plan packets) (fresh : holds plan t ≡ false) where
   pub absent : contains part_cmp (keys packets) t ≡ false
   absent = ap (λ (ts : List Part). contains part_cmp ts t) (sym tied.held) ∙ fresh
@@ -104,22 +137,22 @@ module _ (plan : PlanState) (packets : List Packet) (t : Part) (octets : List �
   rises : Rises part_cmp (keys (with_packet t octets packets))
   rises = put_rises packets t octets absent tied.in_order
 
-  held_too : (holds_too t segments plan).held ≡ keys (with_packet t octets packets)
+  held_too : (holds_too t shape plan).held ≡ keys (with_packet t octets packets)
   held_too =
       ap (λ (b : Bool). (cond b plan (record plan {
         held = insert_key part_cmp t plan.held;
-        shapes = with_shape (pair_of t) segments plan.shapes;
+        shapes = with_shape (pair_of t) shape plan.shapes;
       })).held) fresh
       ∙ ap (insert_key part_cmp t) tied.held
       ∙ sym (keys-with_value exact_parts t octets packets)
       ∙ ap keys (sym (put_there packets t octets absent))
 
-  shapes_same : (is_some segments ≡ (t.part == 0)) → segments ≡ told_shape t octets
-      → with_shape (pair_of t) segments plan.shapes ≡ shapes_in (with_packet t octets packets)
+  shapes_same : (is_some shape ≡ (t.part == 0)) → shape ≡ told_shape t octets
+      → with_shape (pair_of t) shape plan.shapes ≡ shapes_in (with_packet t octets packets)
   shapes_same is_record told =
-      same_map exact_pairs (with_shape (pair_of t) segments plan.shapes) (shapes_in (with_packet t octets packets))
-      (order segments) (shapes_rise (with_packet t octets packets) rises)
-      (λ q. at q segments (t.part == 0) refl told is_record) where
+      same_map exact_pairs (with_shape (pair_of t) shape plan.shapes) (shapes_in (with_packet t octets packets))
+      (order shape) (shapes_rise (with_packet t octets packets) rises)
+      (λ q. at q shape (t.part == 0) refl (told ∙ told_shape_is t octets) is_record) where
         before : Rises pair_cmp (keys plan.shapes)
         before =
             subst (λ (es : List (Pair × Shape)). Rises pair_cmp (keys es)) (sym tied.shapes)
@@ -129,37 +162,36 @@ module _ (plan : PlanState) (packets : List Packet) (t : Part) (octets : List �
         order None = before
         order (Some n) = rises_with_value exact_pairs (pair_of t) n plan.shapes before
 
-        old_value : (q : Pair) → value_of pair_cmp plan.shapes q ≡ option_map listed_shape (listing_at packets q)
+        old_value : (q : Pair) → value_of pair_cmp plan.shapes q ≡ option_map shape_said (said_at packets q)
         old_value q =
             ap (λ (es : List (Pair × Shape)). value_of pair_cmp es q) tied.shapes ∙ shapes_value packets q tied.in_order
 
         new_value : (q : Pair)
             → value_of pair_cmp (shapes_in (with_packet t octets packets)) q
-            ≡ option_map listed_shape (listing_at (with_packet t octets packets) q)
+            ≡ option_map shape_said (said_at (with_packet t octets packets) q)
         new_value q = shapes_value (with_packet t octets packets) q rises
 
         other : (q : Pair) → eq_by_cmp pair_cmp q (pair_of t) ≡ false
-            → listing_at (with_packet t octets packets) q ≡ listing_at packets q
-        other q p = ap (option_and_then listing_in) (other_pairs packets t octets absent q p 0)
+            → said_at (with_packet t octets packets) q ≡ said_at packets q
+        other q p = ap (option_and_then said_in) (other_pairs packets t octets absent q p 0)
 
         at : (q : Pair) (s : Option Shape) (b : Bool) → (t.part == 0) ≡ b
-            → s ≡ cond b (option_map listed_shape (listing_in octets)) None → is_some s ≡ b
+            → s ≡ cond b (option_map shape_said (said_in octets)) None → is_some s ≡ b
             → value_of pair_cmp (with_shape (pair_of t) s plan.shapes) q
             ≡ value_of pair_cmp (shapes_in (with_packet t octets packets)) q
         at q None true p told is = absurd (true≢false (sym is))
         at q (Some n) false p told is = absurd (true≢false is)
         at q None false p told is =
             old_value q
-            ∙ ap (option_map listed_shape) (go (eq_by_cmp pair_cmp q (pair_of t)) refl)
+            ∙ ap (option_map shape_said) (go (eq_by_cmp pair_cmp q (pair_of t)) refl)
             ∙ sym (new_value q) where
               go : (c : Bool) → eq_by_cmp pair_cmp q (pair_of t) ≡ c
-                  → listing_at packets q ≡ listing_at (with_packet t octets packets) q
+                  → said_at packets q ≡ said_at (with_packet t octets packets) q
               go true h =
                   let same : q ≡ pair_of t = eq_same exact_pairs q (pair_of t) h in
-                  ap (listing_at packets) same
-                  ∙ sym (listing_put packets t octets absent
-                  ∙ ap (λ (c : Bool). cond c (listing_in octets) (listing_at packets (pair_of t))) p)
-                  ∙ ap (listing_at (with_packet t octets packets)) (sym same)
+                  ap (said_at packets) same
+                  ∙ sym (ap (option_and_then said_in) (record_stays packets t octets absent p))
+                  ∙ ap (said_at (with_packet t octets packets)) (sym same)
               go false h = sym (other q h)
         at q (Some n) true p told is =
             value_of-with_value exact_pairs (pair_of t) n plan.shapes q
@@ -170,37 +202,155 @@ module _ (plan : PlanState) (packets : List Packet) (t : Part) (octets : List �
               go true h =
                   let same : q ≡ pair_of t = eq_same exact_pairs q (pair_of t) h in
                   told
-                  ∙ ap (option_map listed_shape)
-                  (sym (listing_put packets t octets absent
-                  ∙ ap (λ (c : Bool). cond c (listing_in octets) (listing_at packets (pair_of t))) p))
-                  ∙ ap (λ (r : Pair). option_map listed_shape (listing_at (with_packet t octets packets) r)) (sym same)
+                  ∙ ap (option_map shape_said)
+                  (sym (said_put packets t octets absent
+                  ∙ ap (λ (c : Bool).
+                  option_and_then said_in (cond c (Some octets) (stored_at packets (pair_of t) 0))) p))
+                  ∙ ap (λ (r : Pair). option_map shape_said (said_at (with_packet t octets packets) r)) (sym same)
                   ∙ sym (new_value q)
-              go false h = old_value q ∙ ap (option_map listed_shape) (sym (other q h)) ∙ sym (new_value q)
+              go false h = old_value q ∙ ap (option_map shape_said) (sym (other q h)) ∙ sym (new_value q)
 
-  pub tied_too : (is_some segments ≡ (t.part == 0)) → segments ≡ told_shape t octets
-      → AreTied (holds_too t segments plan) (with_packet t octets packets)
-  tied_too is_record told = record {
+  -- where a part is asked for that is no record, the record is stored
+  pub asked_said : is_asked plan t ≡ true → (t.part == 0) ≡ false → is_some (said_at packets (pair_of t)) ≡ true
+  asked_said asked behind =
+      go (said_at packets (pair_of t)) (shape_of plan (pair_of t)) refl
+      (ap (λ (es : List (Pair × Shape)). value_of pair_cmp es (pair_of t)) tied.shapes
+      ∙ shapes_value packets (pair_of t) tied.in_order) where
+        can : can_be_asked plan.held (shape_of plan (pair_of t)) t ≡ true
+        can = (and_parts (knows plan (pair_of t)) (can_be_asked plan.held (shape_of plan (pair_of t)) t) asked).1
+
+        go : (o : Option RecordSays) (s : Option Shape) → shape_of plan (pair_of t) ≡ s
+            → s ≡ option_map shape_said o → is_some o ≡ true
+        go (Some says) s p h = refl
+        go None s p h =
+            absurd (true≢false (sym can
+            ∙ ap (λ (s : Option Shape). can_be_asked plan.held s t) (p ∙ h)
+            ∙ behind))
+
+  recorded_too : is_asked plan t ≡ true → (is_some shape ≡ (t.part == 0)) → shape ≡ told_shape t octets
+      → (pair : Pair) (x : ℕ) → is_some (stored_at (with_packet t octets packets) pair x) ≡ true
+      → is_some (said_at (with_packet t octets packets) pair) ≡ true
+  recorded_too asked is_record told pair x there = go (eq_by_cmp pair_cmp pair (pair_of t)) refl where
+    here : (b : Bool) → (t.part == 0) ≡ b → is_some (said_at (with_packet t octets packets) (pair_of t)) ≡ true
+    here true p =
+        ap is_some (said_put packets t octets absent
+        ∙ ap (λ (c : Bool). option_and_then said_in (cond c (Some octets) (stored_at packets (pair_of t) 0))) p)
+        ∙ sym (some_mapped shape_said (said_in octets))
+        ∙ ap is_some (sym (told ∙ told_shape_is t octets
+        ∙ ap (λ (c : Bool). cond c (option_map shape_said (said_in octets)) None) p))
+        ∙ is_record
+        ∙ p
+    here false p =
+        ap (λ (o : Option (List ℕ)). is_some (option_and_then said_in o)) (record_stays packets t octets absent p)
+        ∙ asked_said asked p
+
+    go : (c : Bool) → eq_by_cmp pair_cmp pair (pair_of t) ≡ c
+        → is_some (said_at (with_packet t octets packets) pair) ≡ true
+    go true h =
+        ap (λ (q : Pair). is_some (said_at (with_packet t octets packets) q))
+        (eq_same exact_pairs pair (pair_of t) h)
+        ∙ here (t.part == 0) refl
+    go false h =
+        ap (λ (o : Option (List ℕ)). is_some (option_and_then said_in o))
+        (other_pairs packets t octets absent pair h 0)
+        ∙ tied.recorded pair x (ap is_some (sym (other_pairs packets t octets absent pair h x)) ∙ there)
+
+  indexed_too : ListsAsMany octets (lists_at packets t) → (u : Part) (o : List ℕ)
+      → value_of part_cmp (with_packet t octets packets) u ≡ Some o
+      → ListsAsMany o (lists_at (with_packet t octets packets) u)
+  indexed_too lists u o there = go (eq_by_cmp part_cmp u t) refl where
+    after : List Packet
+    after = with_packet t octets packets
+
+    -- of the same record
+    still : stored_at after (pair_of u) 0 ≡ stored_at packets (pair_of u) 0 → lists_at packets u ≡ lists_at after u
+    still same =
+        ap (λ (r : Option (List ℕ)). option_and_then (index_count u.part) (option_and_then listing_in r)) (sym same)
+
+    itself : (b : Bool) → (t.part == 0) ≡ b → ListsAsMany octets (lists_at after t)
+    itself true p =
+        subst (λ (x : ℕ). ListsAsMany octets (option_and_then (index_count x) (listing_at after (pair_of t))))
+        (sym (eqb-true t.part 0 p)) (list_nothing octets (listing_at after (pair_of t)))
+    itself false p =
+        subst (ListsAsMany octets)
+        (ap (λ (r : Option (List ℕ)). option_and_then (index_count t.part) (option_and_then listing_in r))
+        (sym (record_stays packets t octets absent p))) lists
+
+    none_stored : (x : Option (List ℕ)) → is_some x ≡ true → is_some x ≡ false → ⊥
+    none_stored x a b = true≢false (sym a ∙ b)
+
+    some_record : (r : Option (List ℕ)) → is_some (option_and_then said_in r) ≡ true → is_some r ≡ true
+    some_record None h = h
+    some_record (Some octets) h = refl
+
+    other : value_of part_cmp packets u ≡ Some o → (c : Bool) → eq_by_cmp pair_cmp (pair_of u) (pair_of t) ≡ c
+        → (b : Bool) → (t.part == 0) ≡ b → ListsAsMany o (lists_at after u)
+    other was false h b p =
+        subst (ListsAsMany o) (still (other_pairs packets t octets absent (pair_of u) h 0)) (tied.indexed u o was)
+    other was true h false p =
+        let same : pair_of u ≡ pair_of t = eq_same exact_pairs (pair_of u) (pair_of t) h in
+        subst (ListsAsMany o)
+        (still (ap (λ (q : Pair). stored_at after q 0) same ∙ record_stays packets t octets absent p
+        ∙ ap (λ (q : Pair). stored_at packets q 0) (sym same)))
+        (tied.indexed u o was)
+    other was true h true p =
+        let same : pair_of u ≡ pair_of t = eq_same exact_pairs (pair_of u) (pair_of t) h in
+        let is : part_of (pair_of t) 0 ≡ t = ap (part_of (pair_of t)) (sym (eqb-true t.part 0 p)) in
+        absurd (none_stored (stored_at packets (pair_of t) 0)
+        (some_record (stored_at packets (pair_of t) 0)
+        (tied.recorded (pair_of t) u.part
+        (ap (λ (q : Pair). is_some (stored_at packets q u.part)) (sym same) ∙ ap is_some was)))
+        (ap (λ (q : Part). is_some (value_of part_cmp packets q)) is
+        ∙ sym (contains-value packets t)
+        ∙ absent))
+
+    go : (c : Bool) → eq_by_cmp part_cmp u t ≡ c → ListsAsMany o (lists_at after u)
+    go true h =
+        let same : u ≡ t = eq_same exact_parts u t h in
+        let both : Some octets ≡ Some o =
+        sym (put_here packets t octets absent) ∙ ap (value_of part_cmp after) (sym same) ∙ there in
+        let is : octets ≡ o = cc in
+        rw same (subst (λ (x : List ℕ). ListsAsMany x (lists_at after t)) is (itself (t.part == 0) refl))
+    go false h =
+        other (sym (put_elsewhere packets t octets absent u h) ∙ there) (eq_by_cmp pair_cmp (pair_of u) (pair_of t))
+        refl (t.part == 0) refl
+
+  pub tied_too : is_asked plan t ≡ true → (is_some shape ≡ (t.part == 0)) → shape ≡ told_shape t octets
+      → ListsAsMany octets (lists_at packets t) → AreTied (holds_too t shape plan) (with_packet t octets packets)
+  tied_too asked is_record told lists = record {
     in_order = rises;
     held = held_too;
     shapes =
         ap (λ (b : Bool). (cond b plan (record plan {
           held = insert_key part_cmp t plan.held;
-          shapes = with_shape (pair_of t) segments plan.shapes;
+          shapes = with_shape (pair_of t) shape plan.shapes;
         })).shapes) fresh
         ∙ shapes_same is_record told;
+    recorded = recorded_too asked is_record told;
+    indexed = indexed_too lists;
   }
 
 -- ---- what is whole
 
-list_all-map : {A B : Type 0} (p : B → Bool) (f : A → B) (xs : List A)
-    → list_all p (map f xs) ≡ list_all (λ x. p (f x)) xs
-list_all-map p f [] = refl
-list_all-map p f (x ∷ xs) = ap (λ (b : Bool). p (f x) && b) (list_all-map p f xs)
+-- the record of an object says what it lists
+pub listing_says : (o : Option (List ℕ)) (l : Listed) → option_and_then listing_in o ≡ Some l
+    → option_and_then said_in o ≡ Some (Lists l)
+listing_says None l h = absurd cc
+listing_says (Some octets) l h = go (said_in octets) h where
+  go : (says : Option RecordSays) → option_and_then object_said says ≡ Some l → says ≡ Some (Lists l)
+  go None h = absurd cc
+  go (Some (Lists m)) h =
+      let same : m ≡ l = cc in
+      ap (λ (x : Listed). Some (Lists x)) same
+  go (Some (WithdrawsNumber seq)) h = absurd cc
 
 module _ (plan : PlanState) (packets : List Packet) (pair : Pair) (tied : AreTied plan packets) where
-  pub shape_told : shape_of plan pair ≡ option_map listed_shape (listing_at packets pair)
-  shape_told =
+  pub shape_stored : shape_of plan pair ≡ option_map shape_said (said_at packets pair)
+  shape_stored =
       ap (λ (es : List (Pair × Shape)). value_of pair_cmp es pair) tied.shapes ∙ shapes_value packets pair tied.in_order
+
+  pub shape_listed : (l : Listed) → listing_at packets pair ≡ Some l → shape_of plan pair ≡ Some (listed_shape l)
+  shape_listed l h = shape_stored ∙ ap (option_map shape_said) (listing_says (stored_at packets pair 0) l h)
 
   pub held_value : (t : Part) → holds plan t ≡ is_some (value_of part_cmp packets t)
   held_value t = ap (λ (ts : List Part). contains part_cmp ts t) tied.held ∙ contains-value packets t
@@ -213,28 +363,27 @@ module _ (plan : PlanState) (packets : List Packet) (pair : Pair) (tied : AreTie
   record_there : (l : Listed) → listing_at packets pair ≡ Some l → is_some (stored_at packets pair 0) ≡ true
   record_there l h = go (stored_at packets pair 0) h where
     go : (o : Option (List ℕ)) → option_and_then listing_in o ≡ Some l → is_some o ≡ true
-    go None p = absurd (none_is l p) where
-      none_is : (m : Listed) → let n : Option Listed = None in n ≡ Some m → ⊥
-      none_is m q = cc
+    go None p = absurd cc
     go (Some octets) p = refl
 
   pub complete_stored : (l : Listed) → listing_at packets pair ≡ Some l
-      → is_complete plan pair ≡ are_stored packets pair (listed_shape l)
+      → is_complete plan pair ≡ are_stored packets pair (parts_behind (listed_shape l))
   complete_stored l h =
-      ap (λ (o : Option Shape). list_all (holds plan) (parts_of pair (parts_told o)))
-      (shape_told ∙ ap (option_map listed_shape) h)
-      ∙ rw add-one (all_held (0 ∷ numbers_from (0 + 1) (listed_shape l)))
-      ∙ ap (λ (b : Bool). b && list_all (λ x. is_some (stored_at packets pair x)) (numbers_from 1 (listed_shape l)))
+      ap (λ (o : Option Shape). list_all (holds plan) (parts_of pair (parts_told o))) (shape_listed l h)
+      ∙ rw add-one (all_held (0 ∷ numbers_from (0 + 1) (parts_behind (listed_shape l))))
+      ∙ ap (λ (b : Bool). b
+      && list_all (λ x. is_some (stored_at packets pair x)) (numbers_from 1 (parts_behind (listed_shape l))))
       (record_there l h)
 
-  -- an object is catalogued exactly where it is complete
-  pub complete_entry : (l : Listed) → listing_at packets pair ≡ Some l
-      → is_some (entry_at packets pair) ≡ is_complete plan pair
-  complete_entry l h =
+  -- an object is stored wholly exactly where it is complete
+  pub complete_whole : (l : Listed) → listing_at packets pair ≡ Some l
+      → is_some (whole_at packets pair) ≡ is_complete plan pair
+  complete_whole l h =
       ap (λ (o : Option Listed). is_some (option_and_then (entry_listed packets pair) o)) h
-      ∙ go (are_stored packets pair (listed_shape l)) refl
+      ∙ go (are_stored packets pair (parts_behind (listed_shape l))) refl
       ∙ sym (complete_stored l h) where
-        go : (b : Bool) → are_stored packets pair (listed_shape l) ≡ b → is_some (entry_listed packets pair l) ≡ b
+        go : (b : Bool) → are_stored packets pair (parts_behind (listed_shape l)) ≡ b
+            → is_some (entry_listed packets pair l) ≡ b
         go true p = rw p refl
         go false p = rw p refl
 

@@ -1,36 +1,36 @@
 -- A publication that is hidden: what is stored, what the plan holds, and what is listed.
-use Rattle.std.proofs.Common.{◌≡◌, ℕ, ◌+◌, ◌≤◌, Bool, true, false, cond, not, List, [], ◌∷◌, map, length, refl, sym, ap}
-use Rattle.std.proofs.Common.{◌∙◌, Option, None, option_map, arith}
+use Rattle.std.proofs.Common.{◌≡◌, ℕ, ◌+◌, ◌≤◌, Bool, true, false, cond, not, ◌||◌, List, [], ◌∷◌, length, refl, sym}
+use Rattle.std.proofs.Common.{ap}
+use Rattle.std.proofs.Common.{◌∙◌, Option, Some, None, option_map, is_some, subst, arith}
 use Rattle.std.specs.Prelude.{filter}
+use Rattle.std.specs.List.{All}
 use Rattle.std.specs.Option.{option_and_then}
 use Rattle.std.specs.Ordering.{eq_by_cmp}
+use Rattle.std.proofs.lemmas.Bool.{true≢false, or_parts}
+use Rattle.std.proofs.lemmas.List.Elements.{All-head, All-tail, All-cons, All-nil, All-weaker}
 use Rattle.repo_plan.specs.declared.part.Part.{Part}
+use Rattle.repo_plan.specs.declared.shape.Shape.{Shape}
 use Rattle.sorted_lists.specs.SortedList.{keys, Rises, contains, value_of}
-use Rattle.repo_plan.specs.Parts.{Pair, Shape, pair_cmp, part_cmp, part_of}
+use Rattle.repo_plan.specs.Parts.{Pair, pair_cmp, part_cmp, pair_of, part_of}
 use Rattle.repo_plan.specs.Plan.{PlanState, is_in, hides_too, uses_room}
 use Rattle.repo_plan.proofs.Orders.{exact_pairs, exact_parts}
 use Rattle.sorted_lists.proofs.Sets.{eq_same, eq_itself, keys-filter, rises_keys_filter, value_of-filter}
-use Rattle.repo_object.specs.Verdict.{listing_in}
+use Rattle.repo_object.specs.Publication.{Listed, shape_said}
+use Rattle.repo_object.specs.Verdict.{said_in}
 use Rattle.repo_store.specs.StoreList.{packets_outside, is_in_any, packets_outside_all}
 use Rattle.repo_catalog.specs.declared.entry.Entry.{Entry}
 use Rattle.repo_catalog.specs.Entries.{publication_of, is_of, without, without_all}
 use Rattle.repo_holdings.specs.Records.{Packet}
-use Rattle.repo_holdings.specs.Listed.{stored_at, listing_at, listed_shape, shapes_in, entry_at, entry_listed}
-use Rattle.repo_holdings.specs.Listed.{entries_in}
-use Rattle.repo_holdings.specs.Listed.{alone_catalogue}
+use Rattle.repo_holdings.specs.Listed.{stored_at, listing_in, said_at, listing_at, shapes_in, withdrawn_by}
+use Rattle.repo_holdings.specs.Listed.{is_withdrawn, is_withdrawal, whole_at, entry_listed, alone_catalogue}
+use Rattle.repo_holdings.specs.StoredParents.{index_count, lists_at, ListsAsMany}
+use Rattle.repo_holdings.specs.Noted.{NotesState, AreNotes}
 use Rattle.repo_holdings.specs.Gaining.{AreTied, AreKept}
 use Rattle.repo_holdings.specs.Hiding.{outside_all, plan_hides, IsHiding}
 use Rattle.repo_holdings.proofs.SortedMaps.{same_map}
-use Rattle.repo_holdings.proofs.CatalogueLemmas.{shapes_value, shapes_rise, entries_value, entries_rise, Keyed}
-use Rattle.repo_holdings.proofs.CatalogueLemmas.{entries_keyed, same_entry}
-
--- what is asked one way round is so the other way round
-pub other_way : (a b : Pair) → eq_by_cmp pair_cmp a b ≡ false → eq_by_cmp pair_cmp b a ≡ false
-other_way a b h = go (eq_by_cmp pair_cmp b a) refl where
-  go : (c : Bool) → eq_by_cmp pair_cmp b a ≡ c → c ≡ false
-  go true p =
-      sym (eq_itself exact_pairs a) ∙ ap (λ (q : Pair). eq_by_cmp pair_cmp a q) (sym (eq_same exact_pairs b a p)) ∙ h
-  go false p = refl
+use Rattle.repo_holdings.proofs.CatalogueLemmas.{shapes_value, shapes_rise, other_way, either_way, unlisted, same_whole}
+use Rattle.repo_holdings.proofs.CatalogueLemmas.{same_entry, entry_of_none}
+use Rattle.repo_holdings.proofs.WithdrawnLemmas.{withdrawn_less}
 
 -- ---- what is stored
 
@@ -56,13 +56,15 @@ module _ (pair : Pair) (packets : List Packet) where
   others_stay q other x =
       value_outside (part_of q x) ∙ ap (λ (b : Bool). cond (not b) (stored_at packets q x) None) other
 
-  -- ---- what is told and listed
+  -- ---- what is said and listed
 
-  listing_gone : listing_at (packets_outside pair packets) pair ≡ None
-  listing_gone = ap (option_and_then listing_in) (nothing_inside 0)
+  nothing_said : said_at (packets_outside pair packets) pair ≡ None
+  nothing_said = ap (option_and_then said_in) (nothing_inside 0)
 
-  entry_gone : entry_at (packets_outside pair packets) pair ≡ None
-  entry_gone = ap (option_and_then (entry_listed (packets_outside pair packets) pair)) listing_gone
+  whole_gone : whole_at (packets_outside pair packets) pair ≡ None
+  whole_gone =
+      ap (λ (o : Option (List ℕ)). option_and_then (entry_listed (packets_outside pair packets) pair)
+      (option_and_then listing_in o)) (nothing_inside 0)
 
   abbrev is_other : Pair → Bool
   is_other q = not (eq_by_cmp pair_cmp pair q)
@@ -77,48 +79,41 @@ module _ (pair : Pair) (packets : List Packet) where
       ∙ sym (shapes_value (packets_outside pair packets) q (rises_outside r))) where
         go : (q : Pair) (b : Bool) → eq_by_cmp pair_cmp pair q ≡ b
             → cond (not b) (value_of pair_cmp (shapes_in packets) q) None
-            ≡ option_map listed_shape (listing_at (packets_outside pair packets) q)
+            ≡ option_map shape_said (said_at (packets_outside pair packets) q)
         go q true p =
-            sym (ap (λ (k : Pair). option_map listed_shape (listing_at (packets_outside pair packets) k))
+            sym (ap (λ (k : Pair). option_map shape_said (said_at (packets_outside pair packets) k))
             (sym (eq_same exact_pairs pair q p))
-            ∙ ap (option_map listed_shape) listing_gone)
+            ∙ ap (option_map shape_said) nothing_said)
         go q false p =
             shapes_value packets q r
-            ∙ ap (λ (o : Option (List ℕ)). option_map listed_shape (option_and_then listing_in o))
+            ∙ ap (λ (o : Option (List ℕ)). option_map shape_said (option_and_then said_in o))
             (sym (others_stay q p 0))
 
-  entries_outside : Rises part_cmp (keys packets)
-      → filter (λ e. is_other e.0) (entries_in packets) ≡ entries_in (packets_outside pair packets)
-  entries_outside r =
-      same_map exact_pairs (filter (λ e. is_other e.0) (entries_in packets)) (entries_in (packets_outside pair packets))
-      (rises_keys_filter exact_pairs is_other (entries_in packets) (entries_rise packets r))
-      (entries_rise (packets_outside pair packets) (rises_outside r))
-      (λ q. value_of-filter exact_pairs is_other (entries_in packets) q ∙ go q (eq_by_cmp pair_cmp pair q) refl
-      ∙ sym (entries_value (packets_outside pair packets) q (rises_outside r))) where
-        go : (q : Pair) (b : Bool) → eq_by_cmp pair_cmp pair q ≡ b
-            → cond (not b) (value_of pair_cmp (entries_in packets) q) None ≡ entry_at (packets_outside pair packets) q
-        go q true p =
-            sym (ap (entry_at (packets_outside pair packets)) (sym (eq_same exact_pairs pair q p)) ∙ entry_gone)
-        go q false p =
-            entries_value packets q r ∙ sym (same_entry packets (packets_outside pair packets) q (others_stay q p))
+  -- the publication is no withdrawal
+  module _ (r : Rises part_cmp (keys packets)) (object : is_withdrawal packets pair ≡ false) where
+    pub withdrawn_outside : (q : Pair) → is_withdrawn (packets_outside pair packets) q ≡ is_withdrawn packets q
+    withdrawn_outside =
+        withdrawn_less packets (packets_outside pair packets) pair r (rises_outside r)
+        (λ q other. others_stay q (other_way q pair other) 0) (nothing_inside 0) object
 
-  without_keyed : (es : List (Pair × Entry)) → Keyed es
-      → without pair (map (λ x. x.1) es) ≡ map (λ x. x.1) (filter (λ e. is_other e.0) es)
-  without_keyed [] k = refl
-  without_keyed (x ∷ es) k =
-      ap (λ (q : Pair). cond (is_other q) (x.1 ∷ without pair (map (λ y. y.1) es)) (without pair (map (λ y. y.1) es)))
-      k.0
-      ∙ go (is_other x.0) (without_keyed es k.1) where
-        go : (b : Bool) → without pair (map (λ y. y.1) es) ≡ map (λ y. y.1) (filter (λ e. is_other e.0) es)
-            → cond b (x.1 ∷ without pair (map (λ y. y.1) es)) (without pair (map (λ y. y.1) es))
-            ≡ map (λ y. y.1) (cond b (x ∷ filter (λ e. is_other e.0) es) (filter (λ e. is_other e.0) es))
-        go true h = ap (λ (rest : List Entry). x.1 ∷ rest) h
-        go false h = h
+    pub catalogue_outside : without pair (alone_catalogue packets) ≡ alone_catalogue (packets_outside pair packets)
+    catalogue_outside =
+        sym (unlisted packets (packets_outside pair packets) pair r (rises_outside r)
+        (λ q other. same_entry packets (packets_outside pair packets) q (others_stay q (other_way q pair other))
+        (withdrawn_outside q))
+        (entry_of_none (packets_outside pair packets) pair whole_gone))
 
-  pub catalogue_outside : Rises part_cmp (keys packets)
-      → without pair (alone_catalogue packets) ≡ alone_catalogue (packets_outside pair packets)
-  catalogue_outside r =
-      without_keyed (entries_in packets) (entries_keyed packets) ∙ ap (map (λ x. x.1)) (entries_outside r)
+    pub withdrawals_outside : (q : Pair) → is_withdrawal packets q ≡ false
+        → is_withdrawal (packets_outside pair packets) q ≡ false
+    withdrawals_outside q no_withdrawal = go (eq_by_cmp pair_cmp pair q) refl where
+      says : Option (List ℕ) → Bool
+      says o = is_some (option_and_then (withdrawn_by q) (option_and_then said_in o))
+
+      go : (b : Bool) → eq_by_cmp pair_cmp pair q ≡ b → is_withdrawal (packets_outside pair packets) q ≡ false
+      go true p =
+          ap says (ap (λ (k : Pair). stored_at (packets_outside pair packets) k 0) (sym (eq_same exact_pairs pair q p))
+          ∙ nothing_inside 0)
+      go false p = ap says (others_stay q p 0) ∙ no_withdrawal
 
 -- ---- the plan
 
@@ -130,18 +125,39 @@ tied_hides pair plan packets tied = record {
   shapes =
       ap (filter (λ (e : Pair × Shape). not (eq_by_cmp pair_cmp pair e.0))) tied.shapes
       ∙ shapes_outside pair packets tied.in_order;
-}
+  recorded = λ q x there. recorded q x there (eq_by_cmp pair_cmp pair q) refl;
+  indexed = λ u o there. indexed u o there (eq_by_cmp pair_cmp pair (pair_of u)) refl;
+} where
+  outside : List Packet
+  outside = packets_outside pair packets
+
+  none_there : (o : Option (List ℕ)) → o ≡ None → is_some o ≡ true → ⊥
+  none_there o n h = true≢false (sym h ∙ ap is_some n)
+
+  recorded : (q : Pair) (x : ℕ) → is_some (stored_at outside q x) ≡ true → (b : Bool)
+      → eq_by_cmp pair_cmp pair q ≡ b → is_some (said_at outside q) ≡ true
+  recorded q x there true p =
+      absurd (none_there (stored_at outside q x)
+      (ap (λ (k : Pair). stored_at outside k x) (sym (eq_same exact_pairs pair q p)) ∙ nothing_inside pair packets x)
+      there)
+  recorded q x there false p =
+      ap (λ (o : Option (List ℕ)). is_some (option_and_then said_in o)) (others_stay pair packets q p 0)
+      ∙ tied.recorded q x (ap is_some (sym (others_stay pair packets q p x)) ∙ there)
+
+  indexed : (u : Part) (o : List ℕ) → value_of part_cmp outside u ≡ Some o → (b : Bool)
+      → eq_by_cmp pair_cmp pair (pair_of u) ≡ b → ListsAsMany o (lists_at outside u)
+  indexed u o there true p =
+      absurd (none_there (stored_at outside (pair_of u) u.part)
+      (ap (λ (k : Pair). stored_at outside k u.part) (sym (eq_same exact_pairs pair (pair_of u) p))
+      ∙ nothing_inside pair packets u.part)
+      (ap is_some there))
+  indexed u o there false p =
+      subst (ListsAsMany o)
+      (ap (λ (r : Option (List ℕ)). option_and_then (index_count u.part) (option_and_then listing_in r))
+      (sym (others_stay pair packets (pair_of u) p 0)))
+      (tied.indexed u o (sym (others_stay pair packets (pair_of u) p u.part) ∙ there))
 
 -- ---- many publications
-
--- whichever way round it is asked
-either_way : (a b : Pair) → eq_by_cmp pair_cmp a b ≡ eq_by_cmp pair_cmp b a
-either_way a b = go (eq_by_cmp pair_cmp a b) refl where
-  go : (c : Bool) → eq_by_cmp pair_cmp a b ≡ c → c ≡ eq_by_cmp pair_cmp b a
-  go true p =
-      let same : a ≡ b = eq_same exact_pairs a b p in
-      sym (ap (eq_by_cmp pair_cmp b) same ∙ eq_itself exact_pairs b)
-  go false p = sym (other_way a b p)
 
 packets_more : (pair : Pair) (pairs : List Pair) (packets : List Packet)
     → packets_outside_all (pair ∷ pairs) packets ≡ packets_outside_all pairs (packets_outside pair packets)
@@ -179,17 +195,79 @@ entries_more pair pairs (e ∷ es) =
       go false a false d h =
           rw (either_way (publication_of e) pair, a, d) (ap (λ (rest : List Entry). e ∷ rest) h)
 
-entries_all : (entries : List Entry) → without_all [] entries ≡ entries
+pub entries_all : (entries : List Entry) → without_all [] entries ≡ entries
 entries_all [] = refl
 entries_all (e ∷ es) = ap (λ (rest : List Entry). e ∷ rest) (entries_all es)
 
+-- none of these publications is a withdrawal
+abbrev pub AreObjects : List Packet → List Pair → Type 0
+AreObjects packets pairs = All (λ pair. is_withdrawal packets pair ≡ false) pairs
+
+objects_first : (pair : Pair) (pairs : List Pair) (packets : List Packet) → AreObjects packets (pair ∷ pairs)
+    → is_withdrawal packets pair ≡ false
+objects_first pair pairs packets all = All-head (λ (p : Pair). is_withdrawal packets p ≡ false) pair pairs all
+
+objects_left : (pair : Pair) (pairs : List Pair) (packets : List Packet) → Rises part_cmp (keys packets)
+    → AreObjects packets (pair ∷ pairs) → AreObjects (packets_outside pair packets) pairs
+objects_left pair pairs packets r all =
+    All-weaker (λ (p : Pair). is_withdrawal packets p ≡ false)
+    (λ (p : Pair). is_withdrawal (packets_outside pair packets) p ≡ false)
+    (λ q h. withdrawals_outside pair packets r (objects_first pair pairs packets all) q h) pairs
+    (All-tail (λ (p : Pair). is_withdrawal packets p ≡ false) pair pairs all)
+
 catalogue_outside_all : (pairs : List Pair) (packets : List Packet) → Rises part_cmp (keys packets)
+    → AreObjects packets pairs
     → without_all pairs (alone_catalogue packets) ≡ alone_catalogue (outside_all pairs packets)
-catalogue_outside_all [] packets r = entries_all (alone_catalogue packets)
-catalogue_outside_all (pair ∷ pairs) packets r =
+catalogue_outside_all [] packets r all = entries_all (alone_catalogue packets)
+catalogue_outside_all (pair ∷ pairs) packets r all =
     entries_more pair pairs (alone_catalogue packets)
-    ∙ ap (without_all pairs) (catalogue_outside pair packets r)
+    ∙ ap (without_all pairs) (catalogue_outside pair packets r (objects_first pair pairs packets all))
     ∙ catalogue_outside_all pairs (packets_outside pair packets) (rises_outside pair packets r)
+    (objects_left pair pairs packets r all)
+
+pub withdrawn_outside_all : (pairs : List Pair) (packets : List Packet) → Rises part_cmp (keys packets)
+    → AreObjects packets pairs → (q : Pair) → is_withdrawn (outside_all pairs packets) q ≡ is_withdrawn packets q
+withdrawn_outside_all [] packets r all q = refl
+withdrawn_outside_all (pair ∷ pairs) packets r all q =
+    withdrawn_outside_all pairs (packets_outside pair packets) (rises_outside pair packets r)
+    (objects_left pair pairs packets r all) q
+    ∙ withdrawn_outside pair packets r (objects_first pair pairs packets all) q
+
+-- what is left of other publications, and of these
+pub left_of_others : (pairs : List Pair) (packets : List Packet) (q : Pair) → contains pair_cmp pairs q ≡ false
+    → (x : ℕ) → stored_at (outside_all pairs packets) q x ≡ stored_at packets q x
+left_of_others [] packets q other x = refl
+left_of_others (pair ∷ pairs) packets q other x =
+    let both = or_parts (eq_by_cmp pair_cmp q pair) (contains pair_cmp pairs q) other in
+    left_of_others pairs (packets_outside pair packets) q both.1 x
+    ∙ others_stay pair packets q (other_way q pair both.0) x
+
+none_left : (pairs : List Pair) (packets : List Packet) (q : Pair) (x : ℕ) → stored_at packets q x ≡ None
+    → stored_at (outside_all pairs packets) q x ≡ None
+none_left [] packets q x h = h
+none_left (pair ∷ pairs) packets q x h =
+    none_left pairs (packets_outside pair packets) q x
+    (value_outside pair packets (part_of q x)
+    ∙ ap (λ (o : Option (List ℕ)). cond (not (is_in pair (part_of q x))) o None) h
+    ∙ go (not (is_in pair (part_of q x)))) where
+      go : (b : Bool) → let n : Option (List ℕ) = None in cond b n None ≡ n
+      go true = refl
+      go false = refl
+
+nothing_left : (pairs : List Pair) (packets : List Packet) (q : Pair) → contains pair_cmp pairs q ≡ true → (x : ℕ)
+    → stored_at (outside_all pairs packets) q x ≡ None
+nothing_left [] packets q h x = absurd (true≢false (sym h))
+nothing_left (pair ∷ pairs) packets q h x =
+    go (λ r. nothing_left pairs (packets_outside pair packets) q r x) (eq_by_cmp pair_cmp q pair) refl where
+      go : (contains pair_cmp pairs q ≡ true
+          → stored_at (outside_all pairs (packets_outside pair packets)) q x ≡ None)
+          → (b : Bool) → eq_by_cmp pair_cmp q pair ≡ b
+          → stored_at (outside_all pairs (packets_outside pair packets)) q x ≡ None
+      go rest true p =
+          let is : q ≡ pair = eq_same exact_pairs q pair p in
+          none_left pairs (packets_outside pair packets) q x
+          (ap (λ (k : Pair). stored_at (packets_outside pair packets) k x) is ∙ nothing_inside pair packets x)
+      go rest false p = rest (sym (ap (λ (b : Bool). b || contains pair_cmp pairs q) p) ∙ h)
 
 tied_hides_all : (pairs : List Pair) (plan : PlanState) (packets : List Packet) → AreTied plan packets
     → AreTied (plan_hides pairs plan) (outside_all pairs packets)
@@ -198,13 +276,52 @@ tied_hides_all (pair ∷ pairs) plan packets tied =
     tied_hides_all pairs (uses_room (hides_too pair plan)) (packets_outside pair packets)
     (tied_hides pair plan packets tied)
 
-pub kept_hides_all : (pairs : List Pair) (plan : PlanState) (packets : List Packet) (entries : List Entry)
-    → AreKept plan packets entries
-    → AreKept (plan_hides pairs plan) (outside_all pairs packets) (without_all pairs entries)
-kept_hides_all pairs plan packets entries kept = record {
+noted_hides_all : (pairs : List Pair) (packets : List Packet) (old new : NotesState) → Rises part_cmp (keys packets)
+    → AreObjects packets pairs → new.withdrawn ≡ old.withdrawn
+    → ((q : Pair) → contains pair_cmp pairs q ≡ false
+    → value_of pair_cmp new.names q ≡ value_of pair_cmp old.names q)
+    → AreNotes old packets → AreNotes new (outside_all pairs packets)
+noted_hides_all pairs packets old new r all withdrawn names are = record {
+  withdrawn = λ q.
+      ap (λ (ws : List Pair). contains pair_cmp ws q) withdrawn
+      ∙ are.withdrawn q
+      ∙ sym (withdrawn_outside_all pairs packets r all q);
+  names = λ q l listed none. go q l listed none (contains pair_cmp pairs q) refl;
+} where
+  after : List Packet
+  after = outside_all pairs packets
+
+  go : (q : Pair) (l : Listed) → listing_at after q ≡ Some l → whole_at after q ≡ None → (b : Bool)
+      → contains pair_cmp pairs q ≡ b → value_of pair_cmp new.names q ≡ Some l.name
+  go q l listed none true p =
+      absurd (none_is l (sym (ap (option_and_then listing_in) (nothing_left pairs packets q p 0)) ∙ listed)) where
+        none_is : (m : Listed) → let n : Option Listed = None in n ≡ Some m → ⊥
+        none_is m h = cc
+  go q l listed none false p =
+      names q p
+      ∙ are.names q l (ap (option_and_then listing_in) (sym (left_of_others pairs packets q p 0)) ∙ listed)
+      (sym (same_whole packets after q (left_of_others pairs packets q p)) ∙ none)
+
+pub kept_hides_all : (pairs : List Pair) (plan : PlanState) (packets : List Packet) (old new : NotesState)
+    (entries : List Entry) → AreObjects packets pairs → new.withdrawn ≡ old.withdrawn
+    → ((q : Pair) → contains pair_cmp pairs q ≡ false
+    → value_of pair_cmp new.names q ≡ value_of pair_cmp old.names q)
+    → AreKept plan packets old entries
+    → AreKept (plan_hides pairs plan) (outside_all pairs packets) new (without_all pairs entries)
+kept_hides_all pairs plan packets old new entries all withdrawn names kept = record {
   tied = tied_hides_all pairs plan packets kept.tied;
-  listed = ap (without_all pairs) kept.listed ∙ catalogue_outside_all pairs packets kept.tied.in_order;
+  noted = noted_hides_all pairs packets old new kept.tied.in_order all withdrawn names kept.noted;
+  listed =
+      ap (without_all pairs) kept.listed ∙ catalogue_outside_all pairs packets kept.tied.in_order all;
 }
+
+-- a publication that isn't among these is none of them
+pub is_none_of : (pairs : List Pair) (q : Pair) → contains pair_cmp pairs q ≡ false
+    → All (λ pair. eq_by_cmp pair_cmp q pair ≡ false) pairs
+is_none_of [] q h = All-nil (λ (pair : Pair). eq_by_cmp pair_cmp q pair ≡ false)
+is_none_of (pair ∷ pairs) q h =
+    let both = or_parts (eq_by_cmp pair_cmp q pair) (contains pair_cmp pairs q) h in
+    All-cons (λ (pair : Pair). eq_by_cmp pair_cmp q pair ≡ false) pair pairs both.0 (is_none_of pairs q both.1)
 
 pub all_hidden : (pairs : List Pair) (plan : PlanState) → IsHiding pairs plan (plan_hides pairs plan)
 all_hidden [] plan = record { known = refl; claims = refl; hidden = refl; attempts = refl }

@@ -1,27 +1,28 @@
 -- The plan of what is held, as what is seen says it.
-use Rattle.std.proofs.Common.{◌≡◌, ℕ, ◌-◌, ◌≤◌, true, false, arith, ◌==◌, Option, Some, refl, sym, ap, ◌∙◌}
+use Rattle.std.proofs.Common.{◌≡◌, ℕ, ◌≤◌, true, false, arith, ◌==◌, Some, refl, sym, ap, ◌∙◌}
 use Rattle.std.proofs.Common.{subst}
 use Rattle.std.proofs.Common.{max, List}
-use Rattle.std.specs.Prelude.{IsSome}
 use Rattle.std.proofs.lemmas.Bool.{false_from_ne_true, eqb-true}
+use Rattle.ndn_name.specs.Names.{Component}
+use Rattle.sorted_lists.specs.SortedList.{contains, value_of}
 use Rattle.repo_plan.specs.declared.part.Part.{Part}
-use Rattle.repo_plan.specs.Parts.{pair_of}
-use Rattle.repo_plan.specs.Plan.{PlanState, is_asked, is_wanted, claim_of}
-use Rattle.repo_plan.specs.Sound.{PlanIsSound}
+use Rattle.repo_plan.specs.declared.shape.Shape.{Shape}
+use Rattle.repo_plan.specs.Parts.{Pair, pair_cmp, pair_of, parent, parts_behind}
+use Rattle.repo_plan.specs.Plan.{PlanState, is_asked}
 use Rattle.repo_plan.proofs.Changes.{same_holdings}
-use Rattle.repo_object.specs.Publication.{Listed}
 use Rattle.repo_holdings.specs.declared.holdings.Holdings.TheInside.{Inside}
-use Rattle.repo_holdings.specs.declared.holdings.stored_record.StoredRecord.{StoredRecord}
+use Rattle.repo_holdings.specs.declared.holdings.stored_parent.StoredParent.{StoredParent}
 use Rattle.repo_store.specs.StoreList.{StoreList}
 use Rattle.repo_catalog.specs.declared.entry.Entry.{Entry}
 use Rattle.repo_catalog.specs.Entries.{EntryList}
 use Rattle.repo_holdings.specs.Records.{Packet}
+use Rattle.repo_holdings.specs.Noted.{NotesState}
 use Rattle.repo_holdings.specs.Gaining.{AreKept, HaveRoom}
 use Rattle.repo_holdings.specs.Listed.{listing_at, listed_shape}
-use Rattle.repo_holdings.specs.StoredRecords.{IsStored, IsListedIn}
+use Rattle.repo_holdings.specs.StoredParents.{HasParent, IsStoredParent, IsListedBy}
 use Rattle.repo_holdings.specs.HoldingsState.{HoldingsState, held_plan}
 use Rattle.repo_holdings.specs.HoldingsFields.{state, IsHoldings}
-use Rattle.repo_holdings.proofs.AskedLemmas.{IsListedSegment, asked_segment}
+use Rattle.repo_holdings.proofs.AskedLemmas.{asked_segment}
 
 -- the plan is that of what is seen, with what is spare
 pub plan_is : (m : Inside) → IsHoldings m → m.plan ≡ record (held_plan (state m)) { spare = m.plan.spare }
@@ -40,65 +41,70 @@ pub asked_of : (m : Inside) (h : HoldingsState) (t : Part) → IsHoldings m → 
     → is_asked (held_plan h) t ≡ true → is_asked m.plan t ≡ true
 asked_of m h t is view asked = reading (λ p. is_asked p t) m h is view refl ∙ asked
 
--- the stored record of a segment that is asked for
+-- what lists a part that is asked for is stored
 pub segment_of : (m : Inside) (h : HoldingsState) (t : Part) → IsHoldings m → state m ≡ h
-    → is_asked (held_plan h) t ≡ true → (t.part == 0) ≡ false → IsListedSegment m.store.packets t
-segment_of m h t is view asked segment =
-    asked_segment m.plan m.store.packets t is.kept.tied (asked_of m h t is view asked) segment
+    → is_asked (held_plan h) t ≡ true → (t.part == 0) ≡ false → HasParent m.store.packets t
+segment_of m h t is view asked behind =
+    asked_segment m.plan m.store.packets t is.kept.tied (asked_of m h t is view asked) behind
 
 pub not_zero : (n : ℕ) → (n ≡ 0 → ⊥) → (n == 0) ≡ false
 not_zero n h = false_from_ne_true (n == 0) (λ e. h (eqb-true n 0 e))
 
-pub some_is : (o : Option Listed) (l : Listed) → o ≡ Some l → IsSome o
-some_is o l h = subst (λ (x : Option Listed). IsSome x) (sym h) refl
-
--- it counts the segment, whichever way it was read
-pub counted_by : (m : Inside) (t : Part) (l : Listed) → IsListedSegment m.store.packets t
-    → listing_at m.store.packets (pair_of t) ≡ Some l → t.part ≤ listed_shape l
-counted_by m t l segment listed =
-    let both : Some segment.listing ≡ Some l = sym segment.listed ∙ listed in
-    let same : segment.listing ≡ l = cc in
-    subst (λ (x : Listed). t.part ≤ listed_shape x) same segment.counted
-
--- the record of such a segment, as it was read
-pub listed_in : (m : Inside) (h : HoldingsState) (t : Part) (r : StoredRecord) → IsHoldings m → state m ≡ h
-    → is_asked (held_plan h) t ≡ true → (t.part ≡ 0 → ⊥) → pair_of r.part ≡ pair_of t → IsStored h.store r
-    → IsListedIn h.store t r
-listed_in m h t r is view asked segment same stored =
-    let there : listing_at h.store (pair_of t) ≡ Some r.view = ap (listing_at h.store) (sym same) ∙ stored in
-    let here = ap (λ (x : HoldingsState). listing_at x.store (pair_of t)) view ∙ there in record {
-      segment = omega (arith, segment);
-      stored = there;
-      counted = counted_by m t r.view (segment_of m h t is view asked (not_zero t.part segment)) here;
+-- what was read last lists a part, where it stands at its place
+pub still_lists : (m : Inside) (h : HoldingsState) (t : Part) (r : StoredParent) → IsHoldings m → state m ≡ h
+    → is_asked (held_plan h) t ≡ true → (t.part ≡ 0 → ⊥) → r.part ≡ parent r.shape t → IsStoredParent h.store r
+    → IsListedBy h.store t r
+still_lists m h t r is view asked behind lists stored =
+    let has = segment_of m h t is view asked (not_zero t.part behind) in
+    let same : pair_of r.part ≡ pair_of t = ap pair_of lists in
+    let here : listing_at h.store (pair_of t) ≡ Some has.listing =
+    ap (λ (x : HoldingsState). listing_at x.store (pair_of t)) (sym view) ∙ has.listed in
+    let both : Some r.listing ≡ Some has.listing = sym stored.listed ∙ ap (listing_at h.store) same ∙ here in
+    let listing : r.listing ≡ has.listing = cc in
+    record {
+      behind = has.behind;
+      counted =
+          subst (λ (s : Shape). t.part ≤ parts_behind s) (ap listed_shape (sym listing) ∙ sym stored.shape) has.counted;
+      stored = stored;
+      lists = lists;
     }
-
--- a claimed part is wanted
-pub claimed_wanted : (m : Inside) (h : HoldingsState) (f : ℕ) (t : Part) → IsHoldings m → state m ≡ h
-    → PlanIsSound m.plan → claim_of m.plan f ≡ Some t → is_wanted (held_plan h) t ≡ true
-claimed_wanted m h f t is view sound claim =
-    sym (reading (λ p. is_wanted p t) m h is view refl) ∙ sound.claimed (f - 1) t claim
 
 -- ---- what stays where room is made
 
-kept_with : (plan : PlanState) (n : ℕ) (packets : List Packet) (entries : List Entry) → AreKept plan packets entries
-    → AreKept (record plan { spare = n }) packets entries
-kept_with plan n packets entries kept = record {
-  tied = record { in_order = kept.tied.in_order; held = kept.tied.held; shapes = kept.tied.shapes };
+kept_with : (plan : PlanState) (n : ℕ) (packets : List Packet) (notes after : NotesState) (entries : List Entry)
+    → after.names ≡ notes.names → after.withdrawn ≡ notes.withdrawn → AreKept plan packets notes entries
+    → AreKept (record plan { spare = n }) packets after entries
+kept_with plan n packets notes after entries names withdrawn kept = record {
+  tied = record {
+    in_order = kept.tied.in_order;
+    held = kept.tied.held;
+    shapes = kept.tied.shapes;
+    recorded = kept.tied.recorded;
+    indexed = kept.tied.indexed;
+  };
+  noted = record {
+    withdrawn = λ q. ap (λ (ws : List Pair). contains pair_cmp ws q) withdrawn ∙ kept.noted.withdrawn q;
+    names = λ q l listed none.
+        ap (λ (ns : List (Pair × List Component)). value_of pair_cmp ns q) names ∙ kept.noted.names q l listed none;
+  };
   listed = kept.listed;
 }
 
-pub kept_still : (plan after : PlanState) (n : ℕ) (packets stored : List Packet) (entries listed : List Entry)
-    → after ≡ record plan { spare = n } → stored ≡ packets → listed ≡ entries → AreKept plan packets entries
-    → AreKept after stored listed
-kept_still plan after n packets stored entries listed planned same listed_same kept =
-    rw (planned, same, listed_same) (kept_with plan n packets entries kept)
+pub kept_still : (plan after : PlanState) (n : ℕ) (packets stored : List Packet) (notes noted : NotesState)
+    (entries listed : List Entry)
+    → after ≡ record plan { spare = n } → stored ≡ packets → noted.names ≡ notes.names
+    → noted.withdrawn ≡ notes.withdrawn → listed ≡ entries → AreKept plan packets notes entries
+    → AreKept after stored noted listed
+kept_still plan after n packets stored notes noted entries listed planned same names withdrawn listed_same kept =
+    rw (planned, same, listed_same) (kept_with plan n packets notes noted entries names withdrawn kept)
 
 -- room for one number and for another is room for the greater
-pub most_room : (plan : PlanState) (store : StoreList) (catalogue : EntryList) (n k most : ℕ)
-    → HaveRoom n plan store catalogue → HaveRoom k plan store catalogue → most ≡ max n k
-    → HaveRoom most plan store catalogue
-most_room plan store catalogue n k most a b is = record {
+pub most_room : (plan : PlanState) (store : StoreList) (notes : NotesState) (catalogue : EntryList) (n k most : ℕ)
+    → HaveRoom n plan store notes catalogue → HaveRoom k plan store notes catalogue → most ≡ max n k
+    → HaveRoom most plan store notes catalogue
+most_room plan store notes catalogue n k most a b is = record {
   for_plan = omega (arith, a.for_plan, b.for_plan, is);
   for_store = omega (arith, a.for_store, b.for_store, is);
+  for_notes = omega (arith, a.for_notes, b.for_notes, is);
   for_catalogue = omega (arith, a.for_catalogue, b.for_catalogue, is);
 }

@@ -1,14 +1,20 @@
 pub mod SortedMaps
 pub mod RecordLemmas
 pub mod CatalogueLemmas
+pub mod WithdrawnLemmas
+pub mod NotedLemmas
 pub mod GainingLemmas
-pub mod HidingLemmas
-mod ContentLemmas
 pub mod AskedLemmas
 pub mod WholeLemmas
+pub mod StepLemmas
 pub mod FreshLemmas
-mod ArrivedLemmas
+pub mod HidingLemmas
 pub mod HoldingsLemmas
+mod ArrivedLemmas
+mod ContentLemmas
+mod PairLists
+pub mod ParentLemmas
 mod PlanLemmas
 pub mod PublishLemmas
 mod TakingLemmas
+pub mod WantLemmas

@@ -1,34 +1,42 @@
 -- The parts of a new publication, gained one after another.
-use Rattle.std.proofs.Common.{◌≡◌, ℕ, ◌+◌, ◌-◌, ◌≤◌, ◌<◌, Bool, true, false, cond, ◌&&◌, ◌==◌, List, [], ◌∷◌, refl, sym}
-use Rattle.std.proofs.Common.{ap, ◌∙◌, subst, Option, Some, None, option_map, is_some, zero, suc, arith, length}
+use Rattle.std.proofs.Common.{◌≡◌, ℕ, ◌+◌, ◌-◌, ◌≤◌, ◌<◌, Bool, true, false, cond, ◌&&◌, ◌||◌, ◌==◌, List, [], ◌∷◌}
+use Rattle.std.proofs.Common.{refl}
+use Rattle.std.proofs.Common.{sym, ap, ◌∙◌, subst, Option, Some, None, option_map, is_some, zero, suc, arith, length}
+use Rattle.std.proofs.Common.{inl, inr, ◌⊎◌}
 use Rattle.std.specs.Prelude.{nat_le, slice_index}
 use Rattle.std.specs.Option.{option_and_then}
 use Rattle.std.specs.Ordering.{eq_by_cmp}
-use Rattle.std.proofs.lemmas.Bool.{true≢false, and_from, or_left, or_right, eqb-true, le-leb, false_from_ne_true}
+use Rattle.std.proofs.lemmas.Bool.{true≢false, and_from, or_left, or_right, eqb-true, eqb-false, le-leb, cases_lt}
+use Rattle.std.proofs.lemmas.Bool.{false_from_ne_true}
 use Rattle.repo_plan.specs.declared.part.Part.{Part}
+use Rattle.repo_plan.specs.declared.shape.Shape.{Shape}
 use Rattle.sorted_lists.specs.SortedList.{keys, Rises, contains, insert_key, value_of, with_value}
-use Rattle.repo_plan.specs.Parts.{Pair, Shape, pair_cmp, part_cmp, pair_of, part_of}
+use Rattle.repo_plan.specs.Parts.{Pair, IsShape, pair_cmp, part_cmp, pair_of, part_of, parent, parent_number}
+use Rattle.repo_plan.specs.Parts.{parts_behind}
 use Rattle.repo_plan.specs.Plan.{PlanState, holds, hides, knows, is_asked, can_be_asked, is_claimed, shape_of}
-use Rattle.repo_plan.specs.Plan.{holds_too}
-use Rattle.repo_plan.specs.Plan.{uses_room, with_shape}
+use Rattle.repo_plan.specs.Plan.{holds_too, uses_room, with_shape}
 use Rattle.repo_plan.proofs.Orders.{exact_pairs, exact_parts}
+use Rattle.repo_plan.proofs.Parents.{lists_in_turn}
 use Rattle.sorted_lists.proofs.Sets.{eq_same, eq_itself, contains-insert_key, value_of-with_value}
 use Rattle.repo_store.specs.StoreList.{with_packet}
-use Rattle.repo_holdings.specs.Records.{Packet}
-use Rattle.repo_object.specs.Verdict.{listing_in}
-use Rattle.repo_holdings.specs.Listed.{listing_at, listed_shape, stored_at, entry_at, entry_listed, alone_catalogue}
-use Rattle.repo_holdings.specs.NewPublications.{as_parts, with_packets}
-use Rattle.repo_holdings.specs.Gaining.{AreTied, AreKept, KeepsOthers, with_listed}
-use Rattle.repo_holdings.specs.NewPublications.{IsNew, ListsTheOthers, NamesTheObject}
 use Rattle.repo_object.specs.Publication.{Listed}
-use Rattle.ndn_name.specs.Names.{Component}
-use Rattle.repo_catalog.specs.declared.entry.Entry.{Entry}
+use Rattle.repo_object.specs.Verdict.{said_in}
+use Rattle.repo_holdings.specs.declared.told.Told.{Told}
 use Rattle.repo_holdings.specs.declared.holdings.Holdings.TheInside.{Inside}
+use Rattle.repo_holdings.specs.Records.{Packet}
+use Rattle.repo_holdings.specs.Listed.{stored_at, listing_in, said_at, listing_at, whole_at, entry_listed, withdraws}
+use Rattle.repo_holdings.specs.Listed.{is_withdrawn}
+use Rattle.repo_holdings.specs.StoredParents.{index_count, lists_at, ListsAsMany}
+use Rattle.repo_holdings.specs.Gaining.{KeepsOthers, told_of, shape_told, told_shape}
+use Rattle.repo_holdings.specs.Changing.{withdraws_too}
+use Rattle.repo_holdings.specs.NewPublications.{as_parts, with_packets, IsNew, ListInTurn, ListsTheOthers}
 use Rattle.repo_holdings.specs.HoldingsState.{HoldingsState, held_plan}
 use Rattle.repo_holdings.specs.HoldingsFields.{state, IsHoldings}
 use Rattle.repo_holdings.proofs.HoldingsLemmas.{plan_is}
-use Rattle.repo_holdings.proofs.CatalogueLemmas.{relisted}
-use Rattle.repo_holdings.proofs.GainingLemmas.{contains-value, put_here, put_elsewhere}
+use Rattle.repo_holdings.proofs.AskedLemmas.{shape_sized}
+use Rattle.repo_holdings.proofs.WithdrawnLemmas.{withdrawn_more, withdraws_told}
+use Rattle.repo_holdings.proofs.GainingLemmas.{contains-value, put_here, put_elsewhere, record_put, record_stays}
+use Rattle.repo_holdings.proofs.GainingLemmas.{list_nothing}
 
 -- ---- what stays where packets are put elsewhere
 
@@ -69,44 +77,52 @@ later_part pair x y less = go (eq_by_cmp part_cmp (part_of pair x) (part_of pair
 
 -- ---- the plan so far
 
--- what part `x` of a publication tells: the record how many segments there are
-abbrev pub told_first : ℕ → ℕ → Option Shape
-told_first segments x = cond (x == 0) (Some segments) None
+-- what part `x` of a publication tells: the record its shape
+abbrev pub told_first : Shape → ℕ → Option Shape
+told_first shape x = cond (x == 0) (Some shape) None
 
-pub not_told : (segments x : ℕ) → (x ≡ 0 → ⊥) → told_first segments x ≡ None
-not_told segments x h =
-    ap (λ (b : Bool). cond b (Some segments) None) (false_from_ne_true (x == 0) (λ e. h (eqb-true x 0 e)))
+pub not_told : (shape : Shape) (x : ℕ) → (x ≡ 0 → ⊥) → told_first shape x ≡ None
+not_told shape x h =
+    ap (λ (b : Bool). cond b (Some shape) None) (false_from_ne_true (x == 0) (λ e. h (eqb-true x 0 e)))
 
-pub told_later : (segments n : ℕ) → told_first segments (suc n) ≡ None
-told_later segments n =
-    ap (λ (b : Bool). cond b (Some segments) None)
+pub told_later : (shape : Shape) (n : ℕ) → told_first shape (suc n) ≡ None
+told_later shape n =
+    ap (λ (b : Bool). cond b (Some shape) None)
     (false_from_ne_true (suc n == 0) (λ e. absurd (omega (arith, eqb-true (suc n) 0 e))))
 
--- a plan that has gained the first `x` parts of a new publication, whose record counts so many segments
-pub record HasGained (start plan : PlanState) (pair : Pair) (segments x : ℕ) : Type 0 where
+-- what lists a part comes before it
+parent_before : (shape : Shape) (x : ℕ) → IsShape shape → 0 < x → x ≤ parts_behind shape → parent_number shape x < x
+parent_before shape x sized some counted =
+    elim (cases_lt shape.index x) [
+      | inl above ↦ omega (arith, above, (lists_in_turn shape sized).listed x counted)
+      | inr within ↦ omega (arith, some, (lists_in_turn shape sized).by_record x within)
+    ]
+
+-- a plan that has gained the first `x` parts of a new publication of this shape
+pub record HasGained (start plan : PlanState) (pair : Pair) (shape : Shape) (x : ℕ) : Type 0 where
   pub others : KeepsOthers start plan
   pub fresh : (y : ℕ) → x ≤ y → holds plan (part_of pair y) ≡ false
-  pub record_held : 0 < x → holds plan (part_of pair 0) ≡ true
-  pub told : 0 < x → shape_of plan pair ≡ Some segments
+  pub held : (y : ℕ) → y < x → holds plan (part_of pair y) ≡ true
+  pub told : 0 < x → shape_of plan pair ≡ Some shape
 
-pub gained_none : (start : PlanState) (pair : Pair) (segments : ℕ) → IsNew start pair
-    → HasGained start start pair segments 0
-gained_none start pair segments new = record {
+pub gained_none : (start : PlanState) (pair : Pair) (shape : Shape) → IsNew start pair
+    → HasGained start start pair shape 0
+gained_none start pair shape new = record {
   others = record { known = refl; claims = refl; hidden = refl; attempts = refl };
   fresh = λ y h. new.not_held y;
-  record_held = λ h. absurd (omega (arith, h));
+  held = λ y h. absurd (omega (arith, h));
   told = λ h. absurd (omega (arith, h));
 }
 
-module _ (start plan : PlanState) (pair : Pair) (segments x : ℕ) (new : IsNew start pair)
-    (so_far : HasGained start plan pair segments x) where
+module _ (start plan : PlanState) (pair : Pair) (shape : Shape) (x : ℕ) (new : IsNew start pair)
+    (so_far : HasGained start plan pair shape x) where
   known_still : knows plan pair ≡ true
   known_still =
       ap (λ (known : List ℕ). nat_le 1 pair.1 && nat_le pair.1 (slice_index known pair.0)) so_far.others.known
       ∙ new.known
 
-  pub can_ask : x ≤ segments → is_asked plan (part_of pair x) ≡ true
-  can_ask counted =
+  pub can_ask : IsShape shape → x ≤ parts_behind shape → is_asked plan (part_of pair x) ≡ true
+  can_ask sized counted =
       and_from (knows plan pair) (can_be_asked plan.held (shape_of plan pair) (part_of pair x)) known_still
       (go x refl) where
         record_part : (s : Option Shape) → can_be_asked plan.held s (part_of pair 0) ≡ true
@@ -117,10 +133,14 @@ module _ (start plan : PlanState) (pair : Pair) (segments x : ℕ) (new : IsNew 
         go zero e = record_part (shape_of plan pair)
         go (suc n) e =
             let above : 0 < x = omega (arith, e) in
+            let before : parent_number shape (suc n) < x =
+            omega (arith, e, parent_before shape (suc n) sized (omega arith) (omega (arith, e, counted))) in
             ap (λ (s : Option Shape). can_be_asked plan.held s (part_of pair (suc n))) (so_far.told above)
-            ∙ or_right (suc n == 0) (nat_le (suc n) segments && contains part_cmp plan.held (part_of pair 0))
-            (and_from (nat_le (suc n) segments) (contains part_cmp plan.held (part_of pair 0))
-            (le-leb (suc n) segments (omega (arith, e, counted))) (so_far.record_held above))
+            ∙ or_right (suc n == 0) _
+            (and_from (nat_le (suc n) (parts_behind shape))
+            (contains part_cmp plan.held (parent shape (part_of pair (suc n))))
+            (le-leb (suc n) (parts_behind shape) (omega (arith, e, counted)))
+            (so_far.held (parent_number shape (suc n)) before))
 
   pub not_hidden : hides plan pair ≡ false
   not_hidden = ap (λ (hidden : List Pair). contains pair_cmp hidden pair) so_far.others.hidden ∙ new.not_hidden
@@ -132,10 +152,10 @@ module _ (start plan : PlanState) (pair : Pair) (segments x : ℕ) (new : IsNew 
       ∙ new.not_claimed x
 
   -- one part more
-  pub gained_more : (shape : Option Shape) (after : PlanState) → shape ≡ told_first segments x
-      → after ≡ uses_room (holds_too (part_of pair x) shape plan) → HasGained start after pair segments (x + 1)
-  gained_more shape after is_shape is =
-      subst (λ (p : PlanState). HasGained start p pair segments (x + 1)) (sym (is ∙ ap uses_room taken)) (record {
+  pub gained_more : (told : Option Shape) (after : PlanState) → told ≡ told_first shape x
+      → after ≡ uses_room (holds_too (part_of pair x) told plan) → HasGained start after pair shape (x + 1)
+  gained_more told after is_told is =
+      subst (λ (p : PlanState). HasGained start p pair shape (x + 1)) (sym (is ∙ ap uses_room taken)) (record {
         others = record {
           known = so_far.others.known;
           claims = so_far.others.claims;
@@ -143,16 +163,16 @@ module _ (start plan : PlanState) (pair : Pair) (segments x : ℕ) (new : IsNew 
           attempts = so_far.others.attempts;
         };
         fresh = λ y h. held_of (part_of pair y) (so_far.fresh y (omega (arith, h))) (later y (omega (arith, h)));
-        record_held = λ h. record_there x refl;
-        told = λ h. told_then x refl is_shape;
+        held = λ y h. held_then y h (cases_lt y x);
+        told = λ h. told_then x refl is_told;
       }) where
         with_it : PlanState
         with_it = record plan {
           held = insert_key part_cmp (part_of pair x) plan.held;
-          shapes = with_shape pair shape plan.shapes;
+          shapes = with_shape pair told plan.shapes;
         }
 
-        taken : holds_too (part_of pair x) shape plan ≡ with_it
+        taken : holds_too (part_of pair x) told plan ≡ with_it
         taken = ap (λ (b : Bool). cond b plan with_it) (so_far.fresh x (omega arith))
 
         later : (y : ℕ) → x < y → eq_by_cmp part_cmp (part_of pair y) (part_of pair x) ≡ false
@@ -167,60 +187,176 @@ module _ (start plan : PlanState) (pair : Pair) (segments x : ℕ) (new : IsNew 
             → contains part_cmp (insert_key part_cmp (part_of pair x) plan.held) t ≡ false
         held_of t a b = contains-insert_key exact_parts (part_of pair x) plan.held t ∙ rw (b, a) refl
 
-        record_there : (n : ℕ) → x ≡ n
-            → contains part_cmp (insert_key part_cmp (part_of pair x) plan.held) (part_of pair 0) ≡ true
-        record_there zero e = contains-insert_key exact_parts (part_of pair x) plan.held (part_of pair 0)
-            ∙ or_left (eq_by_cmp part_cmp (part_of pair 0) (part_of pair x)) _
-            (ap (λ (n : ℕ). eq_by_cmp part_cmp (part_of pair 0) (part_of pair n)) e
-            ∙ eq_itself exact_parts (part_of pair 0))
-        record_there (suc n) e = contains-insert_key exact_parts (part_of pair x) plan.held (part_of pair 0)
-            ∙ or_right (eq_by_cmp part_cmp (part_of pair 0) (part_of pair x)) _ (so_far.record_held (omega (arith, e)))
+        held_then : (y : ℕ) → y < x + 1 → (y < x) ⊎ (x ≤ y)
+            → contains part_cmp (insert_key part_cmp (part_of pair x) plan.held) (part_of pair y) ≡ true
+        held_then y h (inl before) =
+            contains-insert_key exact_parts (part_of pair x) plan.held (part_of pair y)
+            ∙ or_right (eq_by_cmp part_cmp (part_of pair y) (part_of pair x)) _ (so_far.held y before)
+        held_then y h (inr at) =
+            let same : y ≡ x = omega (arith, h, at) in
+            contains-insert_key exact_parts (part_of pair x) plan.held (part_of pair y)
+            ∙ or_left (eq_by_cmp part_cmp (part_of pair y) (part_of pair x)) _
+            (ap (λ (n : ℕ). eq_by_cmp part_cmp (part_of pair n) (part_of pair x)) same
+            ∙ eq_itself exact_parts (part_of pair x))
 
-        told_then : (n : ℕ) → x ≡ n → shape ≡ told_first segments x
-            → value_of pair_cmp (with_shape pair shape plan.shapes) pair ≡ Some segments
+        told_then : (n : ℕ) → x ≡ n → told ≡ told_first shape x
+            → value_of pair_cmp (with_shape pair told plan.shapes) pair ≡ Some shape
         told_then zero e s =
-            let is_some_shape : shape ≡ Some segments = s ∙ ap (told_first segments) e in
+            let is_some_shape : told ≡ Some shape = s ∙ ap (told_first shape) e in
             ap (λ (o : Option Shape). value_of pair_cmp (with_shape pair o plan.shapes) pair) is_some_shape
-            ∙ value_of-with_value exact_pairs pair segments plan.shapes pair
-            ∙ ap (λ (b : Bool). cond b (Some segments) (value_of pair_cmp plan.shapes pair))
+            ∙ value_of-with_value exact_pairs pair shape plan.shapes pair
+            ∙ ap (λ (b : Bool). cond b (Some shape) (value_of pair_cmp plan.shapes pair))
             (eq_itself exact_pairs pair)
         told_then (suc n) e s =
-            let is_none : shape ≡ None = s ∙ ap (told_first segments) e ∙ told_later segments n in
+            let is_none : told ≡ None = s ∙ ap (told_first shape) e ∙ told_later shape n in
             ap (λ (o : Option Shape). value_of pair_cmp (with_shape pair o plan.shapes) pair) is_none
             ∙ so_far.told (omega (arith, e))
 
+-- ---- what the packets say that are still to come
+
+-- the object that the first of these packets lists, if it is the record of one
+abbrev pub first_listing : List (List ℕ) → Option Listed
+first_listing [] = None
+first_listing (octets ∷ behind) = listing_in octets
+
+-- from part `x` on: all, or those behind the record, which is stored
+pub record AreToCome (told : Told) (l : Option Listed) (pair : Pair) (x : ℕ) (rest : List (List ℕ))
+    (stored : List Packet) : Type 0 where
+  pub all : x ≡ 0 → ListsTheOthers told rest
+  pub first : x ≡ 0 → first_listing rest ≡ l
+  pub turn : 0 < x → ListInTurn l x rest
+  pub recorded : 0 < x → listing_at stored pair ≡ l
+
+module _ (told : Told) (l : Option Listed) (pair : Pair) (x : ℕ) (octets : List ℕ) (rest : List (List ℕ))
+    (stored : List Packet) (come : AreToCome told l pair x (octets ∷ rest) stored) where
+  -- what it tells is its shape, if it is the record
+  pub tells_shape : (s : Option Shape) → s ≡ told_first (shape_told told) x → s ≡ told_shape (part_of pair x) octets
+  tells_shape s is = go (x == 0) refl is where
+    go : (b : Bool) → (x == 0) ≡ b → s ≡ cond b (Some (shape_told told)) None
+        → s ≡ option_map shape_told (cond b (option_map told_of (said_in octets)) None)
+    go true p h = h ∙ ap (option_map shape_told) (sym (come.all (eqb-true x 0 p)).0)
+    go false p h = h
+
+  -- and it lists as many digests as it has to
+  pub lists_many : ListsAsMany octets (lists_at stored (part_of pair x))
+  lists_many = go (x == 0) refl where
+    go : (b : Bool) → (x == 0) ≡ b → ListsAsMany octets (option_and_then (index_count x) (listing_at stored pair))
+    go true p =
+        subst (λ (n : ℕ). ListsAsMany octets (option_and_then (index_count n) (listing_at stored pair)))
+        (sym (eqb-true x 0 p)) (list_nothing octets (listing_at stored pair))
+    go false p =
+        let some : 0 < x = omega (arith, eqb-false x 0 p) in
+        subst (λ (o : Option Listed). ListsAsMany octets (option_and_then (index_count x) o))
+        (sym (come.recorded some)) (come.turn some).0
+
+  -- those behind it
+  pub come_later : (after : List Packet) → after ≡ with_packet (part_of pair x) octets stored
+      → contains part_cmp (keys stored) (part_of pair x) ≡ false → AreToCome told l pair (x + 1) rest after
+  come_later after puts absent = record {
+    all = λ e. absurd (omega (arith, e));
+    first = λ e. absurd (omega (arith, e));
+    turn = λ h. turn (x == 0) refl;
+    recorded = λ h. recorded (x == 0) refl;
+  } where
+    turn : (b : Bool) → (x == 0) ≡ b → ListInTurn l (x + 1) rest
+    turn true p =
+        let zero_is : x ≡ 0 = eqb-true x 0 p in
+        let all = come.all zero_is in
+        subst (λ (n : ℕ). ListInTurn l n rest) (omega (arith, zero_is))
+        (subst (λ (o : Option Listed). ListInTurn o 1 rest) (come.first zero_is) all.1.1)
+    turn false p = (come.turn (omega (arith, eqb-false x 0 p))).1
+
+    recorded : (b : Bool) → (x == 0) ≡ b → listing_at after pair ≡ l
+    recorded true p =
+        ap (λ (es : List Packet). listing_at es pair) puts
+        ∙ ap (option_and_then listing_in) (record_put stored (part_of pair x) octets absent
+        ∙ ap (λ (b : Bool). cond b (Some octets) (stored_at stored pair 0)) p)
+        ∙ come.first (eqb-true x 0 p)
+    recorded false p =
+        ap (λ (es : List Packet). listing_at es pair) puts
+        ∙ ap (option_and_then listing_in) (record_stays stored (part_of pair x) octets absent p)
+        ∙ come.recorded (omega (arith, eqb-false x 0 p))
+
+-- at first all are to come
+pub all_to_come : (told : Told) (pair : Pair) (made : List (List ℕ)) (stored : List Packet) → ListsTheOthers told made
+    → AreToCome told (first_listing made) pair 0 made stored
+all_to_come told pair made stored lists = record {
+  all = λ e. lists;
+  first = λ e. refl;
+  turn = λ h. absurd (omega (arith, h));
+  recorded = λ h. absurd (omega (arith, h));
+}
+
+-- how many there are
+pub count_packets : (told : Told) (made : List (List ℕ)) → ListsTheOthers told made
+    → length made ≡ parts_behind (shape_told told) + 1
+count_packets told [] lists = absurd lists
+count_packets told (octets ∷ behind) lists = omega (arith, lists.1.0)
+
+-- its shape is one that a record may tell
+pub packets_sized : (told : Told) (made : List (List ℕ)) → ListsTheOthers told made → IsShape (shape_told told)
+packets_sized told [] lists = absurd lists
+packets_sized told (octets ∷ behind) lists = shape_sized octets told lists.0
+
 -- ---- the packets of the whole publication
 
-module _ (packets : List Packet) (pair : Pair) (octets : List ℕ) (segments : List (List ℕ))
-    (absent : contains part_cmp (keys packets) (part_of pair 0) ≡ false) where
-  -- its record is stored
-  pub record_stored : stored_at (with_packets (as_parts pair 0 (octets ∷ segments)) packets) pair 0 ≡ Some octets
-  record_stored =
-      puts_aside pair 1 segments (with_packet (part_of pair 0) octets packets) (part_of pair 0)
-      (λ y h. later_part pair 0 y (omega (arith, h)))
-      ∙ put_here packets (part_of pair 0) octets absent
+module _ (packets after : List Packet) (pair : Pair) (made : List (List ℕ)) (told : Told)
+    (absent : contains part_cmp (keys packets) (part_of pair 0) ≡ false) (lists : ListsTheOthers told made)
+    (puts : after ≡ with_packets (as_parts pair 0 made) packets) where
+  abbrev pub first_octets : List (List ℕ) → List ℕ
+  first_octets [] = []
+  first_octets (octets ∷ behind) = octets
 
-  nothing_before : entry_at packets pair ≡ None
+  -- its record is stored
+  record_stored : stored_at after pair 0 ≡ Some (first_octets made)
+  record_stored = ap (λ (es : List Packet). stored_at es pair 0) puts ∙ go made lists where
+    go : (made : List (List ℕ)) → ListsTheOthers told made
+        → stored_at (with_packets (as_parts pair 0 made) packets) pair 0 ≡ Some (first_octets made)
+    go [] h = absurd h
+    go (octets ∷ behind) h =
+        puts_aside pair 1 behind (with_packet (part_of pair 0) octets packets) (part_of pair 0)
+        (λ y h. later_part pair 0 y (omega (arith, h)))
+        ∙ put_here packets (part_of pair 0) octets absent
+
+  first_told : option_map told_of (said_in (first_octets made)) ≡ Some told
+  first_told = go made lists where
+    go : (made : List (List ℕ)) → ListsTheOthers told made
+        → option_map told_of (said_in (first_octets made)) ≡ Some told
+    go [] h = absurd h
+    go (octets ∷ behind) h = h.0
+
+  pub publication_told : option_map told_of (said_at after pair) ≡ Some told
+  publication_told =
+      ap (λ (o : Option (List ℕ)). option_map told_of (option_and_then said_in o)) record_stored ∙ first_told
+
+  none_before : stored_at packets pair 0 ≡ None
+  none_before = none (stored_at packets pair 0) (sym (contains-value packets (part_of pair 0)) ∙ absent) where
+    none : (o : Option (List ℕ)) → is_some o ≡ false → o ≡ None
+    none None h = refl
+    none (Some x) h = absurd (true≢false h)
+
+  pub nothing_before : whole_at packets pair ≡ None
   nothing_before =
       ap (λ (o : Option (List ℕ)). option_and_then (entry_listed packets pair) (option_and_then listing_in o))
-      (none (stored_at packets pair 0) (sym (contains-value packets (part_of pair 0)) ∙ absent)) where
-        none : (o : Option (List ℕ)) → is_some o ≡ false → o ≡ None
-        none None h = refl
-        none (Some x) h = absurd (true≢false h)
+      none_before
 
-  -- its entry is all that comes to the catalogue
-  pub relisted_publication : (made : List (List ℕ)) → Rises part_cmp (keys packets)
-      → Rises part_cmp (keys (with_packets (as_parts pair 0 made) packets))
-      → alone_catalogue (with_packets (as_parts pair 0 made) packets)
-      ≡ with_listed (entry_at (with_packets (as_parts pair 0 made) packets) pair) (alone_catalogue packets)
-  relisted_publication made before after =
-      relisted packets (with_packets (as_parts pair 0 made) packets) pair before after
-      (λ q other x. puts_aside pair 0 made packets (part_of q x) (λ y h. other_part pair q x y other)) nothing_before
+  -- others have what they had
+  pub others_aside : (q : Pair) → eq_by_cmp pair_cmp q pair ≡ false → (x : ℕ)
+      → stored_at after q x ≡ stored_at packets q x
+  others_aside q other x =
+      ap (λ (es : List Packet). stored_at es q x) puts
+      ∙ puts_aside pair 0 made packets (part_of q x) (λ y h. other_part pair q x y other)
 
--- the record, while it is still to come, lists so many segments
-abbrev pub TellsTheRest : ℕ → ℕ → List (List ℕ) → Type 0
-TellsTheRest segments x [] = Unit {0}
-TellsTheRest segments x (octets ∷ rest) = x ≡ 0 → option_map listed_shape (listing_in octets) ≡ Some segments
+  -- what is withdrawn
+  pub withdrawn_published : (withdrawn : List Pair) → Rises part_cmp (keys packets) → Rises part_cmp (keys after)
+      → ((q : Pair) → contains pair_cmp withdrawn q ≡ is_withdrawn packets q) → (q : Pair)
+      → (withdraws_too pair (Some told) q || contains pair_cmp withdrawn q) ≡ is_withdrawn after q
+  withdrawn_published withdrawn before later were q =
+      ap (λ (b : Bool). b || contains pair_cmp withdrawn q)
+      (sym (withdraws_told pair (first_octets made) told first_told q))
+      ∙ ap (λ (b : Bool). withdraws q (pair, first_octets made) || b) (were q)
+      ∙ sym (withdrawn_more packets after pair before later (λ k other. others_aside k other 0) (first_octets made)
+      none_before record_stored q)
 
 -- ---- room
 
@@ -235,46 +371,6 @@ room_kept t shape plan = go (holds plan t) where
       ≡ plan.spare - 1
   go true = refl
   go false = refl
-
-pub tells_later : (segments x : ℕ) (rest : List (List ℕ)) → TellsTheRest segments (x + 1) rest
-tells_later segments x [] = tt
-tells_later segments x (octets ∷ rest) = λ e. absurd (omega (arith, e))
-
--- ---- what is stored and listed of it
-
--- the stored record is of the object of that name
-pub publication_named : (stored after : List Packet) (pair : Pair) (made : List (List ℕ)) (name : List Component)
-    → contains part_cmp (keys stored) (part_of pair 0) ≡ false
-    → after ≡ with_packets (as_parts pair 0 made) stored → NamesTheObject name made
-    → option_map (λ (l : Listed). l.name) (listing_at after pair) ≡ Some name
-publication_named stored after pair [] name absent puts named = absurd named
-publication_named stored after pair (octets ∷ segments) name absent puts named =
-    ap (λ (p : List Packet). option_map (λ (l : Listed). l.name) (listing_at p pair)) puts
-    ∙ ap (λ (o : Option (List ℕ)). option_map (λ (l : Listed). l.name) (option_and_then listing_in o))
-    (record_stored stored pair octets segments absent)
-    ∙ named
-
-pub published_kept : (stored after : List Packet) (pair : Pair) (made : List (List ℕ)) (entries listed : List Entry)
-    (plan : PlanState)
-    → contains part_cmp (keys stored) (part_of pair 0) ≡ false
-    → Rises part_cmp (keys stored) → AreTied plan after → after ≡ with_packets (as_parts pair 0 made) stored
-    → entries ≡ alone_catalogue stored → listed ≡ with_listed (entry_at after pair) entries
-    → AreKept plan after listed
-published_kept stored after pair made entries listed plan absent order tied puts was is = record {
-  tied = tied;
-  listed =
-      let rises : Rises part_cmp (keys (with_packets (as_parts pair 0 made) stored)) =
-      subst (λ (p : List Packet). Rises part_cmp (keys p)) puts tied.in_order in
-      is
-      ∙ ap (with_listed (entry_at after pair)) was
-      ∙ ap (λ (p : List Packet). with_listed (entry_at p pair) (alone_catalogue stored)) puts
-      ∙ sym (relisted_publication stored pair [] [] absent made order rises) ∙ ap alone_catalogue (sym puts);
-}
-
--- there is a record among them
-pub some_packets : (made : List (List ℕ)) → ListsTheOthers made → 1 ≤ length made
-some_packets [] lists = absurd lists
-some_packets (octets ∷ segments) lists = omega (arith)
 
 -- ---- what is held, as it is seen
 

@@ -1,13 +1,24 @@
 -- Maps in order: two that have the same values are one; and maps that are made of others.
-use Rattle.std.proofs.Common.{◌≡◌, Bool, true, false, cond, List, [], ◌∷◌, refl, sym, ap, ◌∙◌, Option, Some, None}
+use Rattle.std.proofs.Common.{◌≡◌, Bool, true, false, cond, ◌||◌, List, [], ◌∷◌, refl, sym, ap, ◌∙◌, Option, Some, None}
+use Rattle.std.proofs.Common.{is_some}
 use Rattle.std.specs.Option.{option_and_then}
 use Rattle.std.specs.Ordering.{eq_by_cmp, is_eq}
 use Rattle.std.specs.declared.cmp.Ordering.{Ordering}
 use Rattle.std.specs.declared.cmp.Ordering.TheVariants.{Less, Equal, Greater}
-use Rattle.sorted_lists.specs.SortedList.{keys, IsBefore, Rises, value_of}
+use Rattle.sorted_lists.specs.SortedList.{keys, contains, IsBefore, Rises, value_of}
 use Rattle.sorted_lists.proofs.Orders.{Exact, greater_back}
 use Rattle.sorted_lists.proofs.Sets.{before_more, eq_same, eq_itself}
 use Rattle.repo_holdings.specs.KeptValues.{with_kept, kept_values}
+
+-- a key is in a map exactly where it has a value
+pub has_value : {K V : Type 0} (R : K → K → Ordering) (es : List (K × V)) (k : K)
+    → contains R (keys es) k ≡ is_some (value_of R es k)
+has_value R [] k = refl
+has_value R (x ∷ es) k = go (eq_by_cmp R k x.0) (has_value R es k) where
+  go : (b : Bool) → contains R (keys es) k ≡ is_some (value_of R es k)
+      → (b || contains R (keys es) k) ≡ is_some (cond b (Some x.1) (value_of R es k))
+  go true h = refl
+  go false h = h
 
 module _ {K : Type 0} {R : K → K → Ordering} (e : Exact R) where
   -- a key that is before all others isn't among them

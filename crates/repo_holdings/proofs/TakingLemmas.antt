@@ -1,44 +1,45 @@
 -- What came of parts that were asked for, taken part after part.
 use Rattle.std.proofs.Common.{◌≡◌, ℕ, ◌+◌, ◌*◌, ◌<◌, ◌≤◌, Bool, true, false, cond, ◌==◌, List, [], ◌∷◌, map, length}
-use Rattle.std.proofs.Common.{refl}
-use Rattle.std.proofs.Common.{sym, ap, ◌∙◌, subst, Option, Some, None, option_map, is_some, unwrap_or, sum_by, Result}
-use Rattle.std.proofs.Common.{Err}
-use Rattle.std.proofs.Common.{ltb, arith, ◌&&◌}
+use Rattle.std.proofs.Common.{refl, sym, ap, ◌∙◌, subst, Option, Some, None, option_map, is_some, unwrap_or, sum_by}
+use Rattle.std.proofs.Common.{Result, Err, ltb, arith, ◌&&◌}
 use Rattle.std.specs.Prelude.{nat_le, slice_index, IsOk, IfSome}
 use Rattle.std.specs.List.{All}
 use Rattle.std.specs.Option.{option_and_then}
 use Rattle.std.specs.Ordering.{eq_by_cmp}
-use Rattle.std.proofs.lemmas.Bool.{true≢false, and_parts, and_from, or_left, or_right, or_parts, le-leb, ltb-false}
+use Rattle.std.proofs.lemmas.Bool.{true≢false, or_parts, ltb-false, eqb-true}
 use Rattle.std.proofs.lemmas.List.Elements.{All-head, All-tail, All-cons, All-nil, All-weaker}
 use Rattle.std.proofs.lemmas.List.Sums.{sum_by-cons}
 use Rattle.ndn_tlv.specs.Listing.{◌>>=◌}
 use Rattle.ndn_tlv.specs.Elements.{Item}
 use Rattle.ndn_tlv.specs.declared.tlv_fault.TlvFault.TheVariants.{Truncated}
-use Rattle.ndn_name.specs.Names.{Component}
 use Rattle.ndn_name.specs.declared.fault.PacketFault.{PacketFault}
 use Rattle.ndn_name.specs.declared.fault.PacketFault.TheVariants.{Tlv, PacketTooLong}
 use Rattle.ndn_packet.specs.Contents.{first_of}
 use Rattle.ndn_packet.specs.Outer.{only_of}
 use Rattle.ndn_data.specs.Data.{Data, data_of, data_fields, data_from}
 use Rattle.repo_plan.specs.declared.part.Part.{Part}
+use Rattle.repo_plan.specs.declared.shape.Shape.{Shape}
 use Rattle.sorted_lists.specs.SortedList.{contains, value_of, with_value}
-use Rattle.repo_plan.specs.Parts.{Pair, Shape, pair_cmp, part_cmp, pair_of, part_of}
-use Rattle.repo_plan.specs.Plan.{PlanState, holds, knows, is_asked, is_claimed, can_be_asked, shape_of, attempts_of}
+use Rattle.repo_plan.specs.Parts.{Pair, pair_cmp, part_cmp, pair_of, part_of}
+use Rattle.repo_plan.specs.Plan.{PlanState, holds, is_asked, is_claimed, shape_of, attempts_of}
+use Rattle.repo_plan.proofs.Changes.{Keeps, asked_kept}
 use Rattle.repo_plan.proofs.Orders.{exact_parts}
 use Rattle.sorted_lists.proofs.Sets.{eq_same, eq_itself, value_of-with_value}
-use Rattle.repo_object.specs.Publication.{Listed}
-use Rattle.repo_object.specs.Verdict.{listing_in}
+use Rattle.repo_object.specs.Publication.{Listed, RecordSays, shape_said}
+use Rattle.repo_object.specs.Verdict.{said_in}
 use Rattle.repo_holdings.specs.Records.{Packet}
-use Rattle.repo_holdings.specs.Listed.{listing_at, stored_at, listed_shape}
+use Rattle.repo_holdings.specs.Listed.{stored_at, listing_in, said_at, listing_at}
+use Rattle.repo_holdings.specs.StoredParents.{index_count, lists_at, ListsAsMany}
 use Rattle.repo_holdings.specs.Gaining.{AreTied, IsArrival}
-use Rattle.repo_holdings.specs.declared.holdings.gaining.Arrival.{Arrival}
+use Rattle.repo_holdings.specs.declared.told.Arrival.{Arrival}
+use Rattle.repo_holdings.specs.declared.told.Told.{Told}
 use Rattle.repo_holdings.specs.declared.holdings.taking.Tried.{Tried}
 use Rattle.repo_holdings.specs.declared.holdings.Holdings.TheInside.{Inside}
 use Rattle.repo_holdings.specs.HoldingsState.{HoldingsState, held_plan}
 use Rattle.repo_holdings.specs.HoldingsFields.{state, IsHoldings}
 use Rattle.repo_holdings.specs.Taking.{with_fetched, with_tries, came, arrival_octets}
 use Rattle.repo_holdings.specs.Taking.{CanBeTaken, AreTakable, KeepsButTries}
-use Rattle.repo_holdings.proofs.GainingLemmas.{absent, held_value, shape_told, put_elsewhere}
+use Rattle.repo_holdings.proofs.GainingLemmas.{absent, held_value, shape_stored, put_elsewhere, list_nothing}
 use Rattle.repo_holdings.proofs.AskedLemmas.{asked_segment}
 use Rattle.repo_holdings.proofs.HoldingsLemmas.{plan_is}
 
@@ -81,63 +82,76 @@ module _ (old new : PlanState) (packets after : List Packet) (x : Tried) (was : 
         sym held ∙ ap (holds old) (eq_same exact_parts q x.part p) ∙ taken.not_held
     go false p = refl
 
-  -- what the stored records list
+  -- what the stored records say
+  record_still : (pair : Pair) (octets : List ℕ) → stored_at packets pair 0 ≡ Some octets
+      → stored_at after pair 0 ≡ Some octets
+  record_still pair octets there =
+      packets_aside (part_of pair 0) (stored_apart (part_of pair 0) octets there) ∙ there
+
+  said_still : (pair : Pair) (says : RecordSays) → said_at packets pair ≡ Some says → said_at after pair ≡ Some says
+  said_still pair says said = go (stored_at packets pair 0) refl said where
+    go : (o : Option (List ℕ)) → stored_at packets pair 0 ≡ o → option_and_then said_in o ≡ Some says
+        → said_at after pair ≡ Some says
+    go None p h = absurd cc
+    go (Some octets) p h = ap (option_and_then said_in) (record_still pair octets p) ∙ h
+
   listed_still : (pair : Pair) (l : Listed) → listing_at packets pair ≡ Some l → listing_at after pair ≡ Some l
   listed_still pair l listed = go (stored_at packets pair 0) refl listed where
     go : (o : Option (List ℕ)) → stored_at packets pair 0 ≡ o → option_and_then listing_in o ≡ Some l
         → listing_at after pair ≡ Some l
     go None p h = absurd cc
-    go (Some octets) p h =
-        ap (option_and_then listing_in) (packets_aside (part_of pair 0) (stored_apart (part_of pair 0) octets p) ∙ p)
-        ∙ h
+    go (Some octets) p h = ap (option_and_then listing_in) (record_still pair octets p) ∙ h
 
-  -- a record that lists something is held
-  record_held : (pair : Pair) (l : Listed) → listing_at after pair ≡ Some l → holds new (part_of pair 0) ≡ true
-  record_held pair l listed = held_value new after pair tied (part_of pair 0) ∙ go (stored_at after pair 0) listed where
-    go : (o : Option (List ℕ)) → option_and_then listing_in o ≡ Some l → is_some o ≡ true
-    go None h = absurd cc
-    go (Some octets) h = refl
+  -- a plan keeps what it knows
+  kept : Keeps old new
+  kept = record {
+    knows = λ pair h.
+        ap (λ (known : List ℕ). nat_le 1 pair.1 && nat_le pair.1 (slice_index known pair.0)) others.known ∙ h;
+    held = λ t h. held t h (value_of part_cmp packets t) refl;
+    shapes = λ pair n h. shapes pair n h (said_at packets pair) refl;
+  } where
+    held : (t : Part) → holds old t ≡ true → (o : Option (List ℕ)) → value_of part_cmp packets t ≡ o
+        → holds new t ≡ true
+    held t h None p =
+        absurd (true≢false (sym h ∙ held_value old packets (pair_of t) was t ∙ ap is_some p))
+    held t h (Some octets) p =
+        held_value new after (pair_of t) tied t ∙ ap is_some (packets_aside t (stored_apart t octets p) ∙ p)
+
+    shapes : (pair : Pair) (n : Shape) → shape_of old pair ≡ Some n → (o : Option RecordSays)
+        → said_at packets pair ≡ o → shape_of new pair ≡ Some n
+    shapes pair n h None p =
+        let both : option_map shape_said (said_at packets pair) ≡ Some n =
+        sym (shape_stored old packets pair was) ∙ h in absurd cc
+    shapes pair n h (Some says) p =
+        shape_stored new after pair tied
+        ∙ ap (option_map shape_said) (said_still pair says p ∙ sym p)
+        ∙ sym (shape_stored old packets pair was)
+        ∙ h
 
   -- what is asked for
   asked_still : (t : Part) → is_asked old t ≡ true → is_asked new t ≡ true
-  asked_still t asked = and_from (knows new (pair_of t)) _ known (go (t.part == 0) refl) where
-    known : knows new (pair_of t) ≡ true
-    known = ap (λ (known : List ℕ). nat_le 1 t.seq && nat_le t.seq (slice_index known t.publisher)) others.known
-        ∙ (and_parts (knows old (pair_of t)) (can_be_asked old.held (shape_of old (pair_of t)) t) asked).0
-
-    of_record : (s : Option Shape) → (t.part == 0) ≡ true → can_be_asked new.held s t ≡ true
-    of_record None p = p
-    of_record (Some n) p = or_left (t.part == 0) _ p
-
-    go : (b : Bool) → (t.part == 0) ≡ b → can_be_asked new.held (shape_of new (pair_of t)) t ≡ true
-    go true p = of_record (shape_of new (pair_of t)) p
-    go false p =
-        let segment = asked_segment old packets t was asked p in
-        let listed = listed_still (pair_of t) segment.listing segment.listed in
-        ap (λ (s : Option Shape). can_be_asked new.held s t)
-        (shape_told new after (pair_of t) tied ∙ ap (option_map listed_shape) listed)
-        ∙ or_right (t.part == 0) _
-        (and_from (nat_le t.part (listed_shape segment.listing)) _
-        (le-leb t.part (listed_shape segment.listing) segment.counted) (record_held (pair_of t) segment.listing listed))
+  asked_still t asked = asked_kept old new t kept asked
 
   -- another part that came
-  arrival_still : (t : Part) (octets : List ℕ) (segments : Option Shape) (name : List Component)
-      → IsArrival packets t octets segments name → IsArrival after t octets segments name
-  arrival_still t octets segments name is =
-      record { reads = is.reads; record_part = is.record_part; told = is.told; named = go (t.part == 0) is.named } where
-        listed : (o : Option Listed) → listing_at packets (pair_of t) ≡ o
-            → option_map (λ (l : Listed). l.name) o ≡ Some name
-            → option_map (λ (l : Listed). l.name) (listing_at after (pair_of t)) ≡ Some name
-        listed None p h = absurd cc
-        listed (Some l) p h = ap (option_map (λ (l : Listed). l.name)) (listed_still (pair_of t) l p) ∙ h
-
-        go : (b : Bool)
-            → option_map (λ (l : Listed). l.name) (cond b (listing_in octets) (listing_at packets (pair_of t)))
-            ≡ Some name
-            → option_map (λ (l : Listed). l.name) (cond b (listing_in octets) (listing_at after (pair_of t)))
-            ≡ Some name
-        go true h = h
-        go false h = listed (listing_at packets (pair_of t)) refl h
+  arrival_still : (t : Part) (octets : List ℕ) (told : Option Told) → is_asked old t ≡ true
+      → IsArrival packets t octets told → IsArrival after t octets told
+  arrival_still t octets told asked is = record {
+    reads = is.reads;
+    record_part = is.record_part;
+    tells = is.tells;
+    lists = go (t.part == 0) refl;
+  } where
+    go : (b : Bool) → (t.part == 0) ≡ b → ListsAsMany octets (lists_at after t)
+    go true p =
+        subst (λ (x : ℕ). ListsAsMany octets (option_and_then (index_count x) (listing_at after (pair_of t))))
+        (sym (eqb-true t.part 0 p)) (list_nothing octets (listing_at after (pair_of t)))
+    go false p =
+        let segment = asked_segment old packets t was asked p in
+        subst (ListsAsMany octets)
+        (ap (option_and_then (index_count t.part)) segment.listed
+        ∙ sym (ap (option_and_then (index_count t.part))
+        (listed_still (pair_of t) segment.listing segment.listed)))
+        is.lists
 
   one_takable : (y : Tried) → eq_by_cmp part_cmp y.part x.part ≡ false → CanBeTaken old packets y
       → CanBeTaken new after y
@@ -155,10 +169,10 @@ module _ (old new : PlanState) (packets after : List Packet) (x : Tried) (was : 
     arrived = go y.arrival can.arrived;
     few = subst (λ (n : ℕ). n + y.attempts < 2097152) (sym tried) can.few;
   } where
-    go : (o : Option Arrival) → IfSome o (λ a. IsArrival packets y.part a.packet a.segments a.name)
-        → IfSome o (λ a. IsArrival after y.part a.packet a.segments a.name)
+    go : (o : Option Arrival) → IfSome o (λ a. IsArrival packets y.part a.packet a.told)
+        → IfSome o (λ a. IsArrival after y.part a.packet a.told)
     go None h = tt
-    go (Some a) h = arrival_still y.part a.packet a.segments a.name h
+    go (Some a) h = arrival_still y.part a.packet a.told can.asked h
 
     tried : attempts_of new y.part ≡ attempts_of old y.part
     tried =
@@ -206,7 +220,7 @@ data_fits octets h =
 
 one_fits : (plan : PlanState) (packets : List Packet) (x : Tried) → CanBeTaken plan packets x → arrival_octets x ≤ 8800
 one_fits plan packets x can = go x.arrival can.arrived where
-  go : (o : Option Arrival) → IfSome o (λ a. IsArrival packets x.part a.packet a.segments a.name)
+  go : (o : Option Arrival) → IfSome o (λ a. IsArrival packets x.part a.packet a.told)
       → length (unwrap_or (option_map (λ (a : Arrival). a.packet) o) []) ≤ 8800
   go None h = omega (arith)
   go (Some a) h = data_fits a.packet h.reads

@@ -3,7 +3,7 @@ use Rattle.std.specs.Prelude.{◌≡◌, ℕ, List, length, IfSome}
 use Rattle.sha2.specs.Sha256.{sha256}
 use Rattle.repo_catalog.specs.declared.entry.Entry.{Entry}
 use Rattle.repo_holdings.specs.Records.{Packet}
-use Rattle.repo_holdings.specs.Listed.{entry_at}
+use Rattle.repo_holdings.specs.Listed.{whole_at}
 use Rattle.repo_holdings.specs.declared.contents.ContentsDigest.{ContentsDigest}
 
 -- an entry has the number of octets and the digest of these contents
@@ -18,4 +18,4 @@ pub record IsToldBy (d : ContentsDigest) (e : Entry) : Type 0 where
 
 -- what is told is true of the publication, where it is stored wholly
 abbrev pub IsDigestIn : List Packet → ContentsDigest → Type 0
-IsDigestIn packets d = IfSome (entry_at packets (d.publisher, d.seq)) (IsToldBy d)
+IsDigestIn packets d = IfSome (whole_at packets (d.publisher, d.seq)) (IsToldBy d)

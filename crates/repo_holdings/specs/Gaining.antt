@@ -1,57 +1,84 @@
--- The plan, the packets and the catalogue of a member, which belong together.
-use Rattle.std.specs.Prelude.{◌≡◌, ℕ, ◌+◌, ◌≤◌, List, Option, Some, None, option_map, is_some, IsOk, ◌==◌}
+-- The plan, the packets, the notes and the catalogue of a member, which belong together, and packets that come.
+use Rattle.std.specs.Prelude.{◌≡◌, ℕ, ◌+◌, ◌≤◌, true, List, Option, Some, None, option_map, is_some, IsOk, ◌==◌}
 use Rattle.std.specs.Prelude.{if◌then◌else◌}
-use Rattle.ndn_name.specs.Names.{Component}
 use Rattle.ndn_data.specs.Data.{data_of}
 use Rattle.repo_plan.specs.declared.part.Part.{Part}
-use Rattle.repo_plan.specs.Parts.{Shape, part_cmp, pair_of}
-use Rattle.sorted_lists.specs.SortedList.{Rises, keys}
+use Rattle.repo_plan.specs.Parts.{Pair, part_cmp, shape_of_segments}
+use Rattle.repo_plan.specs.declared.shape.Shape.{Shape}
+use Rattle.sorted_lists.specs.SortedList.{Rises, keys, value_of}
 use Rattle.repo_plan.specs.Plan.{PlanState}
-use Rattle.repo_object.specs.Publication.{Listed}
-use Rattle.repo_object.specs.Verdict.{listing_in}
+use Rattle.repo_object.specs.Publication.{RecordSays}
+use Rattle.repo_object.specs.Publication.RecordSays.{Lists, WithdrawsNumber}
+use Rattle.repo_object.specs.Verdict.{said_in}
 use Rattle.repo_store.specs.StoreList.{StoreList}
 use Rattle.repo_catalog.specs.declared.entry.Entry.{Entry}
 use Rattle.repo_catalog.specs.Entries.{EntryList, with_entry}
+use Rattle.repo_holdings.specs.declared.told.Told.{Told}
+use Rattle.repo_holdings.specs.declared.told.Told.TheVariants.{Object, Withdrawal}
 use Rattle.repo_holdings.specs.Records.{Packet}
-use Rattle.repo_holdings.specs.Listed.{listing_at, listed_shape, shapes_in, alone_catalogue}
+use Rattle.repo_holdings.specs.Listed.{stored_at, said_at, listed_shape, shapes_in, alone_catalogue}
+use Rattle.repo_holdings.specs.StoredParents.{lists_at, ListsAsMany}
+use Rattle.repo_holdings.specs.Noted.{NotesState, AreNotes}
 
--- a plan holds what is stored, and knows what the stored records list
+-- a plan holds what is stored, and knows what the stored records tell; behind each stored part stands a stored record,
+-- and each stored index packet lists as many digests as it has to
 pub record AreTied (plan : PlanState) (packets : List Packet) : Type 0 where
   pub in_order : Rises part_cmp (keys packets)
   pub held : plan.held ≡ keys packets
   pub shapes : plan.shapes ≡ shapes_in packets
+  pub recorded : (pair : Pair) (x : ℕ) → is_some (stored_at packets pair x) ≡ true
+      → is_some (said_at packets pair) ≡ true
+  pub indexed : (t : Part) (octets : List ℕ) → value_of part_cmp packets t ≡ Some octets
+      → ListsAsMany octets (lists_at packets t)
 
--- and the entries are those of what is stored wholly
-pub record AreKept (plan : PlanState) (packets : List Packet) (entries : List Entry) : Type 0 where
-  pub tied : AreTied plan packets
-  pub listed : entries ≡ alone_catalogue packets
-
--- how many segments a part's packet tells of, if the part is a record
-abbrev pub told_shape : Part → List ℕ → Option Shape
-told_shape t octets = if t.part == 0 then option_map listed_shape (listing_in octets) else None
+-- and the notes are those of what is stored, and the entries those of the objects that are stored wholly and not
+-- withdrawn
+pub record AreKept (plan : PlanState) (packets : List Packet) (notes : NotesState) (entries : List Entry) : Type 0
+  where
+    pub tied : AreTied plan packets
+    pub noted : AreNotes notes packets
+    pub listed : entries ≡ alone_catalogue packets
 
 -- with one more entry, if there is one
 abbrev pub with_listed : Option Entry → List Entry → List Entry
 with_listed None entries = entries
 with_listed (Some e) entries = with_entry e entries
 
--- there is room for so many parts, each of which may be held and tried, and for as many entries
-pub record HaveRoom (n : ℕ) (plan : PlanState) (store : StoreList) (catalogue : EntryList) : Type 0 where
-  pub for_plan : n + n ≤ plan.spare
-  pub for_store : n ≤ store.spare
-  pub for_catalogue : n ≤ catalogue.spare
+-- there is room for so many parts, each of which may be held and tried, for what as many records say, and for as many
+-- entries
+pub record HaveRoom (n : ℕ) (plan : PlanState) (store : StoreList) (notes : NotesState) (catalogue : EntryList) : Type 0
+  where
+    pub for_plan : n + n ≤ plan.spare
+    pub for_store : n ≤ store.spare
+    pub for_notes : n ≤ notes.spare
+    pub for_catalogue : n ≤ catalogue.spare
 
--- what the record of a part's publication lists: the part's packet itself, if the part is a record
-abbrev pub listing_told : List Packet → Part → List ℕ → Option Listed
-listing_told packets t octets = if t.part == 0 then listing_in octets else listing_at packets (pair_of t)
+-- ---- packets that come
+
+-- what a record tells of its publication that says this
+abbrev pub told_of : RecordSays → Told
+told_of (Lists l) = Object (listed_shape l) l.name
+told_of (WithdrawsNumber seq) = Withdrawal seq
+
+-- which parts the publication has: a withdrawal has its record alone
+abbrev pub shape_told : Told → Shape
+shape_told (Object shape name) = shape
+shape_told (Withdrawal seq) = shape_of_segments 0
+
+-- what the packet of a part tells: nothing, unless the part is a record
+abbrev pub told_in : Part → List ℕ → Option Told
+told_in t octets = if t.part == 0 then option_map told_of (said_in octets) else None
+
+-- which parts its publication has then
+abbrev pub told_shape : Part → List ℕ → Option Shape
+told_shape t octets = option_map shape_told (told_in t octets)
 
 -- a packet that came for a part, with what it tells of its publication
-pub record IsArrival (packets : List Packet) (t : Part) (octets : List ℕ) (segments : Option Shape)
-    (name : List Component) : Type 0 where
+pub record IsArrival (packets : List Packet) (t : Part) (octets : List ℕ) (told : Option Told) : Type 0 where
   pub reads : IsOk (data_of octets)
-  pub record_part : is_some segments ≡ (t.part == 0)
-  pub told : segments ≡ told_shape t octets
-  pub named : option_map (λ (l : Listed). l.name) (listing_told packets t octets) ≡ Some name
+  pub record_part : is_some told ≡ (t.part == 0)
+  pub tells : told ≡ told_in t octets
+  pub lists : ListsAsMany octets (lists_at packets t)
 
 -- a plan in which nothing changed but what is held
 pub record KeepsOthers (old new : PlanState) : Type 0 where

@@ -15,9 +15,12 @@ state m = record {
   spare = m.spare;
 }
 
--- plan and catalogue are those of what is stored, no entry waits, and there is the room that is spare
+-- plan, notes and catalogue are those of what is stored, no entry waits to be listed or to be removed, and there is the
+-- room that is spare
 pub record IsHoldings (m : Inside) : Type 0 where
-  pub kept : AreKept m.plan m.store.packets m.catalogue.entries
-  pub room : HaveRoom m.spare m.plan m.store m.catalogue
+  pub kept : AreKept m.plan m.store.packets m.notes m.catalogue.entries
+  pub room : HaveRoom m.spare m.plan m.store m.notes m.catalogue
   pub none_fresh : m.fresh.items ≡ []
   pub room_fresh : m.spare ≤ vec_capacity m.fresh
+  pub none_gone : m.gone.items ≡ []
+  pub room_gone : m.spare ≤ vec_capacity m.gone

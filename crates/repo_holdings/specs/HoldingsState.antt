@@ -27,7 +27,7 @@ nothing_held publishers = record {
   spare = 0;
 }
 
--- the fetch plan: what is stored is held, and the stored records tell how many segments there are
+-- the fetch plan: what is stored is held, and the stored records tell which parts there are
 abbrev pub held_plan : HoldingsState → PlanState
 held_plan h = record {
   known = h.known;

@@ -16,10 +16,12 @@ pub mod KeptValues
 pub mod Records
 pub mod Listed
 pub mod Contents
+pub mod StoredParents
+pub mod Noted
 pub mod HoldingsState
 pub mod Gaining
+pub mod Changing
 pub mod HoldingsFields
-pub mod StoredRecords
 pub mod Taking
 pub mod NewPublications
 pub mod Hiding

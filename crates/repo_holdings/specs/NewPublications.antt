@@ -1,15 +1,18 @@
 -- Publications that are held from their beginning on.
-use Rattle.std.specs.Prelude.{◌≡◌, ℕ, ◌+◌, ◌-◌, ◌≤◌, true, false, List, [], ◌∷◌, length, Some, option_map, IsOk}
+use Rattle.std.specs.Prelude.{◌≡◌, ℕ, ◌+◌, ◌-◌, true, false, List, [], ◌∷◌, length, Option, Some, option_map, IsOk}
 use Rattle.std.specs.List.{All}
-use Rattle.ndn_name.specs.Names.{Component}
+use Rattle.std.specs.Option.{option_and_then}
 use Rattle.ndn_data.specs.Data.{data_of}
-use Rattle.repo_plan.specs.Parts.{Pair, part_of}
+use Rattle.repo_plan.specs.Parts.{Pair, part_of, parts_behind}
 use Rattle.repo_plan.specs.Plan.{PlanState, knows, holds, hides, is_claimed}
 use Rattle.repo_object.specs.Publication.{Listed}
-use Rattle.repo_object.specs.Verdict.{listing_in}
+use Rattle.repo_object.specs.Verdict.{said_in}
 use Rattle.repo_store.specs.StoreList.{with_packet}
+use Rattle.repo_holdings.specs.declared.told.Told.{Told}
 use Rattle.repo_holdings.specs.Records.{Packet}
-use Rattle.repo_holdings.specs.Listed.{listed_shape}
+use Rattle.repo_holdings.specs.Listed.{listing_in}
+use Rattle.repo_holdings.specs.StoredParents.{index_count, ListsAsMany}
+use Rattle.repo_holdings.specs.Gaining.{told_of, shape_told}
 use Rattle.repo_holdings.specs.HoldingsState.{HoldingsState}
 
 -- with these packets too
@@ -22,21 +25,24 @@ abbrev pub as_parts : Pair → ℕ → List (List ℕ) → List Packet
 as_parts pair x [] = []
 as_parts pair x (octets ∷ more) = (part_of pair x, octets) ∷ as_parts pair (x + 1) more
 
--- the first packet is a record that lists as many segments as there are packets behind it
-abbrev pub ListsTheOthers : List (List ℕ) → Type 0
-ListsTheOthers [] = ⊥
-ListsTheOthers (octets ∷ segments) = option_map listed_shape (listing_in octets) ≡ Some (length segments)
+-- of the packets from part `x` on of a publication whose record lists this, each index packet lists as many digests as
+-- it has to
+abbrev pub ListInTurn : Option Listed → ℕ → List (List ℕ) → Type 0
+ListInTurn l x [] = Unit {0}
+ListInTurn l x (octets ∷ more) =
+    ListsAsMany octets (option_and_then (index_count x) l) × ListInTurn l (x + 1) more
 
--- the first packet is a record of an object of this name
-abbrev pub NamesTheObject : List Component → List (List ℕ) → Type 0
-NamesTheObject name [] = ⊥
-NamesTheObject name (octets ∷ segments) = option_map (λ (l : Listed). l.name) (listing_in octets) ≡ Some name
+-- the first packet is a record that tells this, and the others are those behind it
+abbrev pub ListsTheOthers : Told → List (List ℕ) → Type 0
+ListsTheOthers told [] = ⊥
+ListsTheOthers told (octets ∷ behind) =
+    (option_map told_of (said_in octets) ≡ Some told)
+    × ((length behind ≡ parts_behind (shape_told told)) × ListInTurn (listing_in octets) 1 behind)
 
--- the packets of a publication, as far as its holding asks for
-pub record ArePackets (made : List (List ℕ)) : Type 0 where
-  pub few : length made ≤ 201
+-- the packets of a publication that is told of so: the record, the index packets, and then the segments
+pub record ArePackets (told : Told) (made : List (List ℕ)) : Type 0 where
   pub read : All (λ octets. IsOk (data_of octets)) made
-  pub lists : ListsTheOthers made
+  pub lists : ListsTheOthers told made
 
 -- a known publication of which the plan has nothing
 pub record IsNew (plan : PlanState) (pair : Pair) : Type 0 where

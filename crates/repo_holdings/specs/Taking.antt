@@ -1,16 +1,17 @@
 -- What came of parts that were asked for, and how it is taken.
 use Rattle.std.specs.Prelude.{◌≡◌, ℕ, ◌+◌, ◌-◌, ◌<◌, ◌==◌, true, false, List, [], ◌∷◌, map, length, Option, Some, None}
-use Rattle.std.specs.Prelude.{option_map, unwrap_or, IfSome, if◌then◌else◌}
+use Rattle.std.specs.Prelude.{◌≤◌, filter, option_map, unwrap_or, IfSome, if◌then◌else◌}
 use Rattle.std.specs.List.{All}
+use Rattle.std.specs.Ordering.{eq_by_cmp}
 use Rattle.repo_plan.specs.declared.part.Part.{Part}
-use Rattle.repo_plan.specs.Parts.{part_cmp, pair_of}
+use Rattle.repo_plan.specs.Parts.{Pair, pair_cmp, part_cmp, pair_of}
 use Rattle.sorted_lists.specs.SortedList.{contains, value_of, with_value}
 use Rattle.repo_plan.specs.Plan.{PlanState, holds, hides, is_asked, is_claimed, attempts_of}
 use Rattle.repo_store.specs.StoreList.{with_packet}
 use Rattle.repo_catalog.specs.declared.entry.Entry.{Entry}
-use Rattle.repo_catalog.specs.Entries.{with_entries, AreApart, IsCatalogue}
+use Rattle.repo_catalog.specs.Entries.{with_entries, without_all, AreApart, IsCatalogue}
 use Rattle.repo_holdings.specs.Records.{Packet}
-use Rattle.repo_holdings.specs.Listed.{alone_catalogue}
+use Rattle.repo_holdings.specs.Listed.{is_withdrawn, alone_catalogue}
 use Rattle.repo_holdings.specs.Gaining.{KeepsOthers, IsArrival}
 use Rattle.repo_holdings.specs.HoldingsState.{HoldingsState}
 use Rattle.repo_holdings.specs.declared.holdings.taking.Tried.{Tried}
@@ -51,7 +52,7 @@ pub record CanBeTaken (plan : PlanState) (packets : List Packet) (x : Tried) : T
   pub not_held : holds plan x.part ≡ false
   pub not_hidden : hides plan (pair_of x.part) ≡ false
   pub not_claimed : is_claimed plan x.part ≡ false
-  pub arrived : IfSome x.arrival (λ a. IsArrival packets x.part a.packet a.segments a.name)
+  pub arrived : IfSome x.arrival (λ a. IsArrival packets x.part a.packet a.told)
   pub few : attempts_of plan x.part + x.attempts < 2097152
 
 -- the same of each of different parts
@@ -83,8 +84,16 @@ KeepsButTries old new = KeepsOthers old (record new { attempts = old.attempts })
 
 -- ---- entries that wait
 
--- entries that wait are, put among the others, those of what is stored wholly, and no publication has two that wait
-pub record AreListedWith (fresh entries : List Entry) (packets : List Packet) : Type 0 where
-  pub listed : with_entries fresh entries ≡ alone_catalogue packets
+-- no publication stands twice in the list
+abbrev pub AreApartPairs : List Pair → Type 0
+AreApartPairs pairs = (pair : Pair) → length (filter (eq_by_cmp pair_cmp pair) pairs) ≤ 1
+
+-- entries that wait to be listed are, put among the others, and without those of publications that wait to be removed,
+-- the entries of the objects that are stored wholly and not withdrawn
+pub record AreListedWith (fresh : List Entry) (gone : List Pair) (entries : List Entry) (packets : List Packet)
+    : Type 0 where
+  pub listed : without_all gone (with_entries fresh entries) ≡ alone_catalogue packets
+  pub withdrawn : (pair : Pair) → contains pair_cmp gone pair ≡ true → is_withdrawn packets pair ≡ true
   pub apart : AreApart fresh
+  pub apart_gone : AreApartPairs gone
   pub in_order : IsCatalogue entries

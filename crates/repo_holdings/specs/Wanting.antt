@@ -1,5 +1,5 @@
 -- The wants of parts that are asked for.
-use Rattle.std.specs.Prelude.{◌≤◌, List, [], length, slice_get, unwrap_or, ◌==◌, if◌then◌else◌}
+use Rattle.std.specs.Prelude.{◌≤◌, List, [], length, slice_get, unwrap_or, nat_le, ◌==◌, if◌then◌else◌}
 use Rattle.std.specs.List.{All}
 use Rattle.ndn_name.specs.Names.{Component, encoding}
 use Rattle.repo_plan.specs.declared.part.Part.{Part}
@@ -8,20 +8,29 @@ use Rattle.repo_plan.specs.Plan.{attempts_of}
 use Rattle.repo_object.specs.declared.job.Job.{Job}
 use Rattle.repo_object.specs.Limits.{node_name_limit}
 use Rattle.repo_object.specs.Publication.{Listed}
-use Rattle.repo_object.specs.Wants.{WantedPart, want_record, want_segment}
+use Rattle.repo_object.specs.Wants.{WantedPart, want_record, want_index, want_segment}
 use Rattle.repo_holdings.specs.Records.{Packet}
-use Rattle.repo_holdings.specs.Listed.{listing_at}
+use Rattle.repo_holdings.specs.Listed.{listing_at, listed_shape}
+use Rattle.repo_holdings.specs.StoredParents.{digest_at}
 use Rattle.repo_holdings.specs.HoldingsState.{HoldingsState, held_plan}
 
 abbrev pub nothing_listed : Listed
-nothing_listed = record { name = []; digests = [] }
+nothing_listed = record { name = []; segments = 0; digests = [] }
+
+-- the want of a part behind a record that lists this, of a publication of that node: an index packet is asked for as
+-- the record lists it, a segment as the record or its index packet does
+abbrev pub want_behind : List Component → List Component → List Packet → Part → Listed → WantedPart
+want_behind node group stored t l =
+    if nat_le t.part (listed_shape l).index then want_index t l node group
+    else want_segment t (listed_shape l) l.name (digest_at stored t l)
 
 -- the want of a part, in a group of this name of publishers with these names: a record is asked for by its publisher's
--- name, a segment as the stored record lists it
+-- name, and the parts behind it as stored parts list them
 abbrev pub want_at : List (List Component) → List Component → List Packet → Part → WantedPart
 want_at publishers group stored t =
     if t.part == 0 then want_record t (unwrap_or (slice_get publishers t.publisher) []) group
-    else want_segment t (unwrap_or (listing_at stored (pair_of t)) nothing_listed)
+    else want_behind (unwrap_or (slice_get publishers t.publisher) []) group stored t
+    (unwrap_or (listing_at stored (pair_of t)) nothing_listed)
 
 -- the job of a part: its attempts go on from those that were made
 abbrev pub job_at : List (List Component) → List Component → HoldingsState → Part → Job

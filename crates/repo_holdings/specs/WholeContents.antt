@@ -4,7 +4,7 @@ use Rattle.std.specs.List.{flat_map}
 use Rattle.std.specs.Borrow.{Bor}
 use Rattle.repo_plan.specs.Parts.{Pair}
 use Rattle.repo_holdings.specs.Records.{Packet}
-use Rattle.repo_holdings.specs.Listed.{entry_at}
+use Rattle.repo_holdings.specs.Listed.{whole_at}
 use Rattle.repo_holdings.specs.Contents.{IsOver}
 use Rattle.repo_holdings.specs.declared.holdings.whole.Whole.{Whole}
 
@@ -14,7 +14,7 @@ joined pieces = flat_map (λ piece. piece.now) pieces
 
 -- these are the contents of the publication, where it is stored wholly
 abbrev pub AreContentsIn : List Packet → Pair → List (Bor (List ℕ)) → Type 0
-AreContentsIn packets pair contents = IfSome (entry_at packets pair) (IsOver (joined contents))
+AreContentsIn packets pair contents = IfSome (whole_at packets pair) (IsOver (joined contents))
 
 -- the same of a publication that is told with its contents, whose octets a `u64` counts
 pub record IsWholeIn (packets : List Packet) (w : Whole) : Type 0 where

@@ -2,11 +2,12 @@
 ghost use Rattle.std.specs.Prelude.{◌≡◌, ◌≤◌, length, IsSomeAnd};
 ghost use Rattle.std.specs.List.{All};
 ghost use Rattle.sha2.specs.Sha256.{sha256};
-ghost use Rattle.repo_holdings.specs.Listed.{entry_at, packet_content, contents_joined};
+ghost use Rattle.repo_plan.specs.Parts.{IsShape};
+ghost use Rattle.repo_holdings.specs.Listed.{whole_at, packet_content, contents_joined};
 ghost use Rattle.repo_holdings.specs.Contents.{IsOver, IsDigestIn};
 
 use ndn_data::DataView;
-use repo_plan::Part;
+use repo_plan::{Part, Shape};
 use repo_store::Store;
 use sha2::{Digest, Sha256};
 
@@ -19,39 +20,41 @@ pub struct ContentsDigest {
     pub digest: [u8; 32],
 }
 
-// How many octets the contents of a publication that is stored wholly have together, and their digest: as they are
-// told, or else as they are found now. A digest is found among those that are told where these are in order.
+// How many octets the contents of an object that is stored wholly have together, and their digest: as they are told, or
+// else as they are found now. A digest is found among those that are told where these are in order.
 pub(crate) fn told_or_taken(
     store: &Store,
     publisher: u32,
     seq: u16,
-    segments: u8,
+    shape: Shape,
     digests: &[ContentsDigest],
 ) -> (u64, [u8; 32])
+    requires sized { IsShape shape }
     requires digests { All (IsDigestIn store.now.packets) digests.now }
-    requires whole { IsSomeAnd (entry_at store.now.packets (publisher, seq))
-        (IsOver (contents_joined store.now.packets (publisher, seq) segments)) }
-    ensures octets { result.0 ≡ length (contents_joined store.now.packets (publisher, seq) segments) }
-    ensures digest { result.1 ≡ sha256 (contents_joined store.now.packets (publisher, seq) segments) }
+    requires whole { IsSomeAnd (whole_at store.now.packets (publisher, seq))
+        (IsOver (contents_joined store.now.packets (publisher, seq) shape)) }
+    ensures octets { result.0 ≡ length (contents_joined store.now.packets (publisher, seq) shape) }
+    ensures digest { result.1 ≡ sha256 (contents_joined store.now.packets (publisher, seq) shape) }
 {
     match digests.binary_search_by_key(&(publisher, seq), |d| (d.publisher, d.seq)) {
         Ok(place) => (digests[place].octets, digests[place].digest),
-        Err(_) => contents_digest(store, publisher, seq, segments),
+        Err(_) => contents_digest(store, publisher, seq, shape),
     }
 }
 
-// How many octets the contents of a publication's first so many segments have together, and their digest.
-fn contents_digest(store: &Store, publisher: u32, seq: u16, segments: u8) -> (u64, [u8; 32])
-    ensures octets { result.0 ≡ length (contents_joined store.now.packets (publisher, seq) segments) }
-    ensures digest { result.1 ≡ sha256 (contents_joined store.now.packets (publisher, seq) segments) }
+// How many octets the contents of the segments of a publication of that shape have together, and their digest.
+fn contents_digest(store: &Store, publisher: u32, seq: u16, shape: Shape) -> (u64, [u8; 32])
+    requires { IsShape shape }
+    ensures octets { result.0 ≡ length (contents_joined store.now.packets (publisher, seq) shape) }
+    ensures digest { result.1 ≡ sha256 (contents_joined store.now.packets (publisher, seq) shape) }
 {
     let mut octets = 0;
     let mut digest = Sha256::new();
-    for x in 0..segments {
+    for x in 0..shape.segments {
         let part = Part {
             publisher,
             seq,
-            part: x + 1,
+            part: shape.index + 1 + x,
         };
         let content = content_of(store.get(part).unwrap_or(&[]));
         octets += content.len() as u64;

@@ -12,24 +12,24 @@ mod claiming;
 mod gaining;
 mod hiding;
 mod publishing;
-mod stored_record;
+mod stored_parent;
 mod taking;
 mod wanting;
 mod whole;
 
-pub use gaining::Arrival;
+use crate::notes::Notes;
 use ndn_name::PacketFault;
 use repo_catalog::{Catalogue, Entry};
 use repo_plan::{Part, Plan};
 use repo_store::Store;
 use std::alloc::{AllocError, Global};
 use std::marker::Model;
-pub use stored_record::StoredRecord;
+pub use stored_parent::StoredParent;
 pub use taking::{Taken, Tried};
 pub use whole::Whole;
 
 /// What is held of publications: which parts are known, held, wanted, claimed and hidden, their packets, and the
-/// catalogue of the publications of which no part is missing.
+/// catalogue of the objects of which no part is missing and that are not withdrawn.
 ///
 /// A call that is refused has changed nothing, want of memory included. Room is made first, by `reserve`; a call that
 /// uses it takes no memory.
@@ -37,9 +37,12 @@ pub use whole::Whole;
 pub struct Holdings {
     plan: Plan,
     store: Store,
+    notes: Notes,
     catalogue: Catalogue,
-    // Empty. The entries of what becomes whole wait here while packets are taken.
+    // Empty. The entries of what becomes whole wait here while packets are taken, and so do the publications whose
+    // entries are to be removed.
     fresh: Vec<Entry>,
+    gone: Vec<(u32, u16)>,
     // There is room for so many more parts, each of which may be held and be tried, and for as many entries.
     spare: usize,
 }
@@ -64,8 +67,10 @@ impl Holdings {
         Ok(Holdings {
             plan: Plan::new(alloc, publishers)?,
             store: Store::new(alloc),
+            notes: Notes::new(alloc),
             catalogue: Catalogue::new(alloc),
             fresh: Vec::new(alloc),
+            gone: Vec::new(alloc),
             spare: 0,
         })
     }
@@ -75,8 +80,15 @@ impl Holdings {
         ensures ok { OnOk result (self.new ≡ record self.old { spare = max self.old.spare n }) }
         ensures err { OnErr result (self.new ≡ self.old) }
     {
-        make_room(&mut self.plan, &mut self.store, &mut self.catalogue, n)?;
+        make_room(
+            &mut self.plan,
+            &mut self.store,
+            &mut self.notes,
+            &mut self.catalogue,
+            n,
+        )?;
         self.fresh.reserve(n)?;
+        self.gone.reserve(n)?;
         self.spare = self.spare.max(n);
         Ok(())
     }
@@ -130,7 +142,7 @@ impl Holdings {
         self.store.serve(interest)
     }
 
-    /// The publications of which no part is missing.
+    /// The objects of which no part is missing, and which are not withdrawn.
     pub fn catalogue(&self) -> &Catalogue
         ensures { result.now.entries ≡ alone_catalogue self.now.store }
     {
@@ -138,18 +150,21 @@ impl Holdings {
     }
 }
 
-// Makes room for so many parts and entries.
+// Makes room for so many parts, records and entries.
 fn make_room(
     plan: &mut Plan,
     store: &mut Store,
+    notes: &mut Notes,
     catalogue: &mut Catalogue,
     n: usize,
 ) -> Result<(), AllocError>
-    ensures room { OnOk result (HaveRoom n plan.new store.new catalogue.new) }
-    ensures still { (k : ℕ) → HaveRoom k plan.old store.old catalogue.old
-        → HaveRoom k plan.new store.new catalogue.new }
+    ensures room { OnOk result (HaveRoom n plan.new store.new notes.new catalogue.new) }
+    ensures still { (k : ℕ) → HaveRoom k plan.old store.old notes.old catalogue.old
+        → HaveRoom k plan.new store.new notes.new catalogue.new }
     ensures plan { plan.new ≡ record plan.old { spare = plan.new.spare } }
     ensures store { store.new.packets ≡ store.old.packets }
+    ensures names { notes.new.names ≡ notes.old.names }
+    ensures withdrawn { notes.new.withdrawn ≡ notes.old.withdrawn }
     ensures catalogue { catalogue.new.entries ≡ catalogue.old.entries }
 {
     let Some(twice) = n.checked_mul(2) else {
@@ -157,5 +172,6 @@ fn make_room(
     };
     plan.reserve(twice)?;
     store.reserve(n)?;
+    notes.reserve(n)?;
     catalogue.reserve(n)
 }

@@ -1,10 +1,13 @@
 //! What is held of a group's publications: the plan of the parts that are held and wanted, the store of their packets,
-//! and the catalogue of the publications that are stored wholly, under one invariant.
+//! and the catalogue of the objects that are stored wholly and not withdrawn, under one invariant.
 #![tactic(auto)]
 
+mod changes;
 mod contents;
 mod holdings;
-mod listing;
+mod notes;
+mod told;
 
 pub use contents::ContentsDigest;
-pub use holdings::{Arrival, Holdings, StoredRecord, Taken, Tried, Whole};
+pub use holdings::{Holdings, StoredParent, Taken, Tried, Whole};
+pub use told::{Arrival, Told};

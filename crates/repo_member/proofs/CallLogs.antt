@@ -1,5 +1,6 @@
 -- What calls make of a member's log.
-use Rattle.std.proofs.Common.{◌≡◌, ℕ, zero, suc, ◌-◌, Bool, true, false, cond, ◌==◌, List, [], ◌∷◌, ◌++◌, length, take}
+use Rattle.std.proofs.Common.{◌≡◌, ◌<◌, ℕ, zero, suc, ◌-◌, Bool, true, false, cond, ◌==◌, List, [], ◌∷◌, ◌++◌, length}
+use Rattle.std.proofs.Common.{take}
 use Rattle.std.proofs.Common.{length-append, append_assoc, append-nil, Option, Some, None, Result, Ok, Err, slice_get}
 use Rattle.std.proofs.Common.{refl, sym, ap, ◌∙◌, arith}
 use Rattle.std.specs.Prelude.{nat_lt}
@@ -8,7 +9,8 @@ use Rattle.std.proofs.lemmas.Bool.{lt-ltb}
 use Rattle.std.proofs.lemmas.List.{take_at}
 use Rattle.repo_plan.specs.declared.part.Part.{Part}
 use Rattle.repo_plan.specs.Plan.{claim_of}
-use Rattle.repo_object.specs.Objects.{NamedContents}
+use Rattle.repo_object.specs.Objects.{Post}
+use Rattle.repo_object.specs.Objects.Post.{Offers, Withdraws}
 use Rattle.ndn_name.specs.Names.{Component}
 use Rattle.repo_command.specs.declared.command.Command as commands
 use Rattle.repo_command.specs.declared.command.Command.TheVariants.{Insert, Check, Delete}
@@ -28,9 +30,12 @@ use Rattle.repo_member.specs.Outcomes.{outcome_of}
 use Rattle.repo_member.specs.Deleting.{alone_deletes}
 use Rattle.repo_member.specs.Commanded.{order_of, alone_starts, alone_obeys, alone_after_order}
 use Rattle.repo_member.specs.Blocks.{alone_block, alone_keeps, after_block}
-use Rattle.repo_member.specs.Calls.{MemberCall, Publish, Hear, JoinFrom, Fire, Claim, Lose, Accept, TakeOutcome}
+use Rattle.repo_member.specs.Calls.{MemberCall, Publish, Withdraw, Hear, JoinFrom, Fire, Claim, Lose, Accept}
+use Rattle.repo_member.specs.Calls.{TakeOutcome}
 use Rattle.repo_member.specs.Calls.{Command, Block, EndClaims, Reset, Restart, if_heard, if_joined, if_claimed, if_lost}
-use Rattle.repo_member.specs.Calls.{if_accepted, after_call, after_calls, LogsGoOn, PublicationsStay, LoggedPacketsStay}
+use Rattle.repo_member.specs.Calls.{if_accepted, if_numbers, after_call, after_calls, LogsGoOn, PublicationsStay}
+use Rattle.repo_member.specs.Calls.{WithdrawalsStay, LoggedPacketsStay}
+use Rattle.group_model.specs.Publications.{has_unwithdrawn}
 
 -- an outcome changes what is stored and tried alone
 pub takes_same : {A : Type 0} (f : Alone → A)
@@ -43,21 +48,28 @@ takes_same f h (x ∷ xs) a =
     let attempts = with_tries x.part x.attempts a.attempts in
     takes_same f h xs (record a { store = store; attempts = attempts }) ∙ h a store attempts
 
--- ---- objects behind others
+-- ---- publications behind others
 
--- the same member, with these objects behind those that it published
+-- the same member, with these publications behind those that it made
 pub record HasMore (old new : Alone) : Type 0 where
   pub number : new.number ≡ old.number
-  pub more : List NamedContents
+  pub more : List Post
   pub log : new.log ≡ old.log ++ more
 
 nothing_more : (old new : Alone) → new.number ≡ old.number → new.log ≡ old.log → HasMore old new
 nothing_more old new number log = record { number = number; more = []; log = log ∙ sym (append-nil old.log) }
 
+more_published : (g : GroupKeys) (post : Post) (moment draw : ℕ) (a : Alone) (b : Bool)
+    → HasMore a (cond b (alone_publishes g post moment draw a) a)
+more_published g post moment draw a true = record { number = refl; more = post ∷ []; log = refl }
+more_published g post moment draw a false = nothing_more a a refl refl
+
 more_after : (g : GroupKeys) (call : MemberCall) (a : Alone) → HasMore a (after_call g call a)
-more_after g (Publish object moment draw) a = go (nat_lt (length a.log) 65535) where
-  go : (b : Bool) → HasMore a (cond b (alone_publishes g object moment draw a) a)
-  go true = record { number = refl; more = object ∷ []; log = refl }
+more_after g (Publish object moment draw) a =
+    more_published g (Offers object) moment draw a (nat_lt (length a.log) 65535)
+more_after g (Withdraw seq moment draw) a = go (has_unwithdrawn a.log seq) where
+  go : (b : Bool) → HasMore a (cond b (if_numbers g (Withdraws seq) moment draw a) a)
+  go true = more_published g (Withdraws seq) moment draw a (nat_lt (length a.log) 65535)
   go false = nothing_more a a refl refl
 more_after g (Hear octets moment draw) a = go (hear_verdict g a octets) where
   go : (r : Result (List ℕ) HearRefusal) → HasMore a (if_heard moment draw a r)
@@ -99,8 +111,8 @@ more_after g (Command octets) a = go (order_of g a.number octets) where
   go (Err code) = nothing_more a a refl refl
 more_after g (Block process index content moment draw) a = go (alone_block a process index content) where
   published : (p : Process) (b : Bool)
-      → HasMore a (cond b (alone_publishes g (object_of p) moment draw (alone_keeps process (closed p) a)) a)
-  published p true = record { number = refl; more = object_of p ∷ []; log = refl }
+      → HasMore a (cond b (alone_publishes g (Offers (object_of p)) moment draw (alone_keeps process (closed p) a)) a)
+  published p true = record { number = refl; more = Offers (object_of p) ∷ []; log = refl }
   published p false = nothing_more a a refl refl
 
   go : (state : BlockState) → HasMore a (after_block g process moment draw a state)
@@ -122,7 +134,7 @@ more_after_all g (call ∷ calls) a =
       more = one.more ++ others.more;
       log =
           others.log
-          ∙ ap (λ (log : List NamedContents). log ++ others.more) one.log
+          ∙ ap (λ (log : List Post). log ++ others.more) one.log
           ∙ append_assoc a.log one.more others.more;
     }
 
@@ -131,10 +143,10 @@ more_after_all g (call ∷ calls) a =
 pub logs_go_on : LogsGoOn
 logs_go_on g calls a =
     let grown = more_after_all g calls a in
-    let long = ap (λ (log : List NamedContents). length log) grown.log in
+    let long = ap (λ (log : List Post). length log) grown.log in
     record {
       front =
-          ap (λ (log : List NamedContents). take (length a.log) log) grown.log
+          ap (λ (log : List Post). take (length a.log) log) grown.log
           ∙ take_at a.log grown.more (length a.log) refl;
       longer = omega (arith, long, length-append a.log grown.more);
     }
@@ -149,22 +161,34 @@ pub at_end : {A : Type 0} (xs : List A) (x : A) → slice_get (xs ++ x ∷ []) (
 at_end [] x = refl
 at_end (y ∷ xs) x = at_end xs x
 
-pub publications_stay : PublicationsStay
-publications_stay g object moment draw calls a room =
-    let next : Alone = alone_publishes g object moment draw a in
+-- what is published stands behind what was
+stays_behind : (g : GroupKeys) (post : Post) (moment draw : ℕ) (calls : List MemberCall) (a : Alone)
+    → length a.log < 65535
+    → slice_get (after_calls g calls (if_numbers g post moment draw a)).log (length a.log) ≡ Some post
+stays_behind g post moment draw calls a room =
+    let next : Alone = alone_publishes g post moment draw a in
     let grown = more_after_all g calls next in
     ap (λ (b : Bool). slice_get (after_calls g calls (cond b next a)).log (length a.log))
     (lt-ltb (length a.log) 65535 room)
-    ∙ ap (λ (log : List NamedContents). slice_get log (length a.log)) grown.log
-    ∙ at_front (a.log ++ object ∷ []) grown.more (length a.log) object (at_end a.log object)
+    ∙ ap (λ (log : List Post). slice_get log (length a.log)) grown.log
+    ∙ at_front (a.log ++ post ∷ []) grown.more (length a.log) post (at_end a.log post)
+
+pub publications_stay : PublicationsStay
+publications_stay g object moment draw calls a room = stays_behind g (Offers object) moment draw calls a room
+
+pub withdrawals_stay : WithdrawalsStay
+withdrawals_stay g seq moment draw calls a there room =
+    ap (λ (b : Bool). slice_get (after_calls g calls (cond b (if_numbers g (Withdraws seq) moment draw a) a)).log
+    (length a.log)) there
+    ∙ stays_behind g (Withdraws seq) moment draw calls a room
 
 -- the packet of a part of the publications of a log
-abbrev packet_logged : GroupKeys → ℕ → List NamedContents → Part → Option (List ℕ)
+abbrev packet_logged : GroupKeys → ℕ → List Post → Part → Option (List ℕ)
 packet_logged g number log t =
     cond (t.publisher == number)
     (cond (t.seq == 0) None (option_and_then (packet_in (publisher_at g number) t) (slice_get log (t.seq - 1)))) None
 
-logged_on : (g : GroupKeys) (number : ℕ) (log more : List NamedContents) (t : Part) (octets : List ℕ)
+logged_on : (g : GroupKeys) (number : ℕ) (log more : List Post) (t : Part) (octets : List ℕ)
     → packet_logged g number log t ≡ Some octets → packet_logged g number (log ++ more) t ≡ Some octets
 logged_on g number log more t octets = own (t.publisher == number) (t.seq == 0) where
   own : (b c : Bool)
@@ -176,18 +200,18 @@ logged_on g number log more t octets = own (t.publisher == number) (t.seq == 0) 
   own false c h = absurd cc
   own true true h = absurd cc
   own true false h = at (slice_get log (t.seq - 1)) refl h where
-    at : (o : Option NamedContents) → slice_get log (t.seq - 1) ≡ o
+    at : (o : Option Post) → slice_get log (t.seq - 1) ≡ o
         → option_and_then (packet_in (publisher_at g number) t) o ≡ Some octets
         → option_and_then (packet_in (publisher_at g number) t) (slice_get (log ++ more) (t.seq - 1)) ≡ Some octets
     at None p q = absurd cc
-    at (Some object) p q =
-        ap (option_and_then (packet_in (publisher_at g number) t)) (at_front log more (t.seq - 1) object p) ∙ q
+    at (Some post) p q =
+        ap (option_and_then (packet_in (publisher_at g number) t)) (at_front log more (t.seq - 1) post p) ∙ q
 
 pub logged_with_more : (g : GroupKeys) (a b : Alone) (t : Part) (octets : List ℕ) → HasMore a b
     → logged g a t ≡ Some octets → logged g b t ≡ Some octets
 logged_with_more g a b t octets grown h =
     ap (λ (number : ℕ). packet_logged g number b.log t) grown.number
-    ∙ ap (λ (log : List NamedContents). packet_logged g a.number log t) grown.log
+    ∙ ap (λ (log : List Post). packet_logged g a.number log t) grown.log
     ∙ logged_on g a.number a.log grown.more t octets h
 
 pub logged_packets_stay : LoggedPacketsStay

@@ -10,7 +10,9 @@ use Rattle.repo_plan.specs.Parts.{Pair, pair_cmp, part_cmp, pair_of}
 use Rattle.repo_plan.specs.Plan.{hides, holds, is_asked, claim_of}
 use Rattle.repo_plan.proofs.Orders.{exact_pairs, exact_parts}
 use Rattle.sorted_lists.proofs.Sets.{eq_same, contains-insert_key}
-use Rattle.repo_object.specs.Objects.{NamedContents}
+use Rattle.repo_object.specs.Objects.{Post}
+use Rattle.repo_object.specs.Objects.Post.{Offers, Withdraws}
+use Rattle.group_model.specs.Publications.{has_unwithdrawn}
 use Rattle.ndn_name.specs.Names.{Component}
 use Rattle.repo_command.specs.declared.command.Command as commands
 use Rattle.repo_command.specs.declared.command.Command.TheVariants.{Insert, Check, Delete}
@@ -33,12 +35,14 @@ use Rattle.repo_member.specs.Outcomes.{outcome_of}
 use Rattle.repo_member.specs.Deleting.{catalogued_named, alone_hides}
 use Rattle.repo_member.specs.Commanded.{order_of, alone_starts, alone_obeys, alone_after_order}
 use Rattle.repo_member.specs.Blocks.{alone_block, alone_keeps, after_block}
-use Rattle.repo_member.specs.Calls.{MemberCall, Publish, Hear, JoinFrom, Fire, Claim, Lose, Accept, TakeOutcome}
+use Rattle.repo_member.specs.Calls.{MemberCall, Publish, Withdraw, if_numbers, Hear, JoinFrom, Fire, Claim, Lose}
+use Rattle.repo_member.specs.Calls.{Accept, TakeOutcome}
 use Rattle.repo_member.specs.Calls.{Command, Block, EndClaims, Reset, Restart, if_heard, if_joined, if_claimed, if_lost}
 use Rattle.repo_member.specs.Calls.{if_accepted, after_call, after_calls, HeldPacketsStay, HiddenForGood, HiddenIsGone}
 use Rattle.repo_member.specs.Calls.{OwnStored}
 use Rattle.repo_holdings.proofs.GainingLemmas.{put_elsewhere}
-use Rattle.repo_holdings.proofs.HidingLemmas.{other_way, value_outside}
+use Rattle.repo_holdings.proofs.CatalogueLemmas.{other_way}
+use Rattle.repo_holdings.proofs.HidingLemmas.{value_outside}
 use Rattle.repo_member.proofs.HeldParts.{IsReached, StaysStored, missing_value}
 use Rattle.repo_member.proofs.HiddenParts.{hidden_one}
 use Rattle.repo_member.proofs.CallLogs.{takes_same}
@@ -140,18 +144,22 @@ keeps_hidden (pair ∷ pairs) a =
     keeps_longer a (hidden_one pair a) (alone_hides pairs (hidden_one pair a)) (keeps_hidden_one pair a)
     (keeps_hidden pairs (hidden_one pair a))
 
-keeps_published : (g : GroupKeys) (object : NamedContents) (moment draw : ℕ) (old a : Alone) → a.hidden ≡ old.hidden
+keeps_published : (g : GroupKeys) (post : Post) (moment draw : ℕ) (old a : Alone) → a.hidden ≡ old.hidden
     → a.store ≡ old.store → (b : Bool)
-    → Keeps old (cond b (alone_publishes g object moment draw a) old)
-keeps_published g object moment draw old a hidden store true =
-    keeps_all old (alone_publishes g object moment draw a) hidden
-    (subst (λ (stored : List Packet). StaysStored stored (with_packets (new_packets g object a) a.store)) store
-    (stays_with_all (new_packets g object a) a.store))
-keeps_published g object moment draw old a hidden store false = keeps_as_it_is old old refl refl
+    → Keeps old (cond b (alone_publishes g post moment draw a) old)
+keeps_published g post moment draw old a hidden store true =
+    keeps_all old (alone_publishes g post moment draw a) hidden
+    (subst (λ (stored : List Packet). StaysStored stored (with_packets (new_packets g post a) a.store)) store
+    (stays_with_all (new_packets g post a) a.store))
+keeps_published g post moment draw old a hidden store false = keeps_as_it_is old old refl refl
 
 keeps_after : (g : GroupKeys) (call : MemberCall) (a : Alone) → Keeps a (after_call g call a)
 keeps_after g (Publish object moment draw) a =
-    keeps_published g object moment draw a a refl refl (nat_lt (length a.log) 65535)
+    keeps_published g (Offers object) moment draw a a refl refl (nat_lt (length a.log) 65535)
+keeps_after g (Withdraw seq moment draw) a = go (has_unwithdrawn a.log seq) where
+  go : (b : Bool) → Keeps a (cond b (if_numbers g (Withdraws seq) moment draw a) a)
+  go true = keeps_published g (Withdraws seq) moment draw a a refl refl (nat_lt (length a.log) 65535)
+  go false = keeps_as_it_is a a refl refl
 keeps_after g (Hear octets moment draw) a = go (hear_verdict g a octets) where
   go : (v : Result (List ℕ) HearRefusal) → Keeps a (if_heard moment draw a v)
   go (Ok told) = keeps_as_it_is a (if_heard moment draw a (Ok told)) refl refl
@@ -195,7 +203,7 @@ keeps_after g (Block process index content moment draw) a = go (alone_block a pr
   go Already = keeps_as_it_is a a refl refl
   go (Waiting p) = keeps_as_it_is a (alone_keeps process p a) refl refl
   go (Whole p) =
-      keeps_published g (object_of p) moment draw a (alone_keeps process (closed p) a) refl refl
+      keeps_published g (Offers (object_of p)) moment draw a (alone_keeps process (closed p) a) refl refl
       (nat_lt (length a.log) 65535)
 keeps_after g EndClaims a = keeps_as_it_is a (after_call g EndClaims a) refl refl
 keeps_after g (Reset moment draw) a = keeps_as_it_is a (after_call g (Reset moment draw) a) refl refl

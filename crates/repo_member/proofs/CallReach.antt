@@ -1,8 +1,9 @@
 -- What holds of every member that calls reach.
 use Rattle.std.proofs.Common.{◌≡◌, ℕ, ◌-◌, Bool, true, false, cond, List, [], ◌∷◌, length, Option, Some, None, Result}
 use Rattle.std.proofs.Common.{Ok, Err, refl, ap, ◌∙◌, subst, arith}
-use Rattle.std.specs.Prelude.{nat_lt, is_ok}
-use Rattle.std.proofs.lemmas.Bool.{ltb-true}
+use Rattle.std.specs.Prelude.{◌+◌, ◌<◌, ◌&&◌, not, nat_le, nat_lt, is_ok, is_some, slice_index_or}
+use Rattle.std.specs.List.{list_any}
+use Rattle.std.proofs.lemmas.Bool.{and_parts, leb-true, ltb-true}
 use Rattle.svs_sync.specs.KeptVector.{Keeper, steady_kept, hears_kept, fired_kept}
 use Rattle.ndn_data.specs.Data.{Data}
 use Rattle.repo_plan.specs.declared.part.Part.{Part}
@@ -11,14 +12,18 @@ use Rattle.repo_plan.specs.Sound.{PlanIsSound}
 use Rattle.repo_plan.specs.Calls.{ClaimsOnce}
 use Rattle.repo_plan.proofs.Changes.{wanted_parts, sound_first, sound_release, sound_end, released_can_be_held}
 use Rattle.repo_object.specs.declared.part_refusal.PartRefusal.{PartRefusal}
+use Rattle.repo_object.specs.Objects.{Post, IsPost, offered, withdraws_number}
+use Rattle.repo_object.specs.Objects.Post.{Offers, Withdraws}
 use Rattle.repo_object.specs.Verdict.{ring_verdict}
+use Rattle.group_model.specs.Publications.{has_unwithdrawn, no_post}
 use Rattle.repo_member.specs.declared.refusals.HearRefusal.{HearRefusal}
 use Rattle.repo_member.specs.declared.refusals.AcceptRefusal.{AcceptRefusal}
 use Rattle.repo_member.specs.Groups.{GroupKeys}
 use Rattle.repo_member.specs.Alone.{Alone, alone_plan, alone_publishes, alone_learns, alone_claims, alone_accepts}
-use Rattle.repo_member.specs.Alone.{alone_ends_claims, alone_clears, want_of}
+use Rattle.repo_member.specs.Alone.{alone_ends_claims, alone_clears, next_seq, want_of}
 use Rattle.repo_member.specs.Verdicts.{hear_verdict, passed, claim_verdict, accept_verdict}
-use Rattle.repo_member.specs.Calls.{MemberCall, Publish, Hear, JoinFrom, Fire, Claim, Lose, Accept, TakeOutcome}
+use Rattle.repo_member.specs.Calls.{MemberCall, Publish, Withdraw, if_numbers, Hear, JoinFrom, Fire, Claim, Lose}
+use Rattle.repo_member.specs.Calls.{Accept, TakeOutcome}
 use Rattle.repo_member.specs.Calls.{Command, Block, EndClaims, Reset, Restart, if_heard, if_joined, if_claimed, if_lost}
 use Rattle.repo_member.specs.Calls.{if_accepted, after_call, after_calls, IsAllowedCall, AreAllowedCalls, InEveryMember}
 use Rattle.repo_member.proofs.MemberLemmas.{still_wide}
@@ -89,12 +94,34 @@ reached_accepts g a f t octets is r =
     reached_gains g released t octets (claims_too g a released.claims (sound_release f (alone_plan a) r.sound) r)
     (released_can_be_held f t (alone_plan a) r.sound is.claimed) wanted.not_held is.passes
 
+reached_numbers : (g : GroupKeys) (post : Post) (moment draw : ℕ) (a : Alone) → IsPost (next_seq a) post → IsReached g a
+    → (b : Bool) → nat_lt (length a.log) 65535 ≡ b → IsReached g (cond b (alone_publishes g post moment draw a) a)
+reached_numbers g post moment draw a is r true p =
+    reached_publishes g post moment draw a is (ltb-true (length a.log) 65535 p) r
+reached_numbers g post moment draw a is r false p = r
+
+-- what can be withdrawn has an earlier number
+withdraws_earlier : (log : List Post) (seq : ℕ) → has_unwithdrawn log seq ≡ true → (0 < seq) × (seq < length log + 1)
+withdraws_earlier log seq h =
+    let both =
+    and_parts (nat_le 1 seq) (nat_le seq (length log))
+    (and_parts (nat_le 1 seq && nat_le seq (length log))
+    (is_some (offered (slice_index_or log (seq - 1) no_post))
+    && not (list_any (λ o. withdraws_number o seq) log)) h).0 in
+    let low = leb-true 1 seq both.0 in
+    let high = leb-true seq (length log) both.1 in
+    (omega (arith, low), omega (arith, high))
+
 reached_call : (g : GroupKeys) (call : MemberCall) (a : Alone) → IsAllowedCall g a call → IsReached g a
     → IsReached g (after_call g call a)
-reached_call g (Publish object moment draw) a can r = go (nat_lt (length a.log) 65535) refl where
-  go : (b : Bool) → nat_lt (length a.log) 65535 ≡ b → IsReached g (cond b (alone_publishes g object moment draw a) a)
-  go true p = reached_publishes g object moment draw a can (ltb-true (length a.log) 65535 p) r
-  go false p = r
+reached_call g (Publish object moment draw) a can r =
+    reached_numbers g (Offers object) moment draw a can r (nat_lt (length a.log) 65535) refl
+reached_call g (Withdraw seq moment draw) a can r = go (has_unwithdrawn a.log seq) refl where
+  go : (b : Bool) → has_unwithdrawn a.log seq ≡ b → IsReached g (cond b (if_numbers g (Withdraws seq) moment draw a) a)
+  go true there =
+      reached_numbers g (Withdraws seq) moment draw a (withdraws_earlier a.log seq there) r
+      (nat_lt (length a.log) 65535) refl
+  go false there = r
 reached_call g (Hear octets moment draw) a can r = go (hear_verdict g a octets) refl where
   go : (v : Result (List ℕ) HearRefusal) → hear_verdict g a octets ≡ v → IsReached g (if_heard moment draw a v)
   go (Ok told) p =

@@ -10,7 +10,9 @@ use Rattle.svs_sync.specs.declared.sync_refusal.SyncRefusal.{SyncRefusal}
 use Rattle.svs_sync.specs.SyncInterest.{sync_verdict}
 use Rattle.repo_plan.specs.declared.part.Part.{Part}
 use Rattle.repo_plan.specs.Plan.{claim_of}
-use Rattle.repo_object.specs.Objects.{NamedContents}
+use Rattle.repo_object.specs.Objects.{Post}
+use Rattle.repo_object.specs.Objects.Post.{Offers, Withdraws}
+use Rattle.group_model.specs.Publications.{has_unwithdrawn}
 use Rattle.ndn_name.specs.Names.{Component}
 use Rattle.repo_command.specs.declared.command.Command as commands
 use Rattle.repo_command.specs.declared.command.Command.TheVariants.{Insert, Check, Delete}
@@ -27,7 +29,8 @@ use Rattle.repo_member.specs.Outcomes.{outcome_of}
 use Rattle.repo_member.specs.Deleting.{alone_deletes}
 use Rattle.repo_member.specs.Commanded.{order_of, alone_starts, alone_obeys, alone_after_order}
 use Rattle.repo_member.specs.Blocks.{alone_block, alone_keeps, after_block}
-use Rattle.repo_member.specs.Calls.{MemberCall, Publish, Hear, JoinFrom, Fire, Claim, Lose, Accept, TakeOutcome}
+use Rattle.repo_member.specs.Calls.{MemberCall, Publish, Withdraw, if_numbers, Hear, JoinFrom, Fire, Claim, Lose}
+use Rattle.repo_member.specs.Calls.{Accept, TakeOutcome}
 use Rattle.repo_member.specs.Calls.{Command, Block, EndClaims, Reset, Restart, if_heard, if_joined, if_claimed, if_lost}
 use Rattle.repo_member.specs.Calls.{if_accepted, after_call, after_calls, vector_taken, vector_of_call, vectors_told}
 use Rattle.repo_member.specs.Calls.{NumbersNeverFall, KnownIsTheJoin}
@@ -116,7 +119,7 @@ learns_nothing old new number known log is = record {
         ap (λ (v : List ℕ). slice_index v new.number) known
         ∙ ap (slice_index old.known) number
         ∙ is.own
-        ∙ sym (ap (λ (l : List NamedContents). length l) log);
+        ∙ sym (ap (λ (l : List Post). length l) log);
   };
   rises = λ p. omega (arith, ap (λ (v : List ℕ). slice_index v p) known);
   joined = λ others n. ap (λ (v : List ℕ). slice_set (join v others) old.number n) known;
@@ -129,7 +132,7 @@ unfolding join_all
 learns_vector g octets told old new verdict number known log is =
     let few = (told_is g old octets told verdict).not_ahead in
     let at = join-at old.known told in
-    let lasting = ap (λ (l : List NamedContents). length l) log in
+    let lasting = ap (λ (l : List Post). length l) log in
     record {
       number = number;
       knows = record {
@@ -147,13 +150,13 @@ learns_vector g octets told old new verdict number known log is =
           ∙ ap (λ (v : List ℕ). slice_set (join old.known (join v others)) old.number n) (sym (join-[] told));
     }
 
-learns_own : (object : NamedContents) (old new : Alone) → new.number ≡ old.number
-    → new.known ≡ slice_set old.known old.number (length old.log + 1) → new.log ≡ old.log ++ object ∷ [] → KnowsOwn old
+learns_own : (post : Post) (old new : Alone) → new.number ≡ old.number
+    → new.known ≡ slice_set old.known old.number (length old.log + 1) → new.log ≡ old.log ++ post ∷ [] → KnowsOwn old
     → Learns [] old new
 unfolding join_all join
-learns_own object old new number known log is =
+learns_own post old new number known log is =
     let at = get_or-set_same old.known old.number (length old.log + 1) 0 is.member in
-    let longer = ap (λ (l : List NamedContents). length l) log ∙ length_push old.log object in
+    let longer = ap (λ (l : List Post). length l) log ∙ length_push old.log post in
     record {
       number = number;
       knows = record {
@@ -193,11 +196,19 @@ learns_own object old new number known log is =
           ∙ set_joined old.known others old.number (length old.log + 1) n is.member;
     }
 
+learns_published : (g : GroupKeys) (post : Post) (moment draw : ℕ) (a : Alone) → KnowsOwn a → (b : Bool)
+    → Learns [] a (cond b (alone_publishes g post moment draw a) a)
+learns_published g post moment draw a is true =
+    learns_own post a (alone_publishes g post moment draw a) refl refl refl is
+learns_published g post moment draw a is false = learns_nothing a a refl refl refl is
+
 learns_by : (g : GroupKeys) (call : MemberCall) (a : Alone) → KnowsOwn a
     → Learns (vector_of_call g a call) a (after_call g call a)
-learns_by g (Publish object moment draw) a is = go (nat_lt (length a.log) 65535) where
-  go : (b : Bool) → Learns [] a (cond b (alone_publishes g object moment draw a) a)
-  go true = learns_own object a (alone_publishes g object moment draw a) refl refl refl is
+learns_by g (Publish object moment draw) a is =
+    learns_published g (Offers object) moment draw a is (nat_lt (length a.log) 65535)
+learns_by g (Withdraw seq moment draw) a is = go (has_unwithdrawn a.log seq) where
+  go : (b : Bool) → Learns [] a (cond b (if_numbers g (Withdraws seq) moment draw a) a)
+  go true = learns_published g (Withdraws seq) moment draw a is (nat_lt (length a.log) 65535)
   go false = learns_nothing a a refl refl refl is
 learns_by g (Hear octets moment draw) a is = go (hear_verdict g a octets) refl where
   go : (r : Result (List ℕ) HearRefusal) → hear_verdict g a octets ≡ r
@@ -240,9 +251,10 @@ learns_by g (Command octets) a is = go (order_of g a.number octets) where
   go (Err code) = learns_nothing a a refl refl refl is
 learns_by g (Block process index content moment draw) a is = go (alone_block a process index content) where
   published : (p : Process) (b : Bool)
-      → Learns [] a (cond b (alone_publishes g (object_of p) moment draw (alone_keeps process (closed p) a)) a)
+      → Learns [] a (cond b (alone_publishes g (Offers (object_of p)) moment draw (alone_keeps process (closed p) a)) a)
   published p true =
-      learns_own (object_of p) a (alone_publishes g (object_of p) moment draw (alone_keeps process (closed p) a)) refl
+      learns_own (Offers (object_of p)) a
+      (alone_publishes g (Offers (object_of p)) moment draw (alone_keeps process (closed p) a)) refl
       refl refl is
   published p false = learns_nothing a a refl refl refl is
 

@@ -9,10 +9,11 @@ use Rattle.svs_sync.specs.Suppression.{periodic}
 use Rattle.repo_plan.specs.declared.part.Part.{Part}
 use Rattle.sorted_lists.specs.SortedList.{by_order, keys, Rises, contains, insert_key, with_value}
 use Rattle.sorted_lists.specs.Range.{numbers_from}
-use Rattle.repo_plan.specs.Parts.{Pair, part_cmp, part_of, parts_of}
+use Rattle.repo_plan.specs.Parts.{Pair, part_cmp, part_of, parts_of, parts_behind}
 use Rattle.sorted_lists.proofs.Orders.{Exact, less_back}
 use Rattle.repo_plan.proofs.Orders.{exact_parts}
 use Rattle.sorted_lists.proofs.Sets.{each_before, in_contains, keys-with_value, rises_insert}
+use Rattle.repo_object.specs.Objects.{shape_in}
 use Rattle.repo_object.specs.Publication.{packets}
 use Rattle.repo_object.proofs.Publications.{packets-length}
 use Rattle.repo_store.specs.StoreList.{with_packet}
@@ -86,15 +87,15 @@ abbrev holding : Member → List Part → Member
 holding m held = record m { held = held }
 
 pub publishes_alike : PublishesAlike
-publishes_alike g object moment draw a r =
+publishes_alike g post moment draw a r =
     let pair : Pair = (a.number, next_seq a) in
-    let made : List (List ℕ) = packets (publisher_at g a.number) (next_seq a) object in
-    let parts : keys (new_packets g object a) ≡ parts_of pair (length object.contents) =
+    let made : List (List ℕ) = packets (publisher_at g a.number) (next_seq a) post in
+    let parts : keys (new_packets g post a) ≡ parts_of pair (parts_behind (shape_in post)) =
     keys_as_parts pair 0 made
     ∙ ap (λ (n : ℕ). map (part_of pair) (numbers_from 0 n))
-    (packets-length (publisher_at g a.number) (next_seq a) object) in
-    ap (holding (group.publishes draw moment a.number object (in_group a)))
-    (keys_puts (new_packets g object a) a.store r ∙ ap (λ (ts : List Part). insert_keys ts (keys a.store)) parts)
+    (packets-length (publisher_at g a.number) (next_seq a) post) in
+    ap (holding (group.publishes draw moment a.number post (in_group a)))
+    (keys_puts (new_packets g post a) a.store r ∙ ap (λ (ts : List Part). insert_keys ts (keys a.store)) parts)
 
 pub accepts_alike : AcceptsAlike
 accepts_alike f t octets a r = ap (holding (group.takes f t (in_group a))) (keys_put a.store t octets r)

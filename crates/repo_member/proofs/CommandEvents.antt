@@ -11,6 +11,7 @@ use Rattle.repo_command.specs.declared.command.Command.{Command}
 use Rattle.repo_command.specs.declared.command.Command.TheVariants.{Insert, Check, Delete}
 use Rattle.repo_command.specs.declared.answer.Answer.{Answer}
 use Rattle.repo_command.specs.Answers.{code_alone}
+use Rattle.repo_object.specs.Objects.Post.{Offers}
 use Rattle.repo_process.specs.Processes.{Process, BlockState, object_of, closed, block_state}
 use Rattle.repo_process.specs.Processes.BlockState.{Unknown, Already, Waiting, Whole}
 use Rattle.group_model.specs.Publications.{pair_in}
@@ -169,6 +170,8 @@ block_is_event out w j process index content g a is order taken =
           ap (λ (m : Member). out.draw j m.machine.draws)
           (still.same ∙ sym (ap (group.member_with_process process (closed p)) is.same)) in
           publish_is_event out v j g (object_of p) kept still order
-          ∙ ap (λ (d : ℕ). in_group (alone_publishes g (object_of p) w.moment d kept)) draws
+          ∙ ap (λ (d : ℕ). in_group (alone_publishes g (Offers (object_of p)) w.moment d kept)) draws
           ∙ sym
-          (ap (λ (b : Bool). in_group (cond b (alone_publishes g (object_of p) w.moment (drawn out w j) kept) a)) room)
+          (ap
+          (λ (b : Bool). in_group (cond b (alone_publishes g (Offers (object_of p)) w.moment (drawn out w j) kept) a))
+          room)

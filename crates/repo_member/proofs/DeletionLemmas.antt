@@ -6,7 +6,7 @@ use Rattle.repo_plan.specs.declared.part.Part.{Part}
 use Rattle.sorted_lists.specs.SortedList.{insert_key}
 use Rattle.repo_plan.specs.Parts.{Pair, pair_cmp}
 use Rattle.repo_catalog.specs.Entries.{publication_of, entry_has_name, all_named}
-use Rattle.group_model.specs.Publications.{Logs, Publication, pair_in, published_entry}
+use Rattle.group_model.specs.Publications.{Logs, Publication, pair_in, object_in, published_entry}
 use Rattle.group_model.specs.Commands.{is_equal_name}
 use Rattle.group_model.specs.Member.{Member, catalogued, catalogued_under, member_hides_all}
 use Rattle.repo_member.specs.Groups.{GroupKeys}
@@ -28,18 +28,18 @@ hides_alike (p ∷ ps) a =
     ∙ ap (λ (held : List Part). member_hides_all ps (shown held)) (keys_outside (pair_in p) a.store)
 
 named_entries : (name : List Component) (ps : List Publication)
-    → all_named name (map published_entry ps) ≡ map pair_in (filter (λ p. is_equal_name p.object.name name) ps)
+    → all_named name (map published_entry ps) ≡ map pair_in (filter (λ p. is_equal_name (object_in p).name name) ps)
 named_entries name [] = refl
-named_entries name (p ∷ ps) = go (is_equal_name p.object.name name) (named_entries name ps) where
+named_entries name (p ∷ ps) = go (is_equal_name (object_in p).name name) (named_entries name ps) where
   go : (b : Bool)
       → all_named name (map published_entry ps)
-      ≡ map pair_in (filter (λ q. is_equal_name q.object.name name) ps)
+      ≡ map pair_in (filter (λ q. is_equal_name (object_in q).name name) ps)
       → map publication_of
       (cond b (published_entry p ∷ filter (entry_has_name name) (map published_entry ps))
       (filter (entry_has_name name) (map published_entry ps)))
       ≡ map pair_in
-      (cond b (p ∷ filter (λ q. is_equal_name q.object.name name) ps)
-      (filter (λ q. is_equal_name q.object.name name) ps))
+      (cond b (p ∷ filter (λ q. is_equal_name (object_in q).name name) ps)
+      (filter (λ q. is_equal_name (object_in q).name name) ps))
   go true h = ap (λ (rest : List Pair). pair_in p ∷ rest) h
   go false h = h
 

@@ -22,16 +22,21 @@ use Rattle.group_model.specs.Events.Came.{Nothing, Its, Another}
 use Rattle.group_model.specs.World.{Outside, World, no_member, member, logs, sent_at}
 use Rattle.group_model.specs.Steps.{drawn, timer_at, claim_at, passes_checks, came_from, came_as, tried_once}
 use Rattle.group_model.specs.Steps.{planned_parts, attempts_for, fetches, settled_vector, settled_member, new_parts}
-use Rattle.group_model.specs.Steps.{after_deliver, after_fire, after_claiming, after_came}
+use Rattle.group_model.specs.Steps.{after_publish, after_deliver, after_fire, after_claiming, after_came}
 use Rattle.group_model.proofs.Lists.{contains-insert_keys, rises_insert_keys}
 use Rattle.group_model.proofs.Settles.{member_settled, member_gathered}
 use Rattle.group_model.proofs.SortedSets.{same_members}
-use Rattle.repo_member.specs.Alone.{Alone, alone_plan, alone_learns, alone_hears, alone_fires, alone_claims}
+use Rattle.repo_object.specs.Objects.{Post}
+use Rattle.repo_object.specs.Objects.Post.{Offers, Withdraws}
+use Rattle.repo_member.specs.Groups.{GroupKeys}
+use Rattle.repo_member.specs.Alone.{Alone, alone_plan, alone_publishes, alone_learns, alone_hears, alone_fires}
+use Rattle.repo_member.specs.Alone.{alone_claims}
 use Rattle.repo_member.specs.Alone.{alone_accepts, alone_takes, alone_ends_claims}
 use Rattle.repo_member.specs.InGroup.{in_group, StoresInOrder, AreTries, that_came, after_timer}
 use Rattle.repo_holdings.specs.Taking.{with_all_tries}
 use Rattle.repo_holdings.specs.Taking.{Fetched}
-use Rattle.repo_member.specs.InEvents.{IsMemberOf, PublishIsEvent, DeliverIsEvent, HearIsEvent, FireIsEvent}
+use Rattle.repo_member.specs.InEvents.{IsMemberOf, PublishIsEvent, WithdrawIsEvent, DeliverIsEvent, HearIsEvent}
+use Rattle.repo_member.specs.InEvents.{FireIsEvent}
 use Rattle.repo_member.specs.InEvents.{RestartIsEvent, ClaimIsEvent, LoseIsEvent, AnswerIsEvent, FeedIsEvent}
 use Rattle.repo_member.specs.InEvents.{FetchIsEvent, LearnsAtOnce, LearnsWhatAllKnow, IsSettling, GatheringIsEvent}
 use Rattle.repo_member.specs.InEvents.{SettleIsEvent, learns_all, OpenPartsAlike, CataloguesAlike}
@@ -45,11 +50,19 @@ module _ (w : World) (j : ℕ) (a : Alone) (is : IsMemberOf w j a) where
       → get_or (set w.members j (change (member w j))) j no_member ≡ change (in_group a)
   changed change = get_or-set_same w.members j (change (member w j)) no_member is.there ∙ ap change is.same
 
+post_is_event : (out : Outside) (w : World) (j : ℕ) (g : GroupKeys) (post : Post) (a : Alone) → IsMemberOf w j a
+    → StoresInOrder a
+    → member (after_publish out w j post) j ≡ in_group (alone_publishes g post w.moment (drawn out w j) a)
+post_is_event out w j g post a is r =
+    changed w j a is (group.publishes (drawn out w j) w.moment j post)
+    ∙ ap (λ (n : ℕ). group.publishes (drawn out w j) w.moment n post (in_group a)) (sym is.number)
+    ∙ sym (publishes_alike g post w.moment (drawn out w j) a r)
+
 pub publish_is_event : PublishIsEvent
-publish_is_event out w j g object a is r =
-    changed w j a is (group.publishes (drawn out w j) w.moment j object)
-    ∙ ap (λ (n : ℕ). group.publishes (drawn out w j) w.moment n object (in_group a)) (sym is.number)
-    ∙ sym (publishes_alike g object w.moment (drawn out w j) a r)
+publish_is_event out w j g object a is r = post_is_event out w j g (Offers object) a is r
+
+pub withdraw_is_event : WithdrawIsEvent
+withdraw_is_event out w j seq g a is r = post_is_event out w j g (Withdraws seq) a is r
 
 pub deliver_is_event : DeliverIsEvent
 deliver_is_event out w k j a is = changed w j a is (group.learns (drawn out w j) w.moment (sent_at w k).vector)

@@ -8,26 +8,28 @@ use Rattle.std.proofs.lemmas.Bool.{true≢false, and_parts, and_from, or_parts, 
 use Rattle.std.proofs.lemmas.List.Elements.{All-head, All-tail}
 use Rattle.repo_plan.specs.declared.part.Part.{Part}
 use Rattle.sorted_lists.specs.SortedList.{contains, value_of}
-use Rattle.repo_plan.specs.Parts.{Pair, Shape, part_cmp}
+use Rattle.repo_plan.specs.declared.shape.Shape.{Shape}
+use Rattle.repo_plan.specs.Parts.{Pair, part_cmp}
 use Rattle.repo_plan.specs.Plan.{holds, shape_of, is_wanted, is_claimed, is_unclaimed}
 use Rattle.repo_plan.specs.Sound.{CanBeHeld}
 use Rattle.repo_plan.proofs.Orders.{exact_parts}
 use Rattle.sorted_lists.proofs.Sets.{eq_same, eq_itself}
 use Rattle.repo_plan.proofs.Changes.{Keeps, IsWanted, wanted_parts, wanted_from, asked_kept}
 use Rattle.repo_object.specs.declared.job.Job.{Job}
-use Rattle.repo_object.specs.Publication.{Listed}
+use Rattle.repo_object.specs.Publication.{RecordSays}
 use Rattle.repo_object.specs.Wants.{WantedPart}
-use Rattle.repo_object.specs.Verdict.{CheckedPart, IsChecked, part_verdict, ring_verdict, publisher_key}
+use Rattle.repo_object.specs.Verdict.{CheckedPart, IsChecked, said_in, part_verdict, ring_verdict, publisher_key}
 use Rattle.repo_store.specs.StoreList.{with_packet}
-use Rattle.repo_holdings.specs.Listed.{listing_at, listed_shape}
+use Rattle.repo_holdings.specs.Listed.{said_at}
+use Rattle.repo_object.specs.Publication.{shape_said}
 use Rattle.repo_member.specs.Groups.{GroupKeys}
 use Rattle.group_model.specs.Member.{with_tries}
 use Rattle.repo_member.specs.Alone.{Alone, alone_plan, want_of, alone_takes}
 use Rattle.repo_member.specs.Outcomes.{outcome_of, IsCheckedFor, AreFetched, IsOutcome}
 use Rattle.repo_holdings.specs.Taking.{PartsDiffer}
-use Rattle.repo_holdings.proofs.GainingLemmas.{contains-value, put_elsewhere, shape_told}
-use Rattle.repo_member.proofs.PlanChanges.{gains, tied_alone, sound_tried}
-use Rattle.repo_member.proofs.HeldParts.{IsReached, PassesNow, StaysStored, listing_still, want_stays, stays_stored}
+use Rattle.repo_holdings.proofs.GainingLemmas.{contains-value, put_elsewhere, shape_stored}
+use Rattle.repo_member.proofs.PlanChanges.{gains, sound_tried}
+use Rattle.repo_member.proofs.HeldParts.{IsReached, PassesNow, StaysStored, read_still, want_stays, stays_stored}
 use Rattle.repo_member.proofs.HeldParts.{missing_value, not_there, reached_with, reached_gains}
 
 -- ---- jobs whose outcome can be taken
@@ -124,16 +126,16 @@ module _ (g : GroupKeys) (a : Alone) (t : Part) (octets : List ℕ) (r : IsReach
         let there = there_value (value_of part_cmp a.store u) (sym (contains-value a.store u) ∙ h) in
         contains-value (with_packet t octets a.store) u ∙ ap is_some (stays.still u there.0 there.1);
     shapes =
-        λ pair n h. go pair n (listing_at a.store pair) refl
-        (sym (shape_told (alone_plan a) a.store pair (tied_alone a r.alone.in_order)) ∙ h);
+        λ pair shape h. go pair shape (said_at a.store pair) refl
+        (sym (shape_stored (alone_plan a) a.store pair r.tied) ∙ h);
   } where
-    go : (pair : Pair) (n : Shape) (o : Option Listed) → listing_at a.store pair ≡ o
-        → option_map listed_shape o ≡ Some n → shape_of (alone_plan (gains t octets a)) pair ≡ Some n
-    go pair n None p q = absurd (no_shape n q)
-    go pair n (Some l) p q =
-        shape_told (alone_plan (gains t octets a)) (with_packet t octets a.store) pair
-        (tied_alone (gains t octets a) next.alone.in_order)
-        ∙ ap (option_map listed_shape) (listing_still a.store (with_packet t octets a.store) pair l stays p) ∙ q
+    go : (pair : Pair) (shape : Shape) (o : Option RecordSays) → said_at a.store pair ≡ o
+        → option_map shape_said o ≡ Some shape → shape_of (alone_plan (gains t octets a)) pair ≡ Some shape
+    go pair shape None p q = absurd (no_shape shape q)
+    go pair shape (Some says) p q =
+        shape_stored (alone_plan (gains t octets a)) (with_packet t octets a.store) pair next.tied
+        ∙ ap (option_map shape_said)
+        (read_still said_in a.store (with_packet t octets a.store) pair 0 says stays p) ∙ q
 
   -- another job can be taken still
   open_still : (job : Job) → eq_by_cmp part_cmp t job.want.part ≡ false → IsOpen g a job
@@ -150,7 +152,7 @@ module _ (g : GroupKeys) (a : Alone) (t : Part) (octets : List ℕ) (r : IsReach
       }) in (
         and_from (is_wanted (alone_plan (gains t octets a)) u) (not (is_claimed (alone_plan a) u)) wanted
             (and_parts (is_wanted (alone_plan a) u) (not (is_claimed (alone_plan a) u)) is.0).1,
-        is.1 ∙ sym (want_stays g a (with_packet t octets a.store) u r.alone.in_order stays its.wanted.asked),
+        is.1 ∙ sym (want_stays g a (with_packet t octets a.store) u r.tied stays its.wanted.asked),
       )
 
   all_open_still : (jobs : List Job) (parts : List (Option CheckedPart)) (ns : List ℕ)

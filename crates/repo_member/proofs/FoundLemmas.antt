@@ -2,28 +2,32 @@
 use Rattle.std.proofs.Common.{◌≡◌, ◌⊎◌, inl, inr, ℕ, zero, suc, ◌+◌, ◌<◌, ◌≤◌, Bool, true, false, cond, ◌==◌, List, []}
 use Rattle.std.proofs.Common.{◌∷◌, ◌++◌, map, length, take, refl, sym, ap, ◌∙◌, subst, Option, Some, None, option_map}
 use Rattle.std.proofs.Common.{is_some, arith}
-use Rattle.std.specs.Prelude.{filter, slice_index_or, get_or}
-use Rattle.std.proofs.lemmas.Bool.{true≢false, and_parts, cases_eq, eqb-true}
+use Rattle.std.specs.Prelude.{filter, slice_index_or, get_or, nat_le, ◌&&◌}
+use Rattle.std.proofs.lemmas.Bool.{true≢false, and_parts, or_cases, cases_eq, eqb-true, leb-true}
 use Rattle.std.proofs.lemmas.List.{length-map}
 use Rattle.std.specs.List.{list_any}
 use Rattle.std.specs.Option.{option_and_then}
 use Rattle.std.specs.Ordering.{eq_by_cmp, is_eq}
+use Rattle.std.specs.declared.cmp.Ordering.{Ordering}
 use Rattle.std.specs.declared.cmp.Ordering.TheVariants.{Less}
 use Rattle.ndn_name.specs.Names.{Component}
 use Rattle.repo_plan.specs.declared.part.Part.{Part}
-use Rattle.sorted_lists.specs.SortedList.{keys, IsBefore, Rises, contains}
+use Rattle.sorted_lists.specs.SortedList.{keys, IsBefore, Rises, contains, value_of}
+use Rattle.sorted_lists.proofs.Orders.{Exact, less_back}
 use Rattle.sorted_lists.specs.Range.{numbers_from}
-use Rattle.repo_plan.specs.Parts.{Pair, pair_cmp, part_cmp, pair_of, part_of, parts_of}
+use Rattle.repo_plan.specs.declared.shape.Shape.{Shape}
+use Rattle.repo_plan.specs.Parts.{Pair, pair_cmp, part_cmp, pair_of, part_of, parts_of, parts_behind, parent}
+use Rattle.repo_plan.specs.Parts.{shape_of_segments}
 use Rattle.repo_plan.specs.Plan.{PlanState, holds, knows, is_in, is_asked, can_be_asked, shape_of, is_claim_in}
 use Rattle.repo_plan.specs.Plan.{claims_part_in, opening}
 use Rattle.repo_plan.specs.Sound.{PlanIsSound}
 use Rattle.repo_plan.proofs.Orders.{exact_pairs, exact_parts}
 use Rattle.sorted_lists.proofs.Sets.{In, eq_same, eq_itself, keys-filter, rises_filter, in_filter, contains_in}
-use Rattle.sorted_lists.proofs.Sets.{in_contains, from_map, each_before}
+use Rattle.sorted_lists.proofs.Sets.{in_contains, in_map, from_map, each_before}
 use Rattle.repo_plan.proofs.Known.{in_numbers, rises_numbers, from_parts_of, in_parts_of}
 use Rattle.repo_plan.proofs.Changes.{wanted_parts}
-use Rattle.repo_object.specs.Publication.{Listed}
-use Rattle.repo_object.specs.Verdict.{listing_in}
+use Rattle.repo_object.specs.Publication.{Listed, RecordSays}
+use Rattle.repo_object.specs.Publication.RecordSays.{Lists}
 use Rattle.repo_store.specs.StoreList.{packets_in, packets_outside}
 use Rattle.repo_store.proofs.StoreLemmas.{lengths_inside}
 use Rattle.repo_process.proofs.ProcessLemmas.{length-numbers}
@@ -32,58 +36,88 @@ use Rattle.repo_catalog.specs.Entries.{publication_of, entry_has_name, all_named
 use Rattle.group_model.proofs.Lists.{from_filter, each_all, in_at}
 use Rattle.group_model.proofs.SortedSets.{same_set}
 use Rattle.repo_holdings.specs.Records.{Packet}
-use Rattle.repo_holdings.specs.Listed.{stored_at, listing_at, listed_shape, are_stored, entry_at, entry_listed}
-use Rattle.repo_holdings.specs.Listed.{entry_of_listing, entries_in, alone_catalogue}
-use Rattle.repo_holdings.specs.Gaining.{AreTied}
+use Rattle.repo_holdings.specs.Listed.{stored_at, listing_in, listing_at, said_at, shapes_in, are_stored}
+use Rattle.repo_object.specs.Publication.{shape_said}
+use Rattle.repo_holdings.specs.Listed.{whole_at, entry_at, entry_listed, entry_of_listing, entries_in, alone_catalogue}
+use Rattle.repo_holdings.specs.Listed.{is_withdrawn, is_withdrawal, withdrawn_by}
 use Rattle.repo_holdings.specs.Hiding.{outside_all}
 use Rattle.repo_holdings.proofs.CatalogueLemmas.{entries_value, entries_rise, Keyed, entries_keyed}
-use Rattle.repo_holdings.proofs.GainingLemmas.{contains-value, held_value}
-use Rattle.repo_holdings.proofs.AskedLemmas.{asked_segment}
-use Rattle.repo_member.proofs.TruePackets.{value_in}
+use Rattle.repo_holdings.proofs.CatalogueLemmas.{shapes_value}
+use Rattle.repo_holdings.proofs.GainingLemmas.{contains-value, listing_says}
+use Rattle.repo_holdings.proofs.AskedLemmas.{listing_sized}
 
 -- ---- what is catalogued is stored wholly
 
--- a publication whose record and so many segments are stored
+-- how many parts a publication of so many segments has behind its record
+abbrev pub parts_counted : ℕ → ℕ
+parts_counted n = parts_behind (shape_of_segments n)
+
+-- an object of so many segments whose record is stored, and every part behind it
 pub record IsWhole (packets : List Packet) (pair : Pair) (n : ℕ) : Type 0 where
-  pub told : option_map listed_shape (listing_at packets pair) ≡ Some n
-  pub each : (x : ℕ) → x ≤ n → is_some (stored_at packets pair x) ≡ true
+  pub listing : Listed
+  pub says : said_at packets pair ≡ Some (Lists listing)
+  pub counts : listing.segments ≡ n
+  pub few : n ≤ 20000
+  pub each : (x : ℕ) → x ≤ parts_counted n → is_some (stored_at packets pair x) ≡ true
 
 none_some : {A : Type 0} (x : A) → (let n : Option A = None in n) ≡ Some x → ⊥
 none_some x h = cc
 
 whole_of_entry : (packets : List Packet) (pair : Pair) (e : Entry) → entry_at packets pair ≡ Some e
     → IsWhole packets pair e.segments
-whole_of_entry packets pair e h = go (listing_at packets pair) refl h where
+whole_of_entry packets pair e h = shown (is_withdrawn packets pair) h where
   record_there : (l : Listed) (o : Option (List ℕ)) → option_and_then listing_in o ≡ Some l → is_some o ≡ true
   record_there l None p = absurd (none_some l p)
   record_there l (Some octets) p = refl
 
+  entry_segments : Option Entry → ℕ
+  entry_segments None = 0
+  entry_segments (Some y) = y.segments
+
   of_listing : (l : Listed) → listing_at packets pair ≡ Some l → (b : Bool)
-      → are_stored packets pair (listed_shape l) ≡ b → cond b (Some (entry_of_listing packets pair l)) None ≡ Some e
+      → are_stored packets pair (parts_counted l.segments) ≡ b
+      → cond b (Some (entry_of_listing packets pair l)) None ≡ Some e
       → IsWhole packets pair e.segments
   of_listing l p false q h = absurd (none_some e h)
   of_listing l p true q h =
-      let same : entry_of_listing packets pair l ≡ e = cc in
-      let long : listed_shape l ≡ e.segments = ap (λ (x : Entry). x.segments) same in
+      let long : l.segments ≡ e.segments = ap entry_segments h in
       record {
-        told = ap (option_map listed_shape) p ∙ ap (λ (n : ℕ). Some n) long;
+        listing = l;
+        says = listing_says (stored_at packets pair 0) l p;
+        counts = long;
+        few = omega (arith, long, (listing_sized (stored_at packets pair 0) l p).segments);
         each = λ x below. at x below (cases_eq x 0);
       } where
-        at : (x : ℕ) → x ≤ e.segments → ((x ≡ 0) ⊎ (x ≡ 0 → ⊥)) → is_some (stored_at packets pair x) ≡ true
+        at : (x : ℕ) → x ≤ parts_counted e.segments → ((x ≡ 0) ⊎ (x ≡ 0 → ⊥))
+            → is_some (stored_at packets pair x) ≡ true
         at x below (inl z) =
             ap (λ (y : ℕ). is_some (stored_at packets pair y)) z ∙ record_there l (stored_at packets pair 0) p
         at x below (inr nz) =
-            let long : listed_shape l ≡ e.segments = ap (λ (o : Option Entry). option_segments o) h in
-            each_all (λ (y : ℕ). is_some (stored_at packets pair y)) (numbers_from 1 (listed_shape l)) q x
-            (in_numbers 1 (listed_shape l) x (omega (arith, nz)) (omega (arith, below, long))) where
-              option_segments : Option Entry → ℕ
-              option_segments None = 0
-              option_segments (Some y) = y.segments
+            let counted : parts_counted l.segments ≡ parts_counted e.segments =
+            ap (λ o. parts_counted (entry_segments o)) h in
+            each_all (λ (y : ℕ). is_some (stored_at packets pair y)) (numbers_from 1 (parts_counted l.segments)) q x
+            (in_numbers 1 (parts_counted l.segments) x (omega (arith, nz)) (omega (arith, below, counted)))
 
   go : (o : Option Listed) → listing_at packets pair ≡ o → option_and_then (entry_listed packets pair) o ≡ Some e
       → IsWhole packets pair e.segments
   go None p q = absurd (none_some e q)
-  go (Some l) p q = of_listing l p (are_stored packets pair (listed_shape l)) refl q
+  go (Some l) p q = of_listing l p (are_stored packets pair (parts_counted l.segments)) refl q
+
+  shown : (b : Bool) → cond b None (whole_at packets pair) ≡ Some e → IsWhole packets pair e.segments
+  shown true q = absurd (none_some e q)
+  shown false q = go (listing_at packets pair) refl q
+
+-- what stands in a map in order is found
+pub value_in : {K V : Type 0} {R : K → K → Ordering} (e : Exact R) (es : List (K × V)) (x : K × V) → Rises R (keys es)
+    → In x es → value_of R es x.0 ≡ Some x.1
+value_in e [] x r i = absurd i
+value_in {K} {V} {R} e (y ∷ ys) x r (inl same) =
+    subst (λ (z : K × V). value_of R (y ∷ ys) z.0 ≡ Some z.1) (sym same)
+    (ap (λ (b : Bool). cond b (Some y.1) (value_of R ys y.0)) (eq_itself e y.0))
+value_in {K} {V} {R} e (y ∷ ys) x r (inr i) =
+    let before = each_before e.total y.0 (keys ys) r.0 x.0 (in_map (λ (z : K × V). z.0) ys x i) in
+    ap (λ (o : Ordering). cond (is_eq o) (Some y.1) (value_of R ys x.0)) (less_back e.total y.0 x.0 before)
+    ∙ value_in e ys x r.1 i
 
 keyed_at : (es : List (Pair × Entry)) (x : Pair × Entry) → Keyed es → In x es → publication_of x.1 ≡ x.0
 keyed_at [] x k i = absurd i
@@ -108,23 +142,44 @@ entry_listed_whole packets e r i = whole_of_entry packets (publication_of e) e (
 
 -- ---- such a publication in a sound plan
 
-module _ (p : PlanState) (packets : List Packet) (pair : Pair) (n : ℕ) (s : PlanIsSound p) (tied : AreTied p packets)
-    (whole : IsWhole packets pair n) where
-  pub held_each : (x : ℕ) → x ≤ n → holds p (part_of pair x) ≡ true
-  held_each x below = held_value p packets pair tied (part_of pair x) ∙ whole.each x below
+-- a plan holds what is stored, and knows what the stored records tell
+pub record IsReadFrom (packets : List Packet) (p : PlanState) : Type 0 where
+  pub in_order : Rises part_cmp (keys packets)
+  pub held : p.held ≡ keys packets
+  pub shapes : p.shapes ≡ shapes_in packets
 
-  counted : (t : Part) → is_asked p t ≡ true → pair_of t ≡ pair → t.part ≤ n
-  counted t asked here = go (t.part == 0) refl where
-    go : (b : Bool) → (t.part == 0) ≡ b → t.part ≤ n
-    go true z = omega (arith, eqb-true t.part 0 z)
-    go false nz =
-        let segment = asked_segment p packets t tied asked nz in
-        let told : option_map listed_shape (listing_at packets pair) ≡ Some (listed_shape segment.listing) =
-        ap (λ (q : Pair). option_map listed_shape (listing_at packets q)) (sym here)
-        ∙ ap (option_map listed_shape) segment.listed in
-        let same : Some (listed_shape segment.listing) ≡ Some n = sym told ∙ whole.told in
-        let long : listed_shape segment.listing ≡ n = cc in
-        omega (arith, segment.counted, long)
+module _ (p : PlanState) (packets : List Packet) (pair : Pair) (n : ℕ) (s : PlanIsSound p)
+    (read : IsReadFrom packets p) (whole : IsWhole packets pair n) where
+  pub held_each : (x : ℕ) → x ≤ parts_counted n → holds p (part_of pair x) ≡ true
+  held_each x below =
+      ap (λ (ts : List Part). contains part_cmp ts (part_of pair x)) read.held
+      ∙ contains-value packets (part_of pair x)
+      ∙ whole.each x below
+
+  shaped : shape_of p pair ≡ Some (shape_of_segments n)
+  shaped =
+      ap (λ (es : List (Pair × Shape)). value_of pair_cmp es pair) read.shapes
+      ∙ shapes_value packets pair read.in_order
+      ∙ ap (option_map shape_said) whole.says
+      ∙ ap (λ (k : ℕ). Some (shape_of_segments k)) whole.counts
+
+  counted : (t : Part) → is_asked p t ≡ true → pair_of t ≡ pair → t.part ≤ parts_counted n
+  counted t asked here =
+      let can : can_be_asked p.held (shape_of p (pair_of t)) t ≡ true =
+      (and_parts (knows p (pair_of t)) (can_be_asked p.held (shape_of p (pair_of t)) t) asked).1 in
+      let told : can_be_asked p.held (Some (shape_of_segments n)) t ≡ true =
+      ap (λ (o : Option Shape). can_be_asked p.held o t) (sym shaped ∙ ap (shape_of p) (sym here)) ∙ can in
+      elim (or_cases (t.part == 0)
+      (nat_le t.part (parts_counted n) && contains part_cmp p.held (parent (shape_of_segments n) t)) told) [
+        | inl first ↦ omega (arith, eqb-true t.part 0 first)
+        | inr behind ↦
+            leb-true t.part (parts_counted n)
+            (and_parts (nat_le t.part (parts_counted n))
+            (contains part_cmp p.held (parent (shape_of_segments n) t)) behind).0
+      ]
+
+  pub whole_object : is_withdrawal packets pair ≡ false
+  whole_object = ap (λ (o : Option RecordSays). is_some (option_and_then (withdrawn_by pair) o)) whole.says
 
   pub whole_known : knows p pair ≡ true
   whole_known =
@@ -156,18 +211,18 @@ module _ (p : PlanState) (packets : List Packet) (pair : Pair) (n : ℕ) (s : Pl
 
   -- ---- how many packets it has
 
-  from_inside : (q : Part) → In q (filter (is_in pair) (keys packets)) → In q (parts_of pair n)
+  from_inside : (q : Part) → In q (filter (is_in pair) (keys packets)) → In q (parts_of pair (parts_counted n))
   from_inside q i =
       let both = from_filter (is_in pair) (keys packets) q i in
       let here : pair ≡ pair_of q = eq_same exact_pairs pair (pair_of q) both.1 in
       let held : holds p q ≡ true =
-      ap (λ (ts : List Part). contains part_cmp ts q) tied.held ∙ contains_in exact_parts (keys packets) q both.0 in
-      subst (λ (k : Pair). In q (parts_of k n)) (sym here)
-      (in_parts_of n q (counted q (s.held q held).asked (sym here)))
+      ap (λ (ts : List Part). contains part_cmp ts q) read.held ∙ contains_in exact_parts (keys packets) q both.0 in
+      subst (λ (k : Pair). In q (parts_of k (parts_counted n))) (sym here)
+      (in_parts_of (parts_counted n) q (counted q (s.held q held).asked (sym here)))
 
-  to_inside : (q : Part) → In q (parts_of pair n) → In q (filter (is_in pair) (keys packets))
+  to_inside : (q : Part) → In q (parts_of pair (parts_counted n)) → In q (filter (is_in pair) (keys packets))
   to_inside q i =
-      let both = from_parts_of pair n q i in
+      let both = from_parts_of pair (parts_counted n) q i in
       let there : contains part_cmp (keys packets) (part_of pair q.part) ≡ true =
       contains-value packets (part_of pair q.part) ∙ whole.each q.part both.1 in
       let same : part_of pair q.part ≡ q = ap (λ (k : Pair). part_of k q.part) (sym both.0) in
@@ -175,16 +230,16 @@ module _ (p : PlanState) (packets : List Packet) (pair : Pair) (n : ℕ) (s : Pl
       (in_contains exact_parts (keys packets) q (ap (contains part_cmp (keys packets)) (sym same) ∙ there))
       (ap (eq_by_cmp pair_cmp pair) both.0 ∙ eq_itself exact_pairs pair)
 
-  inside_is : filter (is_in pair) (keys packets) ≡ parts_of pair n
-  inside_is = same_set exact_parts (filter (is_in pair) (keys packets)) (parts_of pair n)
-      (rises_filter exact_parts.total (is_in pair) (keys packets) tied.in_order)
-      (rises_numbers (opening 0) pair 0 (n + 1)) from_inside to_inside
+  inside_is : filter (is_in pair) (keys packets) ≡ parts_of pair (parts_counted n)
+  inside_is = same_set exact_parts (filter (is_in pair) (keys packets)) (parts_of pair (parts_counted n))
+      (rises_filter exact_parts.total (is_in pair) (keys packets) read.in_order)
+      (rises_numbers (opening 0) pair 0 (parts_counted n + 1)) from_inside to_inside
 
-  pub packets_counted : length (packets_in pair packets) ≡ n + 1
+  pub packets_counted : length (packets_in pair packets) ≡ parts_counted n + 1
   packets_counted =
       sym (length-map (packets_in pair packets) (λ (e : Packet). e.0))
       ∙ ap length (keys-filter exact_parts (is_in pair) packets ∙ inside_is)
-      ∙ length-map (numbers_from 0 (n + 1)) (part_of pair) ∙ length-numbers 0 (n + 1)
+      ∙ length-map (numbers_from 0 (parts_counted n + 1)) (part_of pair) ∙ length-numbers 0 (parts_counted n + 1)
 
 -- ---- one publication after another
 
@@ -263,14 +318,14 @@ each_earlier (p ∷ ps) (suc i) d q r l (inr j) = each_earlier ps i d q r.1 (ome
 
 -- one publication more has so many packets
 pub one_more_dropped : (p : PlanState) (packets : List Packet) (pair : Pair) (n : ℕ) (pairs : List Pair) → PlanIsSound p
-    → AreTied p packets → IsWhole packets pair n
+    → IsReadFrom packets p → IsWhole packets pair n
     → ((q : Pair) → In q pairs → eq_by_cmp pair_cmp q pair ≡ false)
-    → length (outside_all (pairs ++ pair ∷ []) packets) + (n + 1) ≡ length (outside_all pairs packets)
-one_more_dropped p packets pair n pairs s tied whole others =
+    → length (outside_all (pairs ++ pair ∷ []) packets) + (parts_counted n + 1) ≡ length (outside_all pairs packets)
+one_more_dropped p packets pair n pairs s read whole others =
     let front = outside_all pairs packets in
     let split = lengths_inside pair front in
-    let inside : length (packets_in pair front) ≡ n + 1 =
-    ap length (inside_all pair pairs packets others) ∙ packets_counted p packets pair n s tied whole in
+    let inside : length (packets_in pair front) ≡ parts_counted n + 1 =
+    ap length (inside_all pair pairs packets others) ∙ packets_counted p packets pair n s read whole in
     let more : length (outside_all (pairs ++ pair ∷ []) packets) ≡ length (packets_outside pair front) =
     ap length (outside_append pairs pair packets) in
     omega (arith, split, inside, more)
@@ -291,21 +346,25 @@ pub record IsNamedAt (p : PlanState) (packets : List Packet) (pairs : List Pair)
     pub held : holds p (part_of pair 0) ≡ true
     pub known : knows p pair ≡ true
     pub unclaimed : claims_part_in p pair ≡ false
-    pub fewer : length (outside_all (take i pairs ++ pair ∷ []) packets) + (n + 1)
+    pub object : is_withdrawal packets pair ≡ false
+    pub few : n ≤ 20000
+    pub fewer : length (outside_all (take i pairs ++ pair ∷ []) packets) + (parts_counted n + 1)
         ≡ length (outside_all (take i pairs) packets)
 
 pub named_is_at : (p : PlanState) (packets : List Packet) (pairs : List Pair) (i : ℕ) (d : Pair) (e : Entry)
-    → PlanIsSound p → AreTied p packets → Rises pair_cmp pairs → i < length pairs
+    → PlanIsSound p → IsReadFrom packets p → Rises pair_cmp pairs → i < length pairs
     → entry_at packets (get_or pairs i d) ≡ Some e
     → IsNamedAt p packets pairs i (get_or pairs i d) e.segments
-named_is_at p packets pairs i d e sound tied order low there =
+named_is_at p packets pairs i d e sound read order low there =
     let pair : Pair = get_or pairs i d in
     let whole : IsWhole packets pair e.segments = whole_of_entry packets pair e there in
     record {
-      held = held_each p packets pair e.segments sound tied whole 0 (omega arith);
-      known = whole_known p packets pair e.segments sound tied whole;
-      unclaimed = whole_unclaimed p packets pair e.segments sound tied whole;
+      held = held_each p packets pair e.segments sound read whole 0 (omega arith);
+      known = whole_known p packets pair e.segments sound read whole;
+      object = whole_object p packets pair e.segments sound read whole;
+      few = whole.few;
+      unclaimed = whole_unclaimed p packets pair e.segments sound read whole;
       fewer =
-          one_more_dropped p packets pair e.segments (take i pairs) sound tied whole
+          one_more_dropped p packets pair e.segments (take i pairs) sound read whole
           (λ q j. ap is_eq (each_earlier pairs i d q order low j));
     }

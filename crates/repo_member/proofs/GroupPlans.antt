@@ -1,29 +1,31 @@
 -- The plan of a member by itself is its group's plan of it.
-use Rattle.std.proofs.Common.{◌≡◌, inl, inr, ℕ, Bool, true, false, cond, ◌==◌, List, [], ◌∷◌, map, Option, Some}
+use Rattle.std.proofs.Common.{◌≡◌, inl, inr, Bool, true, false, cond, ◌==◌, List, [], ◌∷◌, map, Option, Some}
 use Rattle.std.proofs.Common.{option_map, refl, sym, ap, ◌∙◌, subst, arith}
 use Rattle.std.specs.Prelude.{filter, ◌↔◌}
 use Rattle.std.proofs.lemmas.Bool.{eqb-true}
 use Rattle.repo_plan.specs.declared.part.Part.{Part}
 use Rattle.sorted_lists.specs.SortedList.{keys, contains}
-use Rattle.repo_plan.specs.Parts.{Pair, Shape, part_cmp, pair_of}
+use Rattle.repo_plan.specs.declared.shape.Shape.{Shape}
+use Rattle.repo_plan.specs.Parts.{Pair, part_cmp, pair_of}
 use Rattle.repo_plan.specs.Plan.{PlanState, wanted}
 use Rattle.repo_plan.proofs.Orders.{exact_parts}
 use Rattle.sorted_lists.proofs.Sets.{In, in_map, contains_in}
-use Rattle.repo_object.specs.Verdict.{listing_in}
-use Rattle.group_model.specs.Publications.{Logs, count, object_at}
+use Rattle.repo_object.specs.Verdict.{said_in}
+use Rattle.group_model.specs.Publications.{Logs, post_at, shape_at}
 use Rattle.group_model.specs.Member.{told_by}
 use Rattle.group_model.specs.Sound.{IsPublished}
 use Rattle.group_model.specs.Wanted.{IsWantedPart}
 use Rattle.group_model.proofs.Wants.{wants_those}
 use Rattle.repo_holdings.specs.KeptValues.{with_kept, kept_values}
 use Rattle.repo_holdings.specs.Records.{Packet, records_in}
-use Rattle.repo_holdings.specs.Listed.{listed_shape, shapes_in}
+use Rattle.repo_holdings.specs.Listed.{shapes_in}
+use Rattle.repo_object.specs.Publication.{shape_said}
 use Rattle.repo_member.specs.Groups.{GroupKeys, publisher_at}
 use Rattle.repo_member.specs.Alone.{Alone, alone_plan}
 use Rattle.repo_member.specs.InGroup.{AreLogs, StoresTruly, true_packet, in_group, SoundStoresTruly, PlansAlike}
 use Rattle.repo_member.specs.InGroup.{WantsAlike}
-use Rattle.repo_member.proofs.TruePackets.{value_in, record_lists, listing_counts, published_object, published_by}
-use Rattle.repo_member.proofs.TruePackets.{published_low}
+use Rattle.repo_member.proofs.FoundLemmas.{value_in}
+use Rattle.repo_member.proofs.TruePackets.{record_says, shape_published, published_post, published_by, published_low}
 
 pub sound_stores_truly : SoundStoresTruly
 sound_stores_truly g logs a s packets = record {
@@ -36,21 +38,21 @@ sound_stores_truly g logs a s packets = record {
 
 -- ---- the plan
 
--- records that list as many segments as were published
+-- records that tell the shapes of what was published
 shapes_alike : (logs : Logs) (es : List Packet)
     → ((e : Packet) → In e es → e.0.part ≡ 0
-    → option_map listed_shape (listing_in e.1) ≡ Some (count logs (pair_of e.0)))
+    → option_map shape_said (said_in e.1) ≡ Some (shape_at logs (pair_of e.0)))
     → shapes_in es ≡ told_by logs (keys es)
 shapes_alike logs [] h = refl
 shapes_alike logs (e ∷ es) h = go (e.0.part == 0) refl (shapes_alike logs es (λ x i. h x (inr i))) where
   go : (b : Bool) → (e.0.part == 0) ≡ b → shapes_in es ≡ told_by logs (keys es)
-      → kept_values (λ pair octets. option_map listed_shape (listing_in octets))
+      → kept_values (λ pair octets. option_map shape_said (said_in octets))
       (cond b ((pair_of e.0, e.1) ∷ records_in es) (records_in es))
-      ≡ map (λ (t : Part). (pair_of t, count logs (pair_of t)))
+      ≡ map (λ (t : Part). (pair_of t, shape_at logs (pair_of t)))
       (cond b (e.0 ∷ filter (λ t. t.part == 0) (keys es)) (filter (λ t. t.part == 0) (keys es)))
   go true p rest =
       ap (λ (o : Option Shape). with_kept (pair_of e.0) o (shapes_in es)) (h e (inl refl) (eqb-true e.0.part 0 p))
-      ∙ ap (λ (shapes : List (Pair × Shape)). (pair_of e.0, count logs (pair_of e.0)) ∷ shapes) rest
+      ∙ ap (λ (shapes : List (Pair × Shape)). (pair_of e.0, shape_at logs (pair_of e.0)) ∷ shapes) rest
   go false p rest = rest
 
 module _ (g : GroupKeys) (logs : Logs) (a : Alone) (are : AreLogs g logs) (truly : StoresTruly g logs a) where
@@ -62,14 +64,14 @@ module _ (g : GroupKeys) (logs : Logs) (a : Alone) (are : AreLogs g logs) (truly
   shapes_told = shapes_alike logs a.store (λ e i first.
       let there = stored_published e i in
       let publisher = publisher_at g e.0.publisher in
-      let object = object_at logs (pair_of e.0) in
+      let post = post_at logs (pair_of e.0) in
       let made : true_packet g logs e.0 ≡ Some e.1 =
       truly.packets e.0 e.1 (value_in exact_parts a.store e truly.in_order i) in
       let made_first = rw first at made in
-      ap (option_map listed_shape)
-      (record_lists publisher e.0.seq object (published_by g logs are (pair_of e.0) there)
-      (published_object g logs are (pair_of e.0) there) e.1 (published_low g logs are (pair_of e.0) there) made_first)
-      ∙ ap (λ (n : ℕ). Some n) (listing_counts publisher e.0.seq object))
+      ap (option_map shape_said)
+      (record_says publisher e.0.seq post (published_by g logs are (pair_of e.0) there)
+      (published_post g logs are (pair_of e.0) there) (published_low g logs are (pair_of e.0) there) e.1 made_first)
+      ∙ ap (λ (shape : Shape). Some shape) (shape_published publisher e.0.seq post))
 
 pub plans_alike : PlansAlike
 plans_alike g logs a are truly =
@@ -77,6 +79,6 @@ plans_alike g logs a are truly =
     (shapes_told g logs a are truly)
 
 pub wants_alike : WantsAlike
-wants_alike g logs a t are truly =
+wants_alike g logs a t are truly records =
     subst (λ (p : PlanState). (contains part_cmp (wanted p) t ≡ true) ↔ IsWantedPart logs (in_group a) t)
-    (sym (plans_alike g logs a are truly)) (wants_those logs (in_group a) t)
+    (sym (plans_alike g logs a are truly)) (wants_those logs (in_group a) t records)

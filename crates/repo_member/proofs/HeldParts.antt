@@ -1,51 +1,59 @@
 -- What holds of every member that calls reach, and that each change keeps it.
-use Rattle.std.proofs.Common.{◌≡◌, ◌≢◌, ℕ, ◌+◌, ◌-◌, ◌^◌, ◌<◌, ◌≤◌, Bool, true, false, cond, ◌==◌, List, [], length}
+use Rattle.std.proofs.Common.{◌≡◌, ◌≢◌, inl, inr, ℕ, zero, suc, ◌+◌, ◌-◌, ◌^◌, ◌<◌, ◌≤◌, Bool, true, false, cond, ◌==◌}
+use Rattle.std.proofs.Common.{List, [], length}
 use Rattle.std.proofs.Common.{Option, Some, None, option_map, is_some, Result, Ok, Err, slice_get, refl, sym, ap, ◌∙◌}
 use Rattle.std.proofs.Common.{subst, arith}
-use Rattle.std.specs.Prelude.{nat_le, slice_index, slice_index_or, replicate, unwrap_or, IsOk}
-use Rattle.std.specs.List.{All}
+use Rattle.std.specs.Prelude.{nat_le, slice_index, slice_index_or, replicate, unwrap_or, ◌&&◌, IsOk, IsTrue, IsSome}
+use Rattle.std.specs.Prelude.{IfSome}
 use Rattle.std.specs.Option.{option_and_then}
 use Rattle.std.specs.Ordering.{eq_by_cmp}
-use Rattle.std.proofs.lemmas.Bool.{true≢false, and_parts, leb-true, eq-eqb, ne_eqb, eqb-true}
+use Rattle.std.proofs.lemmas.Bool.{true≢false, and_parts, or_cases, leb-true, eqb-true}
 use Rattle.std.proofs.lemmas.List.{length-replicate, get_or-replicate}
-use Rattle.std.proofs.lemmas.List.Elements.{All-nil}
 use Rattle.std.proofs.lemmas.Option.{slice_get-get_or}
 use Rattle.svs_vector.specs.Vectors.{join}
 use Rattle.svs_vector.proofs.JoinLemmas.{length-join, join-at}
 use Rattle.svs_sync.specs.KeptVector.{Keeper}
 use Rattle.ndn_data.specs.Data.{Data}
 use Rattle.repo_plan.specs.declared.part.Part.{Part}
-use Rattle.sorted_lists.specs.SortedList.{keys, Rises, contains, value_of}
-use Rattle.repo_plan.specs.Parts.{Pair, part_cmp, pair_of, part_of}
+use Rattle.sorted_lists.specs.SortedList.{keys, contains, value_of}
+use Rattle.repo_plan.specs.declared.shape.Shape.{Shape}
+use Rattle.repo_plan.specs.Parts.{Pair, part_cmp, pair_of, part_of, parts_behind, parent, parent_number}
 use Rattle.repo_plan.specs.Plan.{knows, holds, hides, is_asked, can_be_asked, shape_of}
 use Rattle.repo_plan.specs.Sound.{PlanIsSound, CanBeHeld}
 use Rattle.repo_plan.proofs.Orders.{exact_parts}
 use Rattle.sorted_lists.proofs.Sets.{eq_same}
 use Rattle.repo_plan.proofs.Changes.{sound_opening}
 use Rattle.repo_object.specs.declared.part_refusal.PartRefusal.{PartRefusal}
-use Rattle.repo_object.specs.Objects.{NamedContents, IsObject, Publisher, IsPublisher}
-use Rattle.repo_object.specs.Publication.{Listed, published_listing, packets}
-use Rattle.repo_object.specs.Wants.{WantedPart, want_record, want_segment}
-use Rattle.repo_object.specs.Verdict.{listing_in, listing_within, ring_verdict, publisher_key}
+use Rattle.repo_object.specs.Objects.{Post, IsPost, Publisher, IsPublisher, shape_in}
+use Rattle.repo_object.specs.Publication.{Listed, RecordSays, published_record, packets}
+use Rattle.repo_object.specs.Records.{record_of, index_of}
+use Rattle.repo_object.specs.Wants.{WantedPart, want_record, want_index, want_segment, listed_in}
+use Rattle.repo_object.specs.Verdict.{Passes, may_say, said_in, index_in, content_in, content_within, ring_verdict}
+use Rattle.repo_object.specs.Verdict.{publisher_key}
 use Rattle.repo_object.proofs.Passing.{passes}
-use Rattle.repo_object.proofs.Publications.{packets-length, record_listed}
+use Rattle.repo_object.proofs.Publications.{packets-length, record_said}
+use Rattle.group_model.specs.Publications.{no_post}
 use Rattle.repo_process.specs.Insertions.{Insertions}
 use Rattle.repo_store.specs.StoreList.{with_packet}
 use Rattle.repo_holdings.specs.Records.{Packet}
-use Rattle.repo_holdings.specs.Listed.{stored_at, listing_at, listed_shape}
+use Rattle.repo_holdings.specs.Listed.{stored_at, said_at, listing_in, listing_at, listed_shape}
+use Rattle.repo_object.specs.Publication.{shape_said}
+use Rattle.repo_holdings.specs.StoredParents.{index_at, digests_at, place_listed, lists_at, ListsAsMany}
 use Rattle.repo_member.specs.Groups.{GroupKeys, IsGroup, node_at, publisher_at}
-use Rattle.repo_member.specs.Alone.{Alone, IsAlone, IsOfGroup, alone_plan, alone_opening, logged, packet_in}
-use Rattle.repo_holdings.specs.Wanting.{nothing_listed}
+use Rattle.repo_member.specs.Alone.{Alone, IsAlone, ArePosts, IsOfGroup, alone_plan, alone_opening, logged}
+use Rattle.repo_holdings.specs.Wanting.{nothing_listed, want_behind}
 use Rattle.repo_member.specs.Alone.{want_of, alone_learns}
-use Rattle.repo_holdings.specs.Gaining.{told_shape}
+use Rattle.repo_holdings.specs.Gaining.{AreTied, told_shape}
+use Rattle.repo_holdings.proofs.CatalogueLemmas.{fun_ext}
+use Rattle.repo_holdings.proofs.GainingLemmas.{told_shape_is, shape_stored}
 use Rattle.repo_member.specs.Blocks.{AreWithinLimits}
 use Rattle.repo_holdings.proofs.GainingLemmas.{contains-value, put_elsewhere, value_of-put}
 use Rattle.repo_holdings.proofs.AskedLemmas.{asked_segment}
-use Rattle.repo_member.proofs.MemberLemmas.{knows_more, want_part}
-use Rattle.repo_member.proofs.OwnLemmas.{is_publisher}
+use Rattle.repo_member.proofs.MemberLemmas.{knows_more, want_part, want_lists}
+use Rattle.repo_member.proofs.OwnLemmas.{is_publisher, logged_own}
 use Rattle.repo_member.proofs.ChangeLemmas.{rises_put}
-use Rattle.repo_member.proofs.TruePackets.{listing_counts}
-use Rattle.repo_member.proofs.PlanChanges.{sound_known, gains, tied_alone, sound_gained}
+use Rattle.repo_member.proofs.TruePackets.{shape_published}
+use Rattle.repo_member.proofs.PlanChanges.{sound_known, gains, tied_gained, sound_gained}
 
 -- a packet that passes for the want of its part, as what is stored gives it
 abbrev pub PassesNow : GroupKeys → List Packet → Part → List ℕ → Type 0
@@ -57,7 +65,8 @@ pub record IsReached (g : GroupKeys) (a : Alone) : Type 0 where
   pub of : IsOfGroup g a
   pub sound : PlanIsSound (alone_plan a)
   pub few : length a.log ≤ 65535
-  pub objects : All IsObject a.log
+  pub tied : AreTied (alone_plan a) a.store
+  pub posts : ArePosts a.log
   pub own : (t : Part) → t.publisher ≡ a.number → hides (alone_plan a) (pair_of t) ≡ false
       → value_of part_cmp a.store t ≡ logged g a t
   pub others : (t : Part) (octets : List ℕ) → t.publisher ≢ a.number → value_of part_cmp a.store t ≡ Some octets
@@ -84,7 +93,14 @@ reached_opening g number moment draw group inside =
       of = sym wide;
       sound = sound_opening n;
       few = omega arith;
-      objects = All-nil IsObject;
+      tied = record {
+        in_order = tt;
+        held = refl;
+        shapes = refl;
+        recorded = λ pair x there. absurd cc;
+        indexed = λ t octets there. absurd cc;
+      };
+      posts = λ i post there. absurd cc;
       own = λ t h shown. nothing (t.publisher == number) (t.seq == 0);
       others = λ t octets h found. absurd cc;
       insertions = λ n p found. absurd cc;
@@ -114,7 +130,14 @@ reached_with g a claims attempts machine wide sound r = record {
   of = r.of;
   sound = sound;
   few = r.few;
-  objects = r.objects;
+  tied = record {
+    in_order = r.tied.in_order;
+    held = refl;
+    shapes = refl;
+    recorded = r.tied.recorded;
+    indexed = r.tied.indexed;
+  };
+  posts = r.posts;
   own = r.own;
   others = r.others;
   insertions = r.insertions;
@@ -135,7 +158,14 @@ reached_insertions g a insertions each r = record {
   of = r.of;
   sound = r.sound;
   few = r.few;
-  objects = r.objects;
+  tied = record {
+    in_order = r.tied.in_order;
+    held = refl;
+    shapes = refl;
+    recorded = r.tied.recorded;
+    indexed = r.tied.indexed;
+  };
+  posts = r.posts;
   own = r.own;
   others = r.others;
   insertions = each;
@@ -164,7 +194,14 @@ reached_learns g a told wide not_ahead r =
       of = r.of ∙ sym long;
       sound = sound_known (alone_plan a) (join a.known told) (omega (arith, long, few_members g a r)) more r.sound;
       few = r.few;
-      objects = r.objects;
+      tied = record {
+        in_order = r.tied.in_order;
+        held = refl;
+        shapes = refl;
+        recorded = r.tied.recorded;
+        indexed = r.tied.indexed;
+      };
+      posts = r.posts;
       own = r.own;
       others = r.others;
       insertions = r.insertions;
@@ -174,18 +211,6 @@ reached_learns g a told wide not_ahead r =
 
 none_some : {A : Type 0} (x : A) → (let n : Option A = None in n) ≡ Some x → ⊥
 none_some x h = cc
-
-pub logged_own : (g : GroupKeys) (a : Alone) (t : Part) (object : NamedContents) → t.publisher ≡ a.number → 0 < t.seq
-    → slice_get a.log (t.seq - 1) ≡ Some object
-    → logged g a t ≡ packet_in (publisher_at g a.number) t object
-logged_own g a t object own above there =
-    ap (λ (b : Bool). cond b
-    (cond (t.seq == 0) None (option_and_then (packet_in (publisher_at g a.number) t) (slice_get a.log (t.seq - 1))))
-    None) (eq-eqb t.publisher a.number own)
-    ∙ ap
-    (λ (b : Bool). cond b None (option_and_then (packet_in (publisher_at g a.number) t) (slice_get a.log (t.seq - 1))))
-    (ne_eqb t.seq 0 (λ e. absurd (omega (arith, e, above))))
-    ∙ ap (option_and_then (packet_in (publisher_at g a.number) t)) there
 
 -- an own part that is asked for and not hidden was published
 module _ (g : GroupKeys) (a : Alone) (t : Part) (r : IsReached g a) (own : t.publisher ≡ a.number)
@@ -199,17 +224,16 @@ module _ (g : GroupKeys) (a : Alone) (t : Part) (r : IsReached g a) (own : t.pub
       let high = leb-true t.seq (slice_index a.known t.publisher) both.1 in
       (leb-true 1 t.seq both.0, omega (arith, high, ap (slice_index a.known) own, r.alone.own))
 
-  abbrev nothing : NamedContents
-  nothing = record { name = []; contents = [] }
+  abbrev post : Post
+  post = slice_index_or a.log (t.seq - 1) no_post
 
-  abbrev object : NamedContents
-  object = slice_index_or a.log (t.seq - 1) nothing
+  there : slice_get a.log (t.seq - 1) ≡ Some post
+  there = slice_get-get_or a.log (t.seq - 1) no_post (omega (arith, known.0, known.1))
 
-  there : slice_get a.log (t.seq - 1) ≡ Some object
-  there = slice_get-get_or a.log (t.seq - 1) nothing (omega (arith, known.0, known.1))
-
-  is_object : IsObject object
-  is_object = r.objects (t.seq - 1) nothing (omega (arith, known.0, known.1))
+  is_post : IsPost t.seq post
+  is_post =
+      let number : t.seq - 1 + 1 ≡ t.seq = omega (arith, known.0) in
+      subst (λ (n : ℕ). IsPost n post) number (r.posts (t.seq - 1) post there)
 
   abbrev by : Publisher
   by = publisher_at g a.number
@@ -217,34 +241,45 @@ module _ (g : GroupKeys) (a : Alone) (t : Part) (r : IsReached g a) (own : t.pub
   publishes_it : IsPublisher by
   publishes_it = is_publisher g a.number r.group (omega (arith, r.alone.member, r.of))
 
-  -- its record is stored, and lists its segments
-  listed : listing_at a.store (pair_of t) ≡ Some (published_listing by object)
-  listed =
-      ap (option_and_then listing_in)
+  -- its record is stored, and tells of its parts
+  said : said_at a.store (pair_of t) ≡ Some (published_record by t.seq post)
+  said =
+      ap (option_and_then said_in)
       (r.own (part_of (pair_of t) 0) own shown
-      ∙ logged_own g a (part_of (pair_of t) 0) object own (omega (arith, known.0)) there)
-      ∙ record_listed by object publishes_it is_object t.seq (omega (arith, known.1, r.few))
+      ∙ logged_own g a (part_of (pair_of t) 0) post own (omega (arith, known.0)) there)
+      ∙ record_said by publishes_it t.seq post is_post (omega (arith, known.1, r.few))
 
-  within : t.part < length (packets by t.seq object)
-  within = go (t.part == 0) refl where
-    long : length (packets by t.seq object) ≡ length object.contents + 1
-    long = packets-length by t.seq object
+  shaped : shape_of (alone_plan a) (pair_of t) ≡ Some (shape_in post)
+  shaped =
+      shape_stored (alone_plan a) a.store (pair_of t) r.tied
+      ∙ ap (option_map shape_said) said
+      ∙ ap (λ (shape : Shape). Some shape) (shape_published by t.seq post)
 
-    go : (b : Bool) → (t.part == 0) ≡ b → t.part < length (packets by t.seq object)
-    go true p = omega (arith, eqb-true t.part 0 p, long)
-    go false p =
-        let segment = asked_segment (alone_plan a) a.store t (tied_alone a r.alone.in_order) asked p in
-        let same : Some segment.listing ≡ Some (published_listing by object) = sym segment.listed ∙ listed in
-        let counts : listed_shape segment.listing ≡ listed_shape (published_listing by object) =
-        ap (λ (o : Option Listed). unwrap_or (option_map listed_shape o) 0) same in
-        omega (arith, segment.counted, counts, listing_counts by t.seq object, long)
+  within : t.part < length (packets by t.seq post)
+  within =
+      let long = packets-length by t.seq post in
+      let can : can_be_asked (keys a.store) (Some (shape_in post)) t ≡ true =
+      ap (λ (o : Option Shape). can_be_asked (keys a.store) o t) (sym shaped)
+      ∙ (and_parts (knows (alone_plan a) (pair_of t))
+      (can_be_asked (keys a.store) (shape_of (alone_plan a) (pair_of t)) t) asked).1 in
+      elim (or_cases (t.part == 0)
+      (nat_le t.part (parts_behind (shape_in post))
+      && contains part_cmp (keys a.store) (parent (shape_in post) t)) can) [
+        | inl first ↦ omega (arith, eqb-true t.part 0 first, long)
+        | inr behind ↦
+            let low =
+            leb-true t.part (parts_behind (shape_in post))
+            (and_parts (nat_le t.part (parts_behind (shape_in post)))
+            (contains part_cmp (keys a.store) (parent (shape_in post) t)) behind).0 in
+            omega (arith, low, long)
+      ]
 
   pub own_stored : (value_of part_cmp a.store t ≡ None) → ⊥
   own_stored missing =
-      let octets = slice_index_or (packets by t.seq object) t.part [] in
+      let octets = slice_index_or (packets by t.seq post) t.part [] in
       none_some octets
-      (sym missing ∙ r.own t own shown ∙ logged_own g a t object own (omega (arith, known.0)) there
-      ∙ slice_get-get_or (packets by t.seq object) t.part [] within)
+      (sym missing ∙ r.own t own shown ∙ logged_own g a t post own (omega (arith, known.0)) there
+      ∙ slice_get-get_or (packets by t.seq post) t.part [] within)
 
 -- ---- a part that comes
 
@@ -264,55 +299,121 @@ pub record StaysStored (old new : List Packet) : Type 0 where
   pub still : (t : Part) (octets : List ℕ) → value_of part_cmp old t ≡ Some octets
       → value_of part_cmp new t ≡ Some octets
 
-pub listing_still : (old new : List Packet) (pair : Pair) (l : Listed) → StaysStored old new
-    → listing_at old pair ≡ Some l → listing_at new pair ≡ Some l
-listing_still old new pair l stays h = go (stored_at old pair 0) refl h where
-  go : (o : Option (List ℕ)) → stored_at old pair 0 ≡ o → option_and_then listing_in o ≡ Some l
-      → listing_at new pair ≡ Some l
-  go None p q = absurd (none_some l q)
-  go (Some octets) p q = ap (option_and_then listing_in) (stays.still (part_of pair 0) octets p) ∙ q
+-- so what is read in one of them stays
+pub read_still : {A : Type 0} (read : List ℕ → Option A) (old new : List Packet) (pair : Pair) (x : ℕ) (v : A)
+    → StaysStored old new → option_and_then read (stored_at old pair x) ≡ Some v
+    → option_and_then read (stored_at new pair x) ≡ Some v
+read_still {A} read old new pair x v stays h = go (stored_at old pair x) refl h where
+  go : (o : Option (List ℕ)) → stored_at old pair x ≡ o → option_and_then read o ≡ Some v
+      → option_and_then read (stored_at new pair x) ≡ Some v
+  go None p q = absurd (none_some v q)
+  go (Some octets) p q = ap (option_and_then read) (stays.still (part_of pair x) octets p) ∙ q
+
+-- an index packet that is stored stays
+index_still : (old new : List Packet) (pair : Pair) (segments x : ℕ) → StaysStored old new
+    → IsSome (index_at old pair segments x) → index_at new pair segments x ≡ index_at old pair segments x
+index_still old new pair segments x stays h = go (stored_at old pair x) refl h where
+  go : (o : Option (List ℕ)) → stored_at old pair x ≡ o
+      → IsSome (option_and_then (λ octets. index_in octets (listed_in segments (x - 1))) o)
+      → index_at new pair segments x ≡ index_at old pair segments x
+  go None p q = absurd (true≢false (sym q))
+  go (Some octets) p q =
+      ap (option_and_then (λ octets. index_in octets (listed_in segments (x - 1))))
+      (stays.still (part_of pair x) octets p ∙ sym p)
+
+-- the want of a part by what is stored of its publication
+abbrev want_from : GroupKeys → Part → (ℕ → Option (List ℕ)) → WantedPart
+want_from g t at =
+    let l = unwrap_or (option_and_then listing_in (at 0)) nothing_listed in
+    let k = parent_number (listed_shape l) t.part in
+    cond (t.part == 0) (want_record t (node_at g t.publisher) g.name)
+    (cond (nat_le t.part (listed_shape l).index) (want_index t l (node_at g t.publisher) g.name)
+    (want_segment t (listed_shape l) l.name
+    (unwrap_or
+    (slice_get
+    (cond (k == 0) l.digests
+    (unwrap_or (option_and_then (λ octets. index_in octets (listed_in l.segments (k - 1))) (at k)) []))
+    (place_listed (listed_shape l) t.part)) [])))
+
+-- the same packets give the same want
+pub want_same : (g : GroupKeys) (old new : List Packet) (t : Part)
+    → ((x : ℕ) → stored_at new (pair_of t) x ≡ stored_at old (pair_of t) x) → want_of g new t ≡ want_of g old t
+want_same g old new t h =
+    ap (want_from g t) (fun_ext (stored_at new (pair_of t)) (stored_at old (pair_of t)) h)
 
 -- so the want of a part that could be asked for stays the same
-pub want_stays : (g : GroupKeys) (a : Alone) (new : List Packet) (t : Part) → Rises part_cmp (keys a.store)
+pub want_stays : (g : GroupKeys) (a : Alone) (new : List Packet) (t : Part) → AreTied (alone_plan a) a.store
     → StaysStored a.store new → is_asked (alone_plan a) t ≡ true → want_of g new t ≡ want_of g a.store t
-want_stays g a new t order stays asked = go (t.part == 0) refl where
+want_stays g a new t tied stays asked = go (t.part == 0) refl where
+  behind : List Packet → Listed → WantedPart
+  behind stored l = want_behind (node_at g t.publisher) g.name stored t l
+
   go : (b : Bool) → (t.part == 0) ≡ b
       → cond b (want_record t (node_at g t.publisher) g.name)
-      (want_segment t (unwrap_or (listing_at new (pair_of t)) nothing_listed))
+      (behind new (unwrap_or (listing_at new (pair_of t)) nothing_listed))
       ≡ cond b (want_record t (node_at g t.publisher) g.name)
-      (want_segment t (unwrap_or (listing_at a.store (pair_of t)) nothing_listed))
+      (behind a.store (unwrap_or (listing_at a.store (pair_of t)) nothing_listed))
   go true p = refl
   go false p =
-      let segment = asked_segment (alone_plan a) a.store t (tied_alone a order) asked p in
-      ap (λ (o : Option Listed). want_segment t (unwrap_or o nothing_listed))
-      (listing_still a.store new (pair_of t) segment.listing stays segment.listed ∙ sym segment.listed)
+      let segment = asked_segment (alone_plan a) a.store t tied asked p in
+      let l = segment.listing in
+      let k = parent_number (listed_shape l) t.part in
+      ap (λ (o : Option Listed). behind new (unwrap_or o nothing_listed))
+      (read_still listing_in a.store new (pair_of t) 0 l stays segment.listed)
+      ∙ ap (λ (digests : List (List ℕ)). cond (nat_le t.part (listed_shape l).index)
+      (want_index t l (node_at g t.publisher) g.name)
+      (want_segment t (listed_shape l) l.name
+      (unwrap_or (slice_get digests (place_listed (listed_shape l) t.part)) [])))
+      (listed k refl l (λ some. segment.index some))
+      ∙ sym (ap (λ (o : Option Listed). behind a.store (unwrap_or o nothing_listed)) segment.listed) where
+        listed : (k : ℕ) → k ≡ k → (l : Listed) → (0 < k → IsSome (index_at a.store (pair_of t) l.segments k))
+            → digests_at new (pair_of t) l k ≡ digests_at a.store (pair_of t) l k
+        listed zero e l there = refl
+        listed (suc k) e l there =
+            ap (λ (o : Option (List (List ℕ))). cond (suc k == 0) l.digests (unwrap_or o []))
+            (index_still a.store new (pair_of t) l.segments (suc k) stays (there (omega arith)))
 
--- a packet that passes for a record's want lists segments
+-- what it means that a packet passes
 ok_there : (v : Result Data PartRefusal) → IsOk v → (d : Data) × (v ≡ Ok d)
 ok_there (Ok d) h = (d, refl)
 ok_there (Err refusal) h = absurd (true≢false (sym h))
 
-pub passed_told : (g : GroupKeys) (stored : List Packet) (t : Part) (octets : List ℕ) → PassesNow g stored t octets
-    → is_some (told_shape t octets) ≡ (t.part == 0)
-passed_told g stored t octets passed = go (t.part == 0) refl where
-  want : WantedPart
+module _ (g : GroupKeys) (stored : List Packet) (t : Part) (octets : List ℕ)
+    (passed : PassesNow g stored t octets) where
+  abbrev want : WantedPart
   want = want_of g stored t
 
-  listed : t.part ≡ 0 → is_some (listing_in octets) ≡ true
-  listed first =
-      let ok = ok_there (ring_verdict want g.members.ring octets) passed in
-      let all =
-      passes want (publisher_key g.members.ring want).name (publisher_key g.members.ring want).key octets ok.0 ok.1 in
-      ap (λ v. is_some (listing_within v)) all.read
-      ∙ all.listing (ap (λ (u : Part). u.part) (want_part g stored t) ∙ first)
+  ok : (d : Data) × (ring_verdict want g.members.ring octets ≡ Ok d)
+  ok = ok_there (ring_verdict want g.members.ring octets) passed
 
-  mapped : (o : Option Listed) → is_some o ≡ true → is_some (option_map listed_shape o) ≡ true
-  mapped None h = h
-  mapped (Some l) h = refl
+  all : Passes want (publisher_key g.members.ring want).name (publisher_key g.members.ring want).key octets ok.0
+  all = passes want (publisher_key g.members.ring want).name (publisher_key g.members.ring want).key octets ok.0 ok.1
 
-  go : (b : Bool) → (t.part == 0) ≡ b → is_some (cond b (option_map listed_shape (listing_in octets)) None) ≡ b
-  go true p = mapped (listing_in octets) (listed (eqb-true t.part 0 p))
-  go false p = refl
+  content : content_in octets ≡ Some ok.0.content
+  content = ap content_within all.read
+
+  -- a packet that passes for a record's want tells of its publication
+  pub passed_told : is_some (told_shape t octets) ≡ (t.part == 0)
+  passed_told = ap is_some (told_shape_is t octets) ∙ go (t.part == 0) refl where
+    some : (o : Option RecordSays) → IsTrue (may_say want.part.seq o) → is_some (option_map shape_said o) ≡ true
+    some None h = absurd (true≢false (sym h))
+    some (Some says) h = refl
+
+    go : (b : Bool) → (t.part == 0) ≡ b → is_some (cond b (option_map shape_said (said_in octets)) None) ≡ b
+    go false p = refl
+    go true p =
+        ap (λ (o : Option (List ℕ)). is_some (option_map shape_said (option_and_then record_of o))) content
+        ∙ some (record_of ok.0.content)
+        (all.said (ap (λ (u : Part). u.part) (want_part g stored t) ∙ eqb-true t.part 0 p))
+
+  -- an index packet that passes lists as many digests as it has to
+  pub passed_lists : ListsAsMany octets (lists_at stored t)
+  passed_lists =
+      subst (ListsAsMany octets) (want_lists g stored t) (go want.lists all.listing) where
+        go : (o : Option ℕ) → IfSome o (λ count. IsSome (index_of ok.0.content count)) → ListsAsMany octets o
+        go None h = tt
+        go (Some count) h =
+            ap (λ (c : Option (List ℕ)). is_some (option_and_then (λ x. index_of x count) c)) content ∙ h
 
 module _ (g : GroupKeys) (a : Alone) (t : Part) (octets : List ℕ) (r : IsReached g a) (can : CanBeHeld (alone_plan a) t)
     (fresh : holds (alone_plan a) t ≡ false) where
@@ -339,9 +440,14 @@ module _ (g : GroupKeys) (a : Alone) (t : Part) (octets : List ℕ) (r : IsReach
       hidden = r.alone.hidden;
     };
     of = r.of;
-    sound = sound_gained a t octets r.alone.in_order fresh (passed_told g a.store t octets passed) can r.sound;
+    sound =
+        sound_gained a t octets r.tied fresh can.asked (passed_told g a.store t octets passed)
+        (passed_lists g a.store t octets passed) can r.sound;
     few = r.few;
-    objects = r.objects;
+    tied =
+        tied_gained a t octets r.tied fresh can.asked (passed_told g a.store t octets passed)
+        (passed_lists g a.store t octets passed);
+    posts = r.posts;
     own =
         λ q own shown.
         put_elsewhere a.store t octets fresh q (other q own (eq_by_cmp part_cmp q t) refl) ∙ r.own q own shown;
@@ -358,7 +464,7 @@ module _ (g : GroupKeys) (a : Alone) (t : Part) (octets : List ℕ) (r : IsReach
         → PassesNow g (with_packet t octets a.store) q found
     now q found asked before =
         subst (λ (want : WantedPart). IsOk (ring_verdict want g.members.ring found))
-        (sym (want_stays g a (with_packet t octets a.store) q r.alone.in_order stays_stored asked)) before
+        (sym (want_stays g a (with_packet t octets a.store) q r.tied stays_stored asked)) before
 
     at : (q : Part) (found : List ℕ) → q.publisher ≢ a.number → (b : Bool) → eq_by_cmp part_cmp q t ≡ b
         → cond b (Some octets) (value_of part_cmp a.store q) ≡ Some found

@@ -1,8 +1,7 @@
 -- What a deletion makes of a member that calls reach.
-use Rattle.std.proofs.Common.{◌≡◌, ◌≢◌, inl, inr, ℕ, Bool, true, false, cond, not, ◌==◌, List, [], ◌∷◌, Option, Some}
+use Rattle.std.proofs.Common.{◌≡◌, ◌≢◌, inl, inr, ℕ, Bool, true, false, cond, not, List, [], ◌∷◌, Option, Some}
 use Rattle.std.proofs.Common.{None, refl, sym, ap, ◌∙◌, subst}
-use Rattle.std.specs.Prelude.{unwrap_or, IsOk, filter}
-use Rattle.std.specs.Option.{option_and_then}
+use Rattle.std.specs.Prelude.{IsOk, filter}
 use Rattle.std.specs.Ordering.{eq_by_cmp}
 use Rattle.std.proofs.lemmas.Bool.{or_cases, or_parts}
 use Rattle.ndn_name.specs.Names.{Component}
@@ -14,24 +13,22 @@ use Rattle.repo_plan.specs.Sound.{PlanIsSound}
 use Rattle.repo_plan.proofs.Orders.{exact_pairs}
 use Rattle.sorted_lists.proofs.Sets.{In, eq_same, contains-insert_key, from_map}
 use Rattle.repo_plan.proofs.Changes.{same_holdings, sound_hides}
-use Rattle.repo_object.specs.Wants.{WantedPart, want_record, want_segment}
-use Rattle.repo_object.specs.Verdict.{listing_in, ring_verdict}
+use Rattle.repo_object.specs.Wants.{WantedPart}
+use Rattle.repo_object.specs.Verdict.{ring_verdict}
 use Rattle.repo_store.specs.StoreList.{packets_outside}
 use Rattle.repo_catalog.specs.declared.entry.Entry.{Entry}
 use Rattle.repo_catalog.specs.Entries.{publication_of, entry_has_name, all_named}
 use Rattle.group_model.proofs.Lists.{from_filter}
 use Rattle.repo_holdings.specs.Records.{Packet}
 use Rattle.repo_holdings.specs.Listed.{alone_catalogue}
-use Rattle.repo_member.specs.Groups.{GroupKeys, node_at}
-use Rattle.repo_holdings.specs.Gaining.{AreTied}
+use Rattle.repo_member.specs.Groups.{GroupKeys}
 use Rattle.repo_member.specs.Alone.{Alone, alone_plan, want_of}
-use Rattle.repo_holdings.specs.Wanting.{nothing_listed}
 use Rattle.repo_member.specs.Deleting.{catalogued_named, alone_hides, alone_deletes}
-use Rattle.repo_holdings.proofs.HidingLemmas.{other_way, value_outside, rises_outside, keys_outside, shapes_outside}
-use Rattle.repo_holdings.proofs.HidingLemmas.{others_stay}
-use Rattle.repo_member.proofs.FoundLemmas.{entry_listed_whole, whole_known, whole_unclaimed}
-use Rattle.repo_member.proofs.PlanChanges.{tied_alone}
-use Rattle.repo_member.proofs.HeldParts.{IsReached, PassesNow}
+use Rattle.repo_holdings.proofs.CatalogueLemmas.{other_way}
+use Rattle.repo_holdings.proofs.HidingLemmas.{value_outside, rises_outside, keys_outside, shapes_outside}
+use Rattle.repo_holdings.proofs.HidingLemmas.{others_stay, tied_hides}
+use Rattle.repo_member.proofs.FoundLemmas.{IsReadFrom, entry_listed_whole, whole_known, whole_unclaimed}
+use Rattle.repo_member.proofs.HeldParts.{IsReached, PassesNow, want_same}
 
 -- ---- what can be hidden
 
@@ -40,16 +37,17 @@ pub record CanHide (p : PlanState) (pair : Pair) : Type 0 where
   pub known : knows p pair ≡ true
   pub unclaimed : claims_part_in p pair ≡ false
 
-pub named_can_hide : (p : PlanState) (packets : List Packet) (name : List Component) → PlanIsSound p → AreTied p packets
+pub named_can_hide : (p : PlanState) (packets : List Packet) (name : List Component) → PlanIsSound p
+    → IsReadFrom packets p
     → (pair : Pair) → In pair (all_named name (alone_catalogue packets)) → CanHide p pair
-named_can_hide p packets name s tied pair i =
+named_can_hide p packets name s read pair i =
     let e : (e : Entry) × (In e (filter (entry_has_name name) (alone_catalogue packets))) × (pair ≡ publication_of e) =
     from_map publication_of (filter (entry_has_name name) (alone_catalogue packets)) pair i in
     let there = from_filter (entry_has_name name) (alone_catalogue packets) e.0 e.1 in
-    let whole = entry_listed_whole packets e.0 tied.in_order there.0 in
+    let whole = entry_listed_whole packets e.0 read.in_order there.0 in
     subst (CanHide p) (sym e.2) (record {
-      known = whole_known p packets (publication_of e.0) e.0.segments s tied whole;
-      unclaimed = whole_unclaimed p packets (publication_of e.0) e.0.segments s tied whole;
+      known = whole_known p packets (publication_of e.0) e.0.segments s read whole;
+      unclaimed = whole_unclaimed p packets (publication_of e.0) e.0.segments s read whole;
     })
 
 -- ---- one publication
@@ -78,9 +76,7 @@ value_other pair packets t other =
 want_other : (g : GroupKeys) (pair : Pair) (packets : List Packet) (t : Part) → is_in pair t ≡ false
     → want_of g packets t ≡ want_of g (packets_outside pair packets) t
 want_other g pair packets t other =
-    ap (λ (o : Option (List ℕ)). cond (t.part == 0) (want_record t (node_at g t.publisher) g.name)
-    (want_segment t (unwrap_or (option_and_then listing_in o) nothing_listed)))
-    (sym (others_stay pair packets (pair_of t) other 0))
+    want_same g (packets_outside pair packets) packets t (λ x. sym (others_stay pair packets (pair_of t) other x))
 
 no_packet : (octets : List ℕ) → (let o : Option (List ℕ) = None in o) ≡ Some octets → ⊥
 no_packet octets h = cc
@@ -105,7 +101,16 @@ reached_hides g pair a can r = record {
   sound =
       subst PlanIsSound (plan_hidden pair a r.alone.in_order) (sound_hides pair (alone_plan a) can.unclaimed r.sound);
   few = r.few;
-  objects = r.objects;
+  tied =
+      let hidden = tied_hides pair (alone_plan a) a.store r.tied in
+      record {
+        in_order = hidden.in_order;
+        held = refl;
+        shapes = refl;
+        recorded = hidden.recorded;
+        indexed = hidden.indexed;
+      };
+  posts = r.posts;
   own = λ t own shown.
       let before = shown_before pair a (pair_of t) shown in
       value_other pair a.store t (other_way (pair_of t) pair before.0) ∙ r.own t own before.1;
@@ -134,4 +139,5 @@ pub reached_deletes : (g : GroupKeys) (name : List Component) (a : Alone) → Is
     → IsReached g (alone_deletes name a)
 reached_deletes g name a r =
     reached_hides_all g (catalogued_named name a) a
-    (named_can_hide (alone_plan a) a.store name r.sound (tied_alone a r.alone.in_order)) r
+    (named_can_hide (alone_plan a) a.store name r.sound
+    (record { in_order = r.alone.in_order; held = refl; shapes = refl })) r

@@ -19,6 +19,7 @@ use Rattle.repo_command.specs.declared.command_refusal.CommandRefusal.{CommandRe
 use Rattle.repo_command.specs.Commands.{is_command, CommandIsSpelled}
 use Rattle.repo_command.specs.Verdict.{command_verdict}
 use Rattle.repo_command.proofs.TakenLemmas.{taken_commands}
+use Rattle.repo_object.specs.Objects.Post.{Offers}
 use Rattle.repo_process.specs.Processes.{Process, BlockState, starting, indexes, has_index, has_block, is_whole}
 use Rattle.repo_process.specs.Processes.{with_block, object_of, closed, with_it, block_in, block_state}
 use Rattle.repo_process.specs.Processes.BlockState.{Unknown, Already, Waiting, Whole}
@@ -240,9 +241,10 @@ reached_blocks g process index content moment draw a is r = go (alone_block a pr
       (within_with a.insertions process p within r.insertions) r
 
   publishes : (p : Process) → IsWithinLimits p → is_whole p ≡ true → (b : Bool) → nat_lt (length a.log) 65535 ≡ b
-      → IsReached g (cond b (alone_publishes g (object_of p) moment draw (alone_keeps process (closed p) a)) a)
+      → IsReached g (cond b (alone_publishes g (Offers (object_of p)) moment draw (alone_keeps process (closed p) a)) a)
   publishes p within whole true q =
-      reached_publishes g (object_of p) moment draw (alone_keeps process (closed p) a) (object_within p within whole)
+      reached_publishes g (Offers (object_of p)) moment draw (alone_keeps process (closed p) a)
+      (object_within p within whole)
       (ltb-true (length a.log) 65535 q) (kept (closed p) (closed_within p within))
   publishes p within whole false q = r
 

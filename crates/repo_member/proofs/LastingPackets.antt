@@ -8,24 +8,25 @@ use Rattle.std.specs.Ordering.{eq_by_cmp}
 use Rattle.std.proofs.lemmas.Bool.{or_cases, cases_eq}
 use Rattle.std.proofs.lemmas.List.{get_or-take, get_or-set_same, get_or-set_other, get_or_push, length_push, take_at}
 use Rattle.std.proofs.lemmas.List.{take_all, length-set, length-replicate, get_or-replicate}
-use Rattle.std.proofs.lemmas.List.Elements.{All-nil, All-push, All-head, All-tail}
+use Rattle.std.proofs.lemmas.List.Elements.{All-head, All-tail}
 use Rattle.repo_plan.specs.declared.part.Part.{Part}
 use Rattle.sorted_lists.specs.SortedList.{keys, contains, value_of, with_value, insert_key}
 use Rattle.repo_plan.specs.Parts.{Pair, part_cmp, pair_of, part_of}
 use Rattle.repo_plan.proofs.Orders.{exact_parts}
 use Rattle.sorted_lists.proofs.Sets.{eq_same, contains-insert_key}
-use Rattle.repo_object.specs.Objects.{NamedContents, IsObject}
+use Rattle.repo_object.specs.Objects.{Post}
 use Rattle.repo_object.specs.Publication.{packets, packet_at}
 use Rattle.repo_store.specs.StoreList.{with_packet}
-use Rattle.group_model.specs.Publications.{Logs, no_object, object_at, last_of}
+use Rattle.group_model.specs.Publications.{Logs, no_post, post_at, last_of}
 use Rattle.group_model.specs.Sound.{IsPublished}
 use Rattle.repo_holdings.specs.Records.{Packet}
 use Rattle.repo_member.specs.Groups.{GroupKeys, publisher_at}
 use Rattle.group_model.specs.Member.{with_tries}
-use Rattle.repo_member.specs.Alone.{Alone, alone_publishes, alone_accepts, next_seq}
+use Rattle.repo_member.specs.Alone.{Alone, ArePosts, alone_publishes, alone_accepts, next_seq}
 use Rattle.repo_holdings.specs.Taking.{Fetched}
 use Rattle.repo_holdings.specs.NewPublications.{as_parts, with_packets}
 use Rattle.repo_holdings.specs.Taking.{with_fetched}
+use Rattle.repo_member.proofs.PostLemmas.{are_posts_more}
 use Rattle.repo_member.specs.InGroup.{StoresTruly, IsItsPacket, CameTruly, true_packet, GrowInto, BeginsTruly}
 use Rattle.repo_member.specs.InGroup.{GrowsTruly, PublishesTruly, AcceptsTruly, TakesTruly, StaysTrue, LogsBegin}
 use Rattle.repo_member.specs.InGroup.{LogsGrow}
@@ -107,15 +108,15 @@ takes_truly g logs (x ∷ xs) a came s =
 pub grown_last : (logs later : Logs) (p : ℕ) → GrowInto logs later → last_of logs p ≤ last_of later p
 grown_last logs later p grows =
     let same : length (take (last_of logs p) (get_or later p [])) ≡ last_of logs p =
-    ap (λ (log : List NamedContents). length log) (grows p) in
+    ap (λ (log : List Post). length log) (grows p) in
     omega (arith, same, length-take (last_of logs p) (get_or later p []))
 
-pub grown_object : (logs later : Logs) (pair : Pair) → GrowInto logs later → IsPublished logs pair
-    → object_at later pair ≡ object_at logs pair
-grown_object logs later pair grows there =
-    sym (get_or-take (last_of logs pair.0) (get_or later pair.0 []) (pair.1 - 1) no_object
+pub grown_post : (logs later : Logs) (pair : Pair) → GrowInto logs later → IsPublished logs pair
+    → post_at later pair ≡ post_at logs pair
+grown_post logs later pair grows there =
+    sym (get_or-take (last_of logs pair.0) (get_or later pair.0 []) (pair.1 - 1) no_post
     (omega (arith, there.from_one, there.to_last)))
-    ∙ ap (λ (log : List NamedContents). get_or log (pair.1 - 1) no_object) (grows pair.0)
+    ∙ ap (λ (log : List Post). get_or log (pair.1 - 1) no_post) (grows pair.0)
 
 pub grows_truly : GrowsTruly
 grows_truly g logs later a grows s = record {
@@ -128,8 +129,8 @@ grows_truly g logs later a grows s = record {
       };
   packets = λ t octets h.
       let held : contains part_cmp (keys a.store) t ≡ true = contains-value a.store t ∙ ap is_some h in
-      ap (λ (object : NamedContents). packet_at (publisher_at g t.publisher) t.seq object t.part)
-      (grown_object logs later (pair_of t) grows (s.published t held))
+      ap (λ (post : Post). packet_at (publisher_at g t.publisher) t.seq post t.part)
+      (grown_post logs later (pair_of t) grows (s.published t held))
       ∙ s.packets t octets h;
 }
 
@@ -150,79 +151,79 @@ puts_truly g logs pair x (octets ∷ made) a its s =
     subst (λ (n : ℕ). IsItsPacket g logs (part_of pair n) found) there (its (suc k) found h))
     (one_more g logs (part_of pair x) octets a first s))
 
--- the logs of a group in which a member published one more object
-module _ (logs : Logs) (number : ℕ) (log : List NamedContents) (object : NamedContents) (inside : number < length logs)
+-- the logs of a group in which a member published once more
+module _ (logs : Logs) (number : ℕ) (log : List Post) (post : Post) (inside : number < length logs)
     (own : get_or logs number [] ≡ log) where
   abbrev later : Logs
-  later = slice_set logs number (log ++ object ∷ [])
+  later = slice_set logs number (log ++ post ∷ [])
 
-  at_own : get_or later number [] ≡ log ++ object ∷ []
-  at_own = get_or-set_same logs number (log ++ object ∷ []) [] inside
+  at_own : get_or later number [] ≡ log ++ post ∷ []
+  at_own = get_or-set_same logs number (log ++ post ∷ []) [] inside
 
   pub published_grows : GrowInto logs later
   published_grows p = elim (cases_eq p number) [
     | inl same ↦ subst (λ (q : ℕ). take (last_of logs q) (get_or later q []) ≡ get_or logs q []) (sym same)
         (ap (take (last_of logs number)) at_own
-        ∙ take_at log (object ∷ []) (last_of logs number) (sym (ap (λ (l : List NamedContents). length l) own))
+        ∙ take_at log (post ∷ []) (last_of logs number) (sym (ap (λ (l : List Post). length l) own))
         ∙ sym own)
     | inr other ↦
-        ap (take (last_of logs p)) (get_or-set_other logs number p (log ++ object ∷ []) [] other)
+        ap (take (last_of logs p)) (get_or-set_other logs number p (log ++ post ∷ []) [] other)
         ∙ take_all (last_of logs p) (get_or logs p []) (omega arith)
   ]
 
   pub published_next : IsPublished later (number, length log + 1)
   published_next =
-      let long : last_of later number ≡ length (log ++ object ∷ []) =
-      ap (λ (l : List NamedContents). length l) at_own in
-      record { from_one = omega arith; to_last = omega (arith, long, length_push log object) }
+      let long : last_of later number ≡ length (log ++ post ∷ []) =
+      ap (λ (l : List Post). length l) at_own in
+      record { from_one = omega arith; to_last = omega (arith, long, length_push log post) }
 
-  pub object_next : object_at later (number, length log + 1) ≡ object
-  object_next =
-      ap (λ (l : List NamedContents). get_or l (length log + 1 - 1) no_object) at_own
-      ∙ get_or_push log object no_object (length log + 1 - 1) (omega arith)
+  pub post_next : post_at later (number, length log + 1) ≡ post
+  post_next =
+      ap (λ (l : List Post). get_or l (length log + 1 - 1) no_post) at_own
+      ∙ get_or_push log post no_post (length log + 1 - 1) (omega arith)
 
 pub publishes_truly : PublishesTruly
-publishes_truly g object moment draw logs a inside own s =
-    let later_logs : Logs = slice_set logs a.number (a.log ++ object ∷ []) in
+publishes_truly g post moment draw logs a inside own s =
+    let later_logs : Logs = slice_set logs a.number (a.log ++ post ∷ []) in
     let pair : Pair = (a.number, next_seq a) in
-    let made : List (List ℕ) = packets (publisher_at g a.number) (next_seq a) object in
+    let made : List (List ℕ) = packets (publisher_at g a.number) (next_seq a) post in
     let its : (k : ℕ) (octets : List ℕ) → slice_get made k ≡ Some octets
     → IsItsPacket g later_logs (part_of pair (0 + k)) octets =
     λ k octets h.
     let same : 0 + k ≡ k = omega arith in
     record {
-      published = published_next logs a.number a.log object inside own;
+      published = published_next logs a.number a.log post inside own;
       packet =
           ap (λ (n : ℕ). true_packet g later_logs (part_of pair n)) same
-          ∙ ap (λ (o : NamedContents). packet_at (publisher_at g a.number) (next_seq a) o k)
-          (object_next logs a.number a.log object inside own)
+          ∙ ap (λ (o : Post). packet_at (publisher_at g a.number) (next_seq a) o k)
+          (post_next logs a.number a.log post inside own)
           ∙ h;
     } in
     stays_true g later_logs (with_store a (with_packets (as_parts pair 0 made) a.store))
-    (alone_publishes g object moment draw a) refl
+    (alone_publishes g post moment draw a) refl
     (puts_truly g later_logs pair 0 made a its
-    (grows_truly g logs later_logs a (published_grows logs a.number a.log object inside own) s))
+    (grows_truly g logs later_logs a (published_grows logs a.number a.log post inside own) s))
 
 -- ---- what can have been published
 
 pub logs_begin : LogsBegin
 logs_begin g is =
     let nothing : Logs = replicate (length g.members.names) [] in
-    let each : (P : List NamedContents → Type 0) → P [] → All P nothing = λ P none k d inside.
+    let each : (P : List Post → Type 0) → P [] → All P nothing = λ P none k d inside.
     subst P (sym (get_or-replicate (length g.members.names) k [] d
     (subst (λ (n : ℕ). k < n) (length-replicate (length g.members.names) []) inside))) none in
     record {
       group = is;
       width = length-replicate (length g.members.names) [];
-      objects = each (All IsObject) (All-nil IsObject);
-      few = each (λ (log : List NamedContents). length log ≤ 65535) (omega arith);
+      posts = each ArePosts (λ i post there. absurd cc);
+      few = each (λ (log : List Post). length log ≤ 65535) (omega arith);
     }
 
 pub logs_grow : LogsGrow
-logs_grow g logs j object are inside is room =
-    let log : List NamedContents = get_or logs j [] in
-    let grown : List NamedContents = log ++ object ∷ [] in
-    let each : (P : List NamedContents → Type 0) → All P logs → P grown → All P (slice_set logs j grown) =
+logs_grow g logs j post are inside is room =
+    let log : List Post = get_or logs j [] in
+    let grown : List Post = log ++ post ∷ [] in
+    let each : (P : List Post → Type 0) → All P logs → P grown → All P (slice_set logs j grown) =
     λ P all new k d within.
     elim (cases_eq k j) [
       | inl same ↦
@@ -235,6 +236,6 @@ logs_grow g logs j object are inside is room =
     record {
       group = are.group;
       width = length-set logs j grown ∙ are.width;
-      objects = each (All IsObject) are.objects (All-push IsObject log object (are.objects j [] inside) is);
-      few = each (λ (l : List NamedContents). length l ≤ 65535) are.few (omega (arith, room, length_push log object));
+      posts = each ArePosts are.posts (are_posts_more log post (are.posts j [] inside) is);
+      few = each (λ (l : List Post). length l ≤ 65535) are.few (omega (arith, room, length_push log post));
     }

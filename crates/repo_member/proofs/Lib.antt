@@ -1,5 +1,6 @@
 mod GroupLemmas
 mod MemberLemmas
+mod PostLemmas
 mod OwnLemmas
 mod VectorLemmas
 mod ChangeLemmas
@@ -25,6 +26,7 @@ mod DeletionLemmas
 mod CommandEvents
 mod CallReach
 mod CallPackets
+mod SegmentDigests
 mod TrueMembers
 mod TrueChanges
 mod TrueSyncs

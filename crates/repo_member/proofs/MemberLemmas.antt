@@ -1,9 +1,9 @@
 -- A member's plan, as its value says it.
-use Rattle.std.proofs.Common.{◌≡◌, ℕ, ◌+◌, ◌≤◌, ◌<◌, Bool, true, false, cond, length, unwrap_or, arith, ◌==◌, []}
+use Rattle.std.proofs.Common.{◌≡◌, ℕ, ◌+◌, ◌-◌, ◌≤◌, ◌<◌, Bool, true, false, cond, length, unwrap_or, arith, ◌==◌, []}
 use Rattle.std.proofs.Common.{map, take}
 use Rattle.std.proofs.Common.{Option, Some, None, refl, sym, ap, ◌∙◌, subst, List}
 use Rattle.std.specs.Prelude.{slice_index, nat_le, Result, Ok, Err, IfOk, OnOk, IsErr, ◌↔◌}
-use Rattle.std.proofs.lemmas.Bool.{and_parts, and_from, leb-true, le-leb}
+use Rattle.std.proofs.lemmas.Bool.{and_parts, and_from, leb-true, le-leb, eqb-false, false_from_ne_true}
 use Rattle.repo_plan.specs.declared.part.Part.{Part}
 use Rattle.repo_plan.specs.Parts.{Pair, pair_of}
 use Rattle.repo_plan.specs.Plan.{is_asked, is_after, knows, claim_of, unclaimed}
@@ -15,19 +15,23 @@ use Rattle.svs_sync.specs.Suppression.{suppression}
 use Rattle.svs_sync.specs.KeptVector.{Keeper, steady_kept, hears_kept}
 use Rattle.repo_plan.specs.Plan.{PlanState}
 use Rattle.repo_member.specs.declared.member.Member.TheInside.{Inside}
-use Rattle.repo_holdings.specs.Listed.{listing_at}
+use Rattle.repo_holdings.specs.Listed.{listing_at, listed_shape}
+use Rattle.repo_holdings.specs.StoredParents.{digest_at, index_count, lists_at}
 use Rattle.repo_holdings.specs.HoldingsState.{HoldingsState, held_plan, claims_too}
-use Rattle.repo_holdings.specs.Wanting.{AreShortNames, want_at, job_at}
+use Rattle.repo_holdings.specs.Wanting.{AreShortNames, want_behind, want_at, job_at}
 use Rattle.repo_member.specs.Outcomes.{job_for}
 use Rattle.repo_object.specs.Limits.{node_name_limit}
 use Rattle.std.specs.List.{filter, slice_get}
 use Rattle.std.proofs.lemmas.List.Elements.{All-weaker}
 use Rattle.ndn_name.specs.Names.{Component, encoding}
-use Rattle.repo_object.specs.Wants.{want_record, want_segment}
+use Rattle.std.specs.Option.{option_and_then}
+use Rattle.repo_object.specs.Publication.{Listed}
+use Rattle.repo_object.specs.Wants.{WantedPart, want_record, want_index, want_segment, listed_in}
 use Rattle.repo_holdings.specs.Records.{Packet}
 use Rattle.repo_member.specs.Groups.{GroupKeys, HaveKeys, IsGroup, IsPlainNodeName}
 use Rattle.repo_member.specs.Alone.{Alone, IsOfGroup, alone_plan, want_of}
 use Rattle.repo_holdings.specs.Wanting.{nothing_listed}
+use Rattle.repo_member.specs.Posts.{posts_of}
 use Rattle.repo_member.specs.Members.{alone, IsMember}
 use Rattle.repo_holdings.proofs.AskedLemmas.{asked_member}
 use Rattle.repo_member.proofs.GroupLemmas.{ring_length}
@@ -76,7 +80,7 @@ knows_more old new pair more h =
 
 -- a member that learns a vector, which tells of no more publications of it than it made
 pub learns_is : (m : Inside) (told vector : List ℕ) (held : HoldingsState) (machine : Keeper) → IsMember m
-    → length told ≡ length m.vector → slice_index told m.number ≤ length m.log.items
+    → length told ≡ length m.vector → slice_index told m.number ≤ length (posts_of m.log.items)
     → vector ≡ join m.vector told → held ≡ record m.held { known = join m.vector told }
     → machine.members ≡ m.machine.members
     → IsMember (record m { vector = vector; held = held; machine = machine })
@@ -97,6 +101,7 @@ learns_is m told vector held machine is width few joined learnt wide =
             (is.alone.hidden pair h);
       };
       known = refl;
+      log = is.log;
       waiting = is.waiting;
     } in
     rw (joined, learnt) made
@@ -104,13 +109,59 @@ learns_is m told vector held machine is width few joined learnt wide =
 -- the part of a want
 pub want_at_part : (publishers : List (List Component)) (group : List Component) (packets : List Packet) (t : Part)
     → (want_at publishers group packets t).part ≡ t
-want_at_part publishers group packets t = go (t.part == 0) where
-  go : (b : Bool)
-      → (cond b (want_record t (unwrap_or (slice_get publishers t.publisher) []) group)
-      (want_segment t (unwrap_or (listing_at packets (pair_of t)) nothing_listed))).part
+want_at_part publishers group packets t = go (t.part == 0) (nat_le t.part (listed_shape l).index) where
+  node : List Component
+  node = unwrap_or (slice_get publishers t.publisher) []
+
+  l : Listed
+  l = unwrap_or (listing_at packets (pair_of t)) nothing_listed
+
+  go : (b c : Bool)
+      → (cond b (want_record t node group)
+      (cond c (want_index t l node group) (want_segment t (listed_shape l) l.name (digest_at packets t l)))).part
       ≡ t
-  go true = refl
-  go false = refl
+  go true c = refl
+  go false true = refl
+  go false false = refl
+
+-- how many digests its packet has to list
+pub want_at_lists : (publishers : List (List Component)) (group : List Component) (packets : List Packet) (t : Part)
+    → (want_at publishers group packets t).lists ≡ lists_at packets t
+want_at_lists publishers group packets t = go (t.part == 0) refl (listing_at packets (pair_of t)) where
+  node : List Component
+  node = unwrap_or (slice_get publishers t.publisher) []
+
+  -- what lies behind a record lists none where nothing is listed
+  past : (t.part == 0) ≡ false → nat_le t.part 0 ≡ false
+  past p = false_from_ne_true (nat_le t.part 0) (λ h. omega (arith, leb-true t.part 0 h, eqb-false t.part 0 p))
+
+  behind : Listed → WantedPart
+  behind l = want_behind node group packets t l
+
+  go : (b : Bool) → (t.part == 0) ≡ b → (o : Option Listed)
+      → (cond b (want_record t node group) (behind (unwrap_or o nothing_listed))).lists
+      ≡ option_and_then (index_count t.part) o
+  go true p None = refl
+  go true p (Some l) = sym (ap (λ (b : Bool). cond b None (counted l)) p) where
+    counted : Listed → Option ℕ
+    counted l = cond (nat_le t.part (listed_shape l).index) (Some (listed_in l.segments (t.part - 1))) None
+  go false p None =
+      ap (λ (b : Bool). (cond b (want_index t nothing_listed node group)
+      (want_segment t (listed_shape nothing_listed) nothing_listed.name (digest_at packets t nothing_listed))).lists)
+      (past p)
+  go false p (Some l) =
+      at (nat_le t.part (listed_shape l).index)
+      ∙ sym (ap (λ (b : Bool). cond b None
+      (cond (nat_le t.part (listed_shape l).index) (Some (listed_in l.segments (t.part - 1))) None)) p) where
+        at : (c : Bool)
+            → (cond c (want_index t l node group)
+            (want_segment t (listed_shape l) l.name (digest_at packets t l))).lists
+            ≡ cond c (Some (listed_in l.segments (t.part - 1))) None
+        at true = refl
+        at false = refl
+
+pub want_lists : (g : GroupKeys) (packets : List Packet) (t : Part) → (want_of g packets t).lists ≡ lists_at packets t
+want_lists g packets t = want_at_lists g.members.names g.name packets t
 
 pub want_part : (g : GroupKeys) (packets : List Packet) (t : Part) → (want_of g packets t).part ≡ t
 want_part g packets t = want_at_part g.members.names g.name packets t
@@ -176,3 +227,9 @@ ended_claim (Err e) old new f t busy free is idle claim =
     absurd (no_claim t (sym none ∙ claim)) where
       no_claim : (u : Part) → let n : Option Part = None in n ≡ Some u → ⊥
       no_claim u h = cc
+
+-- what is given is said in other words
+pub if_ok_same : {A E B : Type 0} (r : Result A E) (f : A → B) (x y : B) → x ≡ y → IfOk r (λ a. f a ≡ x)
+    → IfOk r (λ a. f a ≡ y)
+if_ok_same (Ok a) f x y same h = h ∙ same
+if_ok_same (Err e) f x y same h = tt

@@ -1,17 +1,14 @@
 -- What came of a fetch, taken part after part.
-use Rattle.std.proofs.Common.{◌≡◌, ◌⊎◌, inl, inr, ℕ, ◌+◌, ◌*◌, ◌^◌, ◌<◌, ◌≤◌, Bool, true, false, cond, not, ◌||◌}
-use Rattle.std.proofs.Common.{◌==◌, List, [], ◌∷◌, ◌++◌, map, length, append_assoc, refl, sym, ap, ◌∙◌, subst, Option}
+use Rattle.std.proofs.Common.{◌≡◌, ◌⊎◌, inl, inr, ℕ, ◌+◌, ◌<◌, Bool, true, false, cond, not, ◌||◌}
+use Rattle.std.proofs.Common.{List, [], ◌∷◌, ◌++◌, map, length, append_assoc, refl, sym, ap, ◌∙◌, subst, Option}
 use Rattle.std.proofs.Common.{Some, None, option_map, is_some, unwrap_or, count_by, sum_by, take}
 use Rattle.std.proofs.Common.{zero, suc, arith}
 use Rattle.std.specs.Prelude.{IfSome}
-use Rattle.std.specs.List.{All, AllByRecursion, IsDistinct, list_any, filter}
-use Rattle.std.specs.Ordering.{eq_by_cmp, is_eq}
+use Rattle.std.specs.List.{All, filter}
+use Rattle.std.specs.Ordering.{is_eq}
 use Rattle.std.specs.declared.cmp.Ordering.{Ordering}
-use Rattle.std.proofs.lemmas.Bool.{true≢false, and_parts, or_parts, or_cases, not-true}
-use Rattle.std.proofs.lemmas.Bool.{eqb-true, false_from_ne_true}
+use Rattle.std.proofs.lemmas.Bool.{and_parts, not-true}
 use Rattle.std.proofs.lemmas.List.{map-append, length-map}
-use Rattle.std.proofs.lemmas.Map.Keys.{IsDistinct-cons}
-use Rattle.std.proofs.lemmas.Map.Steps.{length-le_from_distinct_below}
 use Rattle.std.proofs.lemmas.List.Elements.{All-head, All-tail, All-map, All-weaker, All-take}
 use Rattle.std.proofs.lemmas.List.Elements.{All-filter, filter_passes}
 use Rattle.std.proofs.lemmas.List.Sums.{sum_by-cons}
@@ -24,7 +21,7 @@ use Rattle.repo_plan.specs.Plan.{unclaimed, known_parts, attempts_of}
 use Rattle.repo_plan.proofs.Changes.{wanted_parts}
 use Rattle.repo_plan.proofs.Known.{unclaimed_rises}
 use Rattle.repo_plan.proofs.Orders.{exact_parts}
-use Rattle.sorted_lists.proofs.Sets.{eq_itself, rises_filter}
+use Rattle.sorted_lists.proofs.Sets.{rises_filter}
 use Rattle.repo_object.specs.declared.job.Job.{Job}
 use Rattle.repo_object.specs.Verdict.{CheckedPart}
 use Rattle.repo_member.specs.Groups.{GroupKeys, HaveKeys}
@@ -32,8 +29,11 @@ use Rattle.repo_holdings.specs.Records.{Packet}
 use Rattle.group_model.specs.Member.{with_tries}
 use Rattle.repo_member.specs.Alone.{Alone, IsOfGroup, alone_plan, want_of, alone_takes}
 use Rattle.repo_holdings.specs.Taking.{Fetched, with_fetched}
+use Rattle.repo_holdings.specs.StoredParents.{lists_at}
 use Rattle.repo_holdings.specs.Gaining.{IsArrival}
-use Rattle.repo_holdings.specs.declared.holdings.gaining.Arrival.{Arrival}
+use Rattle.repo_holdings.specs.declared.told.Told.{Told}
+use Rattle.repo_object.specs.Wants.{WantedPart}
+use Rattle.repo_holdings.specs.declared.told.Arrival.{Arrival}
 use Rattle.repo_member.specs.Members.{alone, IsMember}
 use Rattle.repo_member.specs.declared.member.Member.TheInside.{Inside}
 use Rattle.repo_holdings.specs.declared.holdings.taking.Tried.{Tried}
@@ -47,7 +47,7 @@ use Rattle.repo_holdings.specs.HoldingsState.{HoldingsState, held_plan}
 use Rattle.repo_holdings.specs.Taking.{takes_too}
 use Rattle.repo_member.proofs.GroupLemmas.{ring_length}
 use Rattle.repo_holdings.proofs.AskedLemmas.{asked_member}
-use Rattle.repo_member.proofs.MemberLemmas.{plan_is, want_part}
+use Rattle.repo_member.proofs.MemberLemmas.{plan_is, want_part, want_lists}
 
 -- ---- what is taken in all
 
@@ -57,6 +57,18 @@ takes_all [] a = refl
 takes_all (x ∷ xs) a =
     takes_all xs
     (record a { store = with_fetched x.part x.packet a.store; attempts = with_tries x.part x.attempts a.attempts })
+
+-- what was checked for a want of the member comes as its part
+pub arrives : (g : GroupKeys) (a : Alone) (t : Part) (c : CheckedPart) (octets : List ℕ) (told : Option Told)
+    → c.want ≡ want_of g a.store t
+    → ((packets : List Packet) → c.want.lists ≡ lists_at packets c.want.part
+    → IsArrival packets c.want.part octets told)
+    → IsArrival a.store t octets told
+arrives g a t c octets told same comes =
+    let part : c.want.part ≡ t = ap (λ (w : WantedPart). w.part) same ∙ want_part g a.store t in
+    let lists : c.want.lists ≡ lists_at a.store c.want.part =
+    ap (λ (w : WantedPart). w.lists) same ∙ want_lists g a.store t ∙ ap (lists_at a.store) (sym part) in
+    subst (λ (u : Part). IsArrival a.store u octets told) part (comes a.store lists)
 
 -- ---- what came of jobs, one after another
 
@@ -99,7 +111,7 @@ module _ (g : GroupKeys) (a : Alone) (job : Job) (part : Option CheckedPart) (n 
       ap (is_asked (alone_plan a)) same ∙ (wanted_parts (alone_plan a) job.want.part free.0).asked
 
   pub can_be_taken : (x : Tried) → IsFetched g a job part n → x.part ≡ job.want.part → x.attempts ≡ n
-      → IfSome x.arrival (λ y. IsArrival a.store x.part y.packet y.segments y.name)
+      → IfSome x.arrival (λ y. IsArrival a.store x.part y.packet y.told)
       → CanBeTaken (alone_plan a) a.store x
   can_be_taken x is same tried arrived =
       let free =
@@ -113,71 +125,6 @@ module _ (g : GroupKeys) (a : Alone) (job : Job) (part : Option CheckedPart) (n 
         arrived = arrived;
         few = rw (same, tried) is.few;
       }
-
--- ---- how many different parts there are
-
--- a part whose numbers fit their types
-pub record IsSmallPart (t : Part) : Type 0 where
-  pub seq : t.seq < 2 ^ 16
-  pub part : t.part < 2 ^ 8
-
-abbrev place : Part → ℕ
-place t = t.publisher * 16777216 + t.seq * 256 + t.part
-
-same_place : (t u : Part) → IsSmallPart t → IsSmallPart u → place t ≡ place u → t ≡ u
-same_place t u a b h =
-    let publisher : t.publisher ≡ u.publisher = omega (arith, h, a.seq, b.seq, a.part, b.part) in
-    let seq : t.seq ≡ u.seq = omega (arith, h, publisher, a.part, b.part) in
-    let part : t.part ≡ u.part = omega (arith, h, publisher, seq) in
-    λ i. record { publisher = publisher i; seq = seq i; part = part i }
-
-places_apart : (t : Part) (ts : List Part) → IsSmallPart t → All IsSmallPart ts → contains part_cmp ts t ≡ false
-    → AllByRecursion (λ y. (place t == y) ≡ false) (map place ts)
-places_apart t [] small all apart = tt
-places_apart t (u ∷ us) small all apart =
-    let both = or_parts (eq_by_cmp part_cmp t u) _ apart in (
-      false_from_ne_true (place t == place u)
-          (λ e. true≢false
-          (sym (eq_itself exact_parts t)
-          ∙ ap (eq_by_cmp part_cmp t)
-          (same_place t u small (All-head IsSmallPart u us all) (eqb-true (place t) (place u) e))
-          ∙ both.0)),
-      places_apart t us small (All-tail IsSmallPart u us all) both.1,
-    )
-
-places_differ : (ts : List Part) → All IsSmallPart ts → PartsDiffer ts → IsDistinct (◌==◌) (map place ts)
-unfolding IsDistinct
-places_differ [] all apart = tt
-places_differ (t ∷ ts) all apart =
-    let rest = All-tail IsSmallPart t ts all in
-    IsDistinct-cons (◌==◌) (place t) (map place ts) (places_apart t ts (All-head IsSmallPart t ts all) rest apart.0)
-    (places_differ ts rest apart.1)
-
-places_below : (n : ℕ) (ts : List Part) → All IsSmallPart ts → All (λ (t : Part). t.publisher < n) ts → (q : ℕ)
-    → list_any (λ y. q == y) (map place ts) ≡ true → q < n * 16777216
-places_below n [] all publishers q h = absurd (true≢false (sym h))
-places_below n (t ∷ ts) all publishers q h = elim (or_cases (q == place t) _ h) [
-  | inl here ↦
-      let small = All-head IsSmallPart t ts all in
-      omega (
-        arith,
-        eqb-true q (place t) here,
-        small.seq,
-        small.part,
-        All-head (λ (t : Part). t.publisher < n) t ts publishers,
-      )
-  | inr later ↦
-      places_below n ts (All-tail IsSmallPart t ts all) (All-tail (λ (t : Part). t.publisher < n) t ts publishers) q
-      later
-]
-
-pub few_parts : (n : ℕ) (ts : List Part) → PartsDiffer ts → All IsSmallPart ts → All (λ (t : Part). t.publisher < n) ts
-    → length ts ≤ n * 16777216
-few_parts n ts apart all publishers =
-    let few =
-    length-le_from_distinct_below (map place ts) (n * 16777216) (places_differ ts all apart)
-    (places_below n ts all publishers) in
-    omega (arith, few, length-map ts place)
 
 -- ---- the outcome as a whole
 
@@ -256,19 +203,15 @@ module _ (g : GroupKeys) (a : Alone) where
         (λ (part : Option CheckedPart). one_of (is_some part))
         (λ part. ap one_of (sym (some_made (λ (c : CheckedPart). c.octets) part))) parts
 
+    pub all_tried : length xs ≡ length jobs
+    all_tried =
+        sym (length-map xs (λ (x : Tried). x.part))
+        ∙ ap (λ (ts : List Part). length ts)
+        (parts_came xs ∙ ap (map (λ (y : Fetched). y.part)) all ∙ parts_fetched jobs parts ns is.each)
+        ∙ length-map jobs (λ (job : Job). job.want.part)
+
     pub all_octets : sum_by arrival_octets xs ≡ sum_by octets_in parts
     all_octets = came_sum (λ o. length (unwrap_or o []))
-
-    pub few_tried : (packets : List Packet) → All (λ (x : Tried). IsSmallPart x.part) xs
-        → All (CanBeTaken (alone_plan a) packets) xs → length xs ≤ length a.known * 16777216
-    few_tried packets small can =
-        let few =
-        few_parts (length a.known) (map (λ (x : Tried). x.part) xs) all_apart
-        (All-map IsSmallPart (λ (x : Tried). x.part) xs small)
-        (All-map (λ (t : Part). t.publisher < length a.known) (λ (x : Tried). x.part) xs
-        (All-weaker (CanBeTaken (alone_plan a) packets) (λ (x : Tried). x.part.publisher < length a.known)
-        (λ x h. asked_member (alone_plan a) x.part h.asked) xs can)) in
-        omega (arith, few, length-map xs (λ (x : Tried). x.part))
 
 module _ (m : Inside) (a : Alone) (view : alone m ≡ a) (mid : HoldingsState) (n : ℕ)
     (room : mid ≡ record m.held { spare = n }) where

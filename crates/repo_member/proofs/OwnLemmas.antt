@@ -1,18 +1,19 @@
 -- What a member publishes: its number is new, its packets are read, and the member afterwards.
-use Rattle.std.proofs.Common.{◌≡◌, inl, inr, ℕ, ◌+◌, ◌≤◌, ◌<◌, ◌^◌, max, suc, Bool, true, cond, ◌&&◌, List, []}
-use Rattle.std.proofs.Common.{◌∷◌, ◌++◌, length, length-append, refl, sym, ap, ◌∙◌, subst, Option, Some, None}
-use Rattle.std.proofs.Common.{option_map, arith}
-use Rattle.std.specs.Prelude.{nat_le, slice_index, slice_set, slice_index_or, Result, Ok, Err, IsOk}
+use Rattle.std.proofs.Common.{◌≡◌, inl, inr, ℕ, ◌+◌, ◌≤◌, ◌<◌, ◌^◌, max, suc, Bool, true, false, cond, ◌&&◌, List, []}
+use Rattle.std.proofs.Common.{◌∷◌, length, refl, sym, ap, ◌∙◌, subst, Option, Some, None}
+use Rattle.std.proofs.Common.{option_map, is_some, zero, ◌-◌, arith}
+use Rattle.std.specs.Option.{option_and_then}
+use Rattle.std.specs.Prelude.{◌==◌, nat_le, slice_index, slice_set, slice_index_or, Result, Ok, Err, IsOk}
 use Rattle.std.specs.List.{list_any, slice_get}
 use Rattle.std.proofs.lemmas.Bool.{true≢false, and_parts, and_from, or_cases, leb-true, le-leb, false_from_ne_true}
-use Rattle.std.proofs.lemmas.Bool.{cases_eq}
-use Rattle.std.proofs.lemmas.List.{length-map, get_or-set_same, get_or-set_other, length-set}
+use Rattle.std.proofs.lemmas.Bool.{cases_eq, cases_lt, eq-eqb, ne_eqb}
+use Rattle.std.proofs.lemmas.List.{get_or-set_same, get_or-set_other, length-set}
 use Rattle.std.proofs.lemmas.Option.{slice_get-get_or, unwrap_or-slice_get}
 use Rattle.std.specs.Ordering.{eq_by_cmp}
 use Rattle.sha2.specs.Sha256.{sha256}
 use Rattle.ndn_tlv.specs.Listing.{◌>>=◌}
 use Rattle.ndn_name.specs.declared.fault.PacketFault.{PacketFault}
-use Rattle.ndn_name.specs.Names.{Component, encoding}
+use Rattle.ndn_name.specs.Names.{encoding}
 use Rattle.ndn_data.specs.Data.{Data, data_of}
 use Rattle.repo_plan.specs.declared.part.Part.{Part}
 use Rattle.repo_plan.specs.Parts.{Pair, part_cmp, pair_of, part_of}
@@ -22,17 +23,25 @@ use Rattle.repo_plan.specs.Sound.{PlanIsSound}
 use Rattle.repo_plan.proofs.Orders.{exact_parts}
 use Rattle.sorted_lists.proofs.Sets.{eq_same}
 use Rattle.repo_plan.proofs.Known.{wanted_is_asked}
-use Rattle.repo_object.specs.Objects.{NamedContents, IsObject, Publisher, IsPublisher, key_name}
-use Rattle.repo_object.specs.Publication.{Listed, packets, published_listing, published_segments}
-use Rattle.repo_object.specs.Wants.{WantedPart, want_record, want_segment}
-use Rattle.repo_object.specs.Verdict.{read_packet, packet_verdict, part_verdict}
-use Rattle.repo_object.proofs.Publications.{listing_within_limits, record_listed, record_passes, segment_passes}
+use Rattle.repo_plan.specs.Parts.{index_packets, parts_behind}
+use Rattle.repo_object.specs.Objects.{Post, IsPost, Publisher, IsPublisher, key_name, shape_in}
+use Rattle.repo_object.specs.Objects.Post.{Offers, Withdraws}
+use Rattle.repo_object.specs.Publication.{Listed, packets, packet_at, packets_behind, record_packet, published_record}
+use Rattle.repo_object.specs.Publication.{published_listing}
+use Rattle.repo_object.specs.Wants.{WantedPart, want_record, want_index, want_segment, listed_in}
+use Rattle.repo_object.specs.Verdict.{read_packet, packet_verdict, part_verdict, said_in, index_in}
+use Rattle.repo_object.proofs.Publications.{record_said, record_passes, index_passes, segment_passes, index_again}
+use Rattle.repo_object.proofs.Publications.{packets-length}
 use Rattle.repo_member.specs.declared.member.Member.TheInside.{Inside}
 use Rattle.repo_member.specs.Groups.{GroupKeys, IsGroup, IsPlainNodeName, node_at, publisher_at}
-use Rattle.repo_holdings.specs.Listed.{listed_shape}
-use Rattle.repo_member.specs.Alone.{alone_plan}
+use Rattle.repo_holdings.specs.declared.told.Told.{Told}
+use Rattle.repo_holdings.specs.Listed.{listing_in, object_said}
+use Rattle.repo_holdings.specs.StoredParents.{index_count, ListsAsMany}
+use Rattle.repo_holdings.specs.Gaining.{told_of, shape_told}
+use Rattle.repo_member.specs.Alone.{Alone, alone_plan, logged, packet_in}
 use Rattle.repo_holdings.specs.HoldingsState.{HoldingsState, held_plan, knows_too, AreInOrder}
-use Rattle.repo_holdings.specs.NewPublications.{IsNew, ArePackets, NamesTheObject}
+use Rattle.repo_holdings.specs.NewPublications.{IsNew, ArePackets, ListInTurn}
+use Rattle.repo_member.specs.Posts.{posts_of, IsKeptLog}
 use Rattle.repo_member.specs.Members.{alone, AreWaiting, IsMember}
 use Rattle.repo_member.proofs.MemberLemmas.{knows_more}
 
@@ -55,44 +64,123 @@ verdict_reads want name key octets h = go (data_of octets) h where
   go (Ok d) p = refl
   go (Err f) p = absurd (true≢false (sym p))
 
-module _ (publisher : Publisher) (object : NamedContents) (seq : ℕ) (is_publisher : IsPublisher publisher)
-    (is_object : IsObject object) (low : seq < 2 ^ 16) where
-  packet_read : (k : ℕ) (octets : List ℕ) → slice_get (packets publisher seq object) k ≡ Some octets
-      → IsOk (data_of octets)
-  packet_read k octets there =
-      let part : Part = record { publisher = 0; seq = seq; part = k } in
-      elim (cases_eq k 0) [
-        | inl first ↦
-            verdict_reads (want_record part publisher.node publisher.group) (encoding (key_name publisher.node))
-            publisher.key octets
-            (record_passes publisher object is_publisher is_object part octets low
-            (subst (λ (n : ℕ). slice_get (packets publisher seq object) n ≡ Some octets) first there))
-        | inr later ↦
-            verdict_reads (want_segment part (published_listing publisher object)) (encoding (key_name publisher.node))
-            publisher.key octets
-            (segment_passes publisher object is_publisher is_object part octets (omega arith) there)
-      ]
+-- packets from part `x` on list as many as they have to, where each does
+in_turn : (l : Option Listed) (x : ℕ) (made : List (List ℕ))
+    → ((i : ℕ) (octets : List ℕ) → slice_get made i ≡ Some octets
+    → ListsAsMany octets (option_and_then (index_count (x + i)) l))
+    → ListInTurn l x made
+in_turn l x [] each = tt
+in_turn l x (octets ∷ made) each = (
+  first (omega arith) (each 0 octets refl),
+  in_turn l (x + 1) made (λ i o h. later i o (omega arith) (each (suc i) o h)),
+) where
+  first : x + 0 ≡ x → ListsAsMany octets (option_and_then (index_count (x + 0)) l)
+      → ListsAsMany octets (option_and_then (index_count x) l)
+  first e = subst (λ (n : ℕ). ListsAsMany octets (option_and_then (index_count n) l)) e
 
-  pub packets_are : (made : List (List ℕ)) → made ≡ packets publisher seq object → ArePackets made
-  packets_are made is = subst ArePackets (sym is) (record {
-    few =
-        omega (
-          arith,
-          (listing_within_limits publisher object is_object).few,
-          length-map (published_segments publisher object) sha256,
-        );
-    read = λ k d inside. packet_read k _ (slice_get-get_or (packets publisher seq object) k d inside);
-    lists =
-        ap (option_map listed_shape) (record_listed publisher object is_publisher is_object seq low)
-        ∙ ap (λ (n : ℕ). Some n) (length-map (published_segments publisher object) sha256);
-  })
+  later : (i : ℕ) (o : List ℕ) → x + suc i ≡ x + 1 + i → ListsAsMany o (option_and_then (index_count (x + suc i)) l)
+      → ListsAsMany o (option_and_then (index_count (x + 1 + i)) l)
+  later i o e = subst (λ (n : ℕ). ListsAsMany o (option_and_then (index_count n) l)) e
 
-  -- they name their object
-  pub packets_named : (made : List (List ℕ)) (name : List Component) → made ≡ packets publisher seq object
-      → name ≡ object.name → NamesTheObject name made
-  packets_named made name is named = subst (NamesTheObject name) (sym is)
-      (ap (option_map (λ (l : Listed). l.name)) (record_listed publisher object is_publisher is_object seq low)
-      ∙ ap (λ (n : List Component). Some n) (sym named))
+module _ (publisher : Publisher) (seq : ℕ) (is_publisher : IsPublisher publisher) (low : seq < 2 ^ 16) where
+  packet_read : (post : Post) → IsPost seq post → (k : ℕ) (octets : List ℕ)
+      → packet_at publisher seq post k ≡ Some octets → IsOk (data_of octets)
+  packet_read post is zero octets there =
+      verdict_reads (want_record (record_of_seq 0) publisher.node publisher.group) (encoding (key_name publisher.node))
+      publisher.key octets (record_passes publisher is_publisher (record_of_seq 0) post octets is low there) where
+        record_of_seq : ℕ → Part
+        record_of_seq x = record { publisher = 0; seq = seq; part = x }
+  packet_read (Withdraws withdrawn) is (suc k) octets there = absurd cc
+  packet_read (Offers object) is (suc k) octets there =
+      elim (cases_lt (index_packets (length object.contents)) (suc k)) [
+        | inl behind ↦
+            verdict_reads (want_segment part (shape_in (Offers object)) object.name (sha256 octets))
+            (encoding (key_name publisher.node)) publisher.key octets
+            (segment_passes publisher is_publisher object is part octets behind there)
+        | inr before ↦
+            verdict_reads (want_index part (published_listing publisher seq object) publisher.node publisher.group)
+            (encoding (key_name publisher.node)) publisher.key octets
+            (index_passes publisher is_publisher object is part octets low (omega arith) before there)
+      ] where
+        part : Part
+        part = record { publisher = 0; seq = seq; part = suc k }
+
+  behind_listed : (post : Post) → IsPost seq post → (i : ℕ) (octets : List ℕ)
+      → slice_get (packets_behind publisher seq post) i ≡ Some octets
+      → ListsAsMany octets (option_and_then (index_count (1 + i)) (object_said (published_record publisher seq post)))
+  behind_listed (Withdraws withdrawn) is i octets there = tt
+  behind_listed (Offers object) is i octets there =
+      subst (ListsAsMany octets) (sym counted) (go (nat_le (1 + i) (index_packets (length object.contents))) refl) where
+        counted : index_count (1 + i) (published_listing publisher seq object)
+            ≡ cond (nat_le (1 + i) (index_packets (length object.contents)))
+            (Some (listed_in (length object.contents) (1 + i - 1))) None
+        counted =
+            ap (λ (b : Bool). cond b None (cond (nat_le (1 + i) (index_packets (length object.contents)))
+            (Some (listed_in (length object.contents) (1 + i - 1))) None))
+            (ne_eqb (1 + i) 0 (λ e. absurd (omega (arith, e))))
+
+        next : i + 1 ≡ suc i
+        next = omega arith
+
+        first : 1 + i - 1 ≡ i
+        first = omega arith
+
+        go : (b : Bool) → nat_le (1 + i) (index_packets (length object.contents)) ≡ b
+            → ListsAsMany octets (cond b (Some (listed_in (length object.contents) (1 + i - 1))) None)
+        go false p = tt
+        go true p =
+            let below = leb-true (1 + i) (index_packets (length object.contents)) p in
+            ap (λ (k : ℕ). is_some (index_in octets (listed_in (length object.contents) k))) first
+            ∙ ap is_some (index_again publisher is_publisher object is seq i octets low (omega (arith, below))
+            (ap (packet_at publisher seq (Offers object)) next ∙ there))
+
+  pub packets_are : (post : Post) → IsPost seq post → (told : Told)
+      → told ≡ told_of (published_record publisher seq post)
+      → (made : List (List ℕ)) → made ≡ packets publisher seq post → ArePackets told made
+  packets_are post is told says made same = subst (ArePackets told) (sym same) (record {
+    read = λ k d inside. packet_read post is k _ (slice_get-get_or (packets publisher seq post) k d inside);
+    lists = (
+      said,
+      (
+        many,
+        in_turn (listing_in (record_packet publisher seq (published_record publisher seq post))) 1
+            (packets_behind publisher seq post)
+            (λ i octets there.
+            subst (λ (l : Option Listed). ListsAsMany octets (option_and_then (index_count (1 + i)) l))
+            (sym (ap (option_and_then object_said) record_is)) (behind_listed post is i octets there)),
+      ),
+    );
+  }) where
+    record_is : said_in (record_packet publisher seq (published_record publisher seq post))
+        ≡ Some (published_record publisher seq post)
+    record_is = record_said publisher is_publisher seq post is low
+
+    said : option_map told_of (said_in (record_packet publisher seq (published_record publisher seq post))) ≡ Some told
+    said = ap (option_map told_of) record_is ∙ ap (λ (t : Told). Some t) (sym says)
+
+    shape : (post : Post) → shape_told (told_of (published_record publisher seq post)) ≡ shape_in post
+    shape (Offers object) = refl
+    shape (Withdraws withdrawn) = refl
+
+    many : length (packets_behind publisher seq post) ≡ parts_behind (shape_told told)
+    many =
+        omega (arith, packets-length publisher seq post)
+        ∙ ap parts_behind (sym (shape post) ∙ ap shape_told (sym says))
+
+-- ---- what is logged
+
+-- an own part is looked up among what was published
+pub logged_own : (g : GroupKeys) (a : Alone) (t : Part) (post : Post) → t.publisher ≡ a.number → 0 < t.seq
+    → slice_get a.log (t.seq - 1) ≡ Some post
+    → logged g a t ≡ packet_in (publisher_at g a.number) t post
+logged_own g a t post own above there =
+    ap (λ (b : Bool). cond b
+    (cond (t.seq == 0) None (option_and_then (packet_in (publisher_at g a.number) t) (slice_get a.log (t.seq - 1))))
+    None) (eq-eqb t.publisher a.number own)
+    ∙ ap
+    (λ (b : Bool). cond b None (option_and_then (packet_in (publisher_at g a.number) t) (slice_get a.log (t.seq - 1))))
+    (ne_eqb t.seq 0 (λ e. absurd (omega (arith, e, above))))
+    ∙ ap (option_and_then (packet_in (publisher_at g a.number) t)) there
 
 -- ---- its number
 
@@ -145,7 +233,7 @@ next_to_last p number last sound inside own hidden = record {
 
 -- such is a member's next publication
 pub next_is_new : (m : Inside) (held : HoldingsState) (n log : ℕ) → IsMember m → PlanIsSound (held_plan m.held)
-    → log ≡ length m.log.items → held ≡ knows_too m.number (log + 1) (record m.held { spare = n })
+    → log ≡ length (posts_of m.log.items) → held ≡ knows_too m.number (log + 1) (record m.held { spare = n })
     → IsNew (held_plan held) (m.number, log + 1)
 next_is_new m held n log is sound long raised =
     let seq = log + 1 in
@@ -161,7 +249,7 @@ next_is_new m held n log is sound long raised =
 
 module _ (m : Inside) (is : IsMember m) where
   abbrev greater : List ℕ → List ℕ
-  greater known = slice_set known m.number (max (slice_index known m.number) (length m.log.items + 1))
+  greater known = slice_set known m.number (max (slice_index known m.number) (length (posts_of m.log.items) + 1))
 
   raised_at : (p : ℕ) → slice_index m.vector p ≤ slice_index (greater m.vector) p
   raised_at p = elim (cases_eq p m.number) [
@@ -169,30 +257,34 @@ module _ (m : Inside) (is : IsMember m) where
         subst (λ (q : ℕ). slice_index m.vector q ≤ slice_index (greater m.vector) q) (sym here)
         (omega (
           arith,
-          get_or-set_same m.vector m.number (max (slice_index m.vector m.number) (length m.log.items + 1)) 0
+          get_or-set_same m.vector m.number (max (slice_index m.vector m.number) (length (posts_of m.log.items) + 1)) 0
               is.alone.member,
         ))
     | inr other ↦
         omega (
           arith,
-          get_or-set_other m.vector m.number p (max (slice_index m.vector m.number) (length m.log.items + 1)) 0 other,
+          get_or-set_other m.vector m.number p (max (slice_index m.vector m.number) (length (posts_of m.log.items) + 1))
+              0 other,
         )
   ]
 
   -- one publication more
-  pub published_is : (next : Inside) → next.number ≡ m.number → length next.log.items ≡ length m.log.items + 1
-      → next.vector ≡ slice_set m.vector m.number (max (slice_index m.vector m.number) (length m.log.items + 1))
+  pub published_is : (next : Inside) → next.number ≡ m.number → IsKeptLog next.log.items
+      → length (posts_of next.log.items) ≡ length (posts_of m.log.items) + 1
+      → next.vector ≡ slice_set m.vector m.number
+      (max (slice_index m.vector m.number) (length (posts_of m.log.items) + 1))
       → next.machine.members ≡ m.machine.members
       → next.held.known
-      ≡ slice_set m.held.known m.number (max (slice_index m.held.known m.number) (length m.log.items + 1))
+      ≡ slice_set m.held.known m.number (max (slice_index m.held.known m.number) (length (posts_of m.log.items) + 1))
       → next.held.hidden ≡ m.held.hidden → AreInOrder next.held
       → AreWaiting next.processes.processes → IsMember next
-  published_is next number more vector members known hidden in_order waiting =
-      let long = length-set m.vector m.number (max (slice_index m.vector m.number) (length m.log.items + 1)) in
+  published_is next number kept more vector members known hidden in_order waiting =
+      let long =
+      length-set m.vector m.number (max (slice_index m.vector m.number) (length (posts_of m.log.items) + 1)) in
       let wide : length next.vector ≡ length m.vector = ap (λ (v : List ℕ). length v) vector ∙ long in
       let own = is.alone.own in
       let at =
-      get_or-set_same m.vector m.number (max (slice_index m.vector m.number) (length m.log.items + 1)) 0
+      get_or-set_same m.vector m.number (max (slice_index m.vector m.number) (length (posts_of m.log.items) + 1)) 0
       is.alone.member in
       let here : slice_index next.vector next.number ≡ slice_index (greater m.vector) m.number =
       ap (λ (v : List ℕ). slice_index v next.number) vector ∙ ap (slice_index (greater m.vector)) number in
@@ -208,13 +300,6 @@ module _ (m : Inside) (is : IsMember m) where
               (ap (λ (pairs : List Pair). hides (record (held_plan m.held) { hidden = pairs }) pair) (sym hidden) ∙ h));
         };
         known = known ∙ ap greater is.known ∙ sym vector;
+        log = kept;
         waiting = waiting;
       }
-
--- one object more in a log
-pub log_longer : {A : Type 0} (was now : List A) (x : A) (added : Bool) → now ≡ cond added (was ++ x ∷ []) was
-    → added ≡ true → length now ≡ length was + 1
-log_longer was now x added is was_added =
-    ap (λ l. length l) is
-    ∙ ap (λ (b : Bool). length (cond b (was ++ x ∷ []) was)) was_added
-    ∙ omega (arith, length-append was (x ∷ []))

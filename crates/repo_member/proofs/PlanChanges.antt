@@ -1,29 +1,32 @@
 -- What each change of a member makes of its plan, and that the plan stays sound.
 use Rattle.std.proofs.Common.{◌≡◌, inl, inr, ℕ, ◌+◌, ◌-◌, ◌^◌, ◌≤◌, Bool, true, false, cond, ◌==◌, List, [], ◌∷◌}
-use Rattle.std.proofs.Common.{length, Some, None, option_map, is_some, refl, sym, ap, ◌∙◌, subst, arith}
-use Rattle.std.specs.Prelude.{slice_index}
-use Rattle.std.proofs.lemmas.Bool.{cases_lt, eqb-true}
+use Rattle.std.proofs.Common.{length, Option, Some, None, option_map, is_some, refl, sym, ap, ◌∙◌, subst, arith}
+use Rattle.std.specs.Prelude.{slice_index, IfSome}
+use Rattle.std.proofs.lemmas.Bool.{cases_lt}
 use Rattle.std.proofs.lemmas.List.{get_or_past}
 use Rattle.repo_plan.specs.declared.part.Part.{Part}
-use Rattle.sorted_lists.specs.SortedList.{keys, Rises, with_value}
-use Rattle.repo_plan.specs.Parts.{Pair, part_cmp, part_of}
-use Rattle.repo_plan.specs.Plan.{PlanState, holds, holds_too, uses_room, attempts_of}
+use Rattle.repo_plan.specs.declared.shape.Shape.{Shape}
+use Rattle.sorted_lists.specs.SortedList.{insert_key, with_value}
+use Rattle.repo_plan.specs.Parts.{Pair, IsShape, part_cmp, pair_of, part_of, parts_behind}
+use Rattle.repo_plan.specs.Plan.{PlanState, holds, holds_too, with_shape, uses_room, is_asked, attempts_of}
 use Rattle.repo_plan.specs.Sound.{PlanIsSound, CanBeHeld}
 use Rattle.repo_plan.proofs.Changes.{Keeps, IsWanted, wanted_parts, wanted_from, asked_kept, same_holdings, sound_room}
 use Rattle.repo_plan.proofs.Changes.{sound_holds, sound_attempts}
-use Rattle.repo_object.specs.Verdict.{listing_in}
+use Rattle.repo_object.specs.Publication.{Listed, RecordSays}
+use Rattle.repo_object.specs.Verdict.{said_in}
 use Rattle.repo_store.specs.StoreList.{with_packet}
-use Rattle.repo_holdings.specs.Listed.{listed_shape}
 use Rattle.group_model.specs.Member.{with_tries}
+use Rattle.repo_holdings.specs.declared.told.Told.{Told}
+use Rattle.repo_object.specs.Publication.{shape_said}
+use Rattle.repo_holdings.specs.StoredParents.{lists_at, ListsAsMany}
+use Rattle.repo_holdings.specs.Gaining.{AreTied, shape_told, told_shape}
+use Rattle.repo_holdings.specs.NewPublications.{as_parts, with_packets, IsNew}
+use Rattle.repo_holdings.proofs.GainingLemmas.{told_shape_is, tied_too, others_kept}
+use Rattle.repo_holdings.proofs.AskedLemmas.{told_sized}
+use Rattle.repo_holdings.proofs.PublishLemmas.{HasGained, AreToCome, told_first, can_ask, not_hidden, not_claimed}
+use Rattle.repo_holdings.proofs.PublishLemmas.{gained_more, tells_shape, lists_many, come_later}
 use Rattle.repo_member.specs.Alone.{Alone, alone_plan}
-use Rattle.repo_holdings.specs.NewPublications.{as_parts, with_packets}
-use Rattle.repo_holdings.specs.Gaining.{AreTied, told_shape}
-use Rattle.repo_holdings.specs.NewPublications.{IsNew}
-use Rattle.repo_holdings.proofs.GainingLemmas.{tied_too, others_kept}
 use Rattle.repo_member.proofs.MemberLemmas.{knows_more}
-use Rattle.repo_member.proofs.ChangeLemmas.{rises_put}
-use Rattle.repo_holdings.proofs.PublishLemmas.{HasGained, TellsTheRest, can_ask, not_hidden, not_claimed, gained_more}
-use Rattle.repo_holdings.proofs.PublishLemmas.{told_first, room_kept, tells_later}
 
 -- ---- numbers that grow
 
@@ -32,7 +35,7 @@ keeps_known : (p : PlanState) (known : List ℕ) → ((q : ℕ) → slice_index 
 keeps_known p known more = record {
   knows = λ pair h. knows_more p (record p { known = known }) pair more h;
   held = λ t h. h;
-  shapes = λ pair n h. h;
+  shapes = λ pair shape h. h;
 }
 
 pub sound_known : (p : PlanState) (known : List ℕ) → length known ≤ 2 ^ 32
@@ -54,6 +57,7 @@ sound_known p known few more s = record {
     with_record = (s.held t h).with_record;
   };
   shapes = s.shapes;
+  sized = s.sized;
   hidden = s.hidden;
   tried = s.tried;
   claimed = λ f t h.
@@ -72,25 +76,54 @@ sound_known p known few more s = record {
 abbrev pub gains : Part → List ℕ → Alone → Alone
 gains t octets a = record a { store = with_packet t octets a.store }
 
-pub tied_alone : (a : Alone) → Rises part_cmp (keys a.store) → AreTied (alone_plan a) a.store
-tied_alone a order = record { in_order = order; held = refl; shapes = refl }
+-- what is told is one that a record may tell
+told_is_shape : (t : Part) (octets : List ℕ) → IfSome (told_shape t octets) IsShape
+told_is_shape t octets =
+    subst (λ (o : Option Shape). IfSome o IsShape) (sym (told_shape_is t octets))
+    (go (t.part == 0) (said_in octets) refl) where
+      go : (b : Bool) (o : Option RecordSays) → said_in octets ≡ o
+          → IfSome (cond b (option_map shape_said o) None) IsShape
+      go true None p = tt
+      go true (Some says) p = told_sized octets says p
+      go false o p = tt
 
-module _ (a : Alone) (t : Part) (octets : List ℕ) (order : Rises part_cmp (keys a.store))
-    (fresh : holds (alone_plan a) t ≡ false) (told : is_some (told_shape t octets) ≡ (t.part == 0)) where
+module _ (a : Alone) (t : Part) (octets : List ℕ) (tied : AreTied (alone_plan a) a.store)
+    (fresh : holds (alone_plan a) t ≡ false) (asked : is_asked (alone_plan a) t ≡ true)
+    (told : is_some (told_shape t octets) ≡ (t.part == 0)) (lists : ListsAsMany octets (lists_at a.store t)) where
+  all_tied : AreTied (holds_too t (told_shape t octets) (alone_plan a)) (with_packet t octets a.store)
+  all_tied = tied_too (alone_plan a) a.store t octets (told_shape t octets) tied fresh asked told refl lists
+
   pub plan_gained : alone_plan (gains t octets a) ≡ uses_room (holds_too t (told_shape t octets) (alone_plan a))
   plan_gained =
       let others = others_kept t (told_shape t octets) (alone_plan a) in
-      let tied = tied_too (alone_plan a) a.store t octets (told_shape t octets) (tied_alone a order) fresh told refl in
       same_holdings (alone_plan (gains t octets a)) (uses_room (holds_too t (told_shape t octets) (alone_plan a)))
-      (sym others.known) (sym tied.held) (sym tied.shapes) (sym others.claims) (sym others.hidden) (sym others.attempts)
-      (sym (room_kept t (told_shape t octets) (alone_plan a)))
+      (sym others.known) (sym all_tied.held) (sym all_tied.shapes) (sym others.claims) (sym others.hidden)
+      (sym others.attempts) (spare_gained (holds (alone_plan a) t)) where
+        spare_gained : (b : Bool)
+            → 0
+            ≡ (uses_room (cond b (alone_plan a) (record (alone_plan a) {
+              held = insert_key part_cmp t (alone_plan a).held;
+              shapes = with_shape (pair_of t) (told_shape t octets) (alone_plan a).shapes;
+            }))).spare
+        spare_gained true = refl
+        spare_gained false = refl
+
+  pub tied_gained : AreTied (alone_plan (gains t octets a)) (with_packet t octets a.store)
+  tied_gained = record {
+    in_order = all_tied.in_order;
+    held = refl;
+    shapes = refl;
+    recorded = all_tied.recorded;
+    indexed = all_tied.indexed;
+  }
 
   pub sound_gained : CanBeHeld (alone_plan a) t → PlanIsSound (alone_plan a)
       → PlanIsSound (alone_plan (gains t octets a))
   sound_gained can s =
       let p = holds_too t (told_shape t octets) (alone_plan a) in
       subst PlanIsSound (sym plan_gained)
-      (sound_room (p.spare - 1) p (sound_holds t (told_shape t octets) (alone_plan a) told can s))
+      (sound_room (p.spare - 1) p
+      (sound_holds t (told_shape t octets) (alone_plan a) told (told_is_shape t octets) can s))
 
 -- ---- attempts
 
@@ -108,39 +141,41 @@ sound_tried a t n s = subst PlanIsSound (go (n == 0)) (sound_attempts t n (alone
 
 -- ---- the parts of a new publication
 
-told_by_first : (pair : Pair) (x segments : ℕ) (octets : List ℕ)
-    → (x ≡ 0 → option_map listed_shape (listing_in octets) ≡ Some segments)
-    → told_shape (part_of pair x) octets ≡ told_first segments x
-told_by_first pair x segments octets h = go (x == 0) refl where
-  go : (b : Bool) → (x == 0) ≡ b
-      → cond b (option_map listed_shape (listing_in octets)) None ≡ cond b (Some segments) None
-  go true p = h (eqb-true x 0 p)
-  go false p = refl
-
-first_told : (segments x : ℕ) → is_some (told_first segments x) ≡ (x == 0)
-first_told segments x = go (x == 0) where
-  go : (b : Bool) → is_some (cond b (Some segments) None) ≡ b
+first_told : (shape : Shape) (x : ℕ) → is_some (told_first shape x) ≡ (x == 0)
+first_told shape x = go (x == 0) where
+  go : (b : Bool) → is_some (cond b (Some shape) None) ≡ b
   go true = refl
   go false = refl
 
-pub sound_puts : (start : PlanState) (pair : Pair) (segments : ℕ) → IsNew start pair
-    → (x : ℕ) (made : List (List ℕ)) (a : Alone) → x + length made ≡ segments + 1 → TellsTheRest segments x made
-    → Rises part_cmp (keys a.store) → HasGained start (alone_plan a) pair segments x → PlanIsSound (alone_plan a)
+-- they leave a sound plan, of what is stored
+pub sound_puts : (start : PlanState) (pair : Pair) (told : Told) (l : Option Listed) → IsShape (shape_told told)
+    → IsNew start pair
+    → (x : ℕ) (made : List (List ℕ)) (a : Alone) → x + length made ≡ parts_behind (shape_told told) + 1
+    → AreToCome told l pair x made a.store → AreTied (alone_plan a) a.store
+    → HasGained start (alone_plan a) pair (shape_told told) x → PlanIsSound (alone_plan a)
     → PlanIsSound (alone_plan (record a { store = with_packets (as_parts pair x made) a.store }))
-sound_puts start pair segments new x [] a count tells order so_far s = s
-sound_puts start pair segments new x (octets ∷ made) a count tells order so_far s =
+    × AreTied (alone_plan (record a { store = with_packets (as_parts pair x made) a.store }))
+    (with_packets (as_parts pair x made) a.store)
+sound_puts start pair told l sized new x [] a count come tied so_far s = (s, tied)
+sound_puts start pair told l sized new x (octets ∷ made) a count come tied so_far s =
+    let shape : Shape = shape_told told in
     let t = part_of pair x in
     let fresh = so_far.fresh x (omega arith) in
-    let shape_is = told_by_first pair x segments octets tells in
-    let told : is_some (told_shape t octets) ≡ (t.part == 0) = ap is_some shape_is ∙ first_told segments x in
+    let shape_is : told_shape t octets ≡ told_first shape x =
+    sym (tells_shape told l pair x octets made a.store come (told_first shape x) refl) in
+    let tells : is_some (told_shape t octets) ≡ (t.part == 0) = ap is_some shape_is ∙ first_told shape x in
+    let lists : ListsAsMany octets (lists_at a.store t) = lists_many told l pair x octets made a.store come in
+    let asked : is_asked (alone_plan a) t ≡ true =
+    can_ask start (alone_plan a) pair shape x new so_far sized (omega (arith, count)) in
     let can : CanBeHeld (alone_plan a) t = record {
-      asked = can_ask start (alone_plan a) pair segments x new so_far (omega (arith, count));
-      not_hidden = not_hidden start (alone_plan a) pair segments x new so_far;
-      not_claimed = not_claimed start (alone_plan a) pair segments x new so_far;
+      asked = asked;
+      not_hidden = not_hidden start (alone_plan a) pair shape x new so_far;
+      not_claimed = not_claimed start (alone_plan a) pair shape x new so_far;
     } in
     let next = gains t octets a in
-    sound_puts start pair segments new (x + 1) made next (omega (arith, count)) (tells_later segments x made)
-    (rises_put a.store t octets order)
-    (gained_more start (alone_plan a) pair segments x new so_far (told_shape t octets) (alone_plan next) shape_is
-    (plan_gained a t octets order fresh told))
-    (sound_gained a t octets order fresh told can s)
+    sound_puts start pair told l sized new (x + 1) made next (omega (arith, count))
+    (come_later told l pair x octets made a.store come next.store refl fresh)
+    (tied_gained a t octets tied fresh asked tells lists)
+    (gained_more start (alone_plan a) pair shape x new so_far (told_shape t octets) (alone_plan next) shape_is
+    (plan_gained a t octets tied fresh asked tells lists))
+    (sound_gained a t octets tied fresh asked tells lists can s)

@@ -14,7 +14,8 @@ pub use Rattle.repo_member.proofs.TrueChanges.{learns_true, hears_true, inserts_
 pub use Rattle.repo_member.proofs.TrueChanges.{obeys_true, fires_true, resets_true, restarts_true, ends_claims_true}
 pub use Rattle.repo_member.proofs.TrueChanges.{claims_true, loses_true, accepts_true, takes_true}
 pub use Rattle.repo_member.proofs.TrueSyncs.{keys_are_found, syncs_are_told, syncs_are_taken}
-pub use Rattle.repo_member.proofs.EventLemmas.{publish_is_event, deliver_is_event, hear_is_event, fire_is_event}
+pub use Rattle.repo_member.proofs.EventLemmas.{publish_is_event, withdraw_is_event, deliver_is_event, hear_is_event}
+pub use Rattle.repo_member.proofs.EventLemmas.{fire_is_event}
 pub use Rattle.repo_member.proofs.EventLemmas.{restart_is_event, claim_is_event, lose_is_event, answer_is_event}
 pub use Rattle.repo_member.proofs.EventLemmas.{feed_is_event, fetch_is_event, learns_at_once, learns_what_all_know}
 pub use Rattle.repo_member.proofs.EventLemmas.{gathering_is_event, settle_is_event, open_parts_alike, catalogues_alike}
@@ -22,7 +23,7 @@ pub use Rattle.repo_member.proofs.CommandEvents.{starts_alike, keeps_alike, orde
 pub use Rattle.repo_member.proofs.CommandEvents.{issue_is_event, issue_is_answered, block_is_event, block_states_alike}
 pub use Rattle.repo_member.proofs.OrderLemmas.{made_orders_are_taken, orders_beyond}
 pub use Rattle.repo_member.proofs.OutcomeLemmas.{jobs_are_planned, planned_jobs_are_outcomes}
-pub use Rattle.repo_member.proofs.CallLogs.{logs_go_on, publications_stay, logged_packets_stay}
+pub use Rattle.repo_member.proofs.CallLogs.{logs_go_on, publications_stay, withdrawals_stay, logged_packets_stay}
 pub use Rattle.repo_member.proofs.CallVectors.{numbers_never_fall, known_is_the_join}
 pub use Rattle.repo_member.proofs.CallReach.{in_every_member, claims_once}
 pub use Rattle.repo_member.proofs.CallPackets.{held_packets_stay, hidden_for_good, hidden_is_gone, own_stored}

@@ -1,12 +1,11 @@
 -- What a new publication makes of a member that calls reach.
 use Rattle.std.proofs.Common.{◌≡◌, ◌≢◌, inl, inr, ℕ, zero, suc, ◌+◌, ◌-◌, ◌<◌, ◌≤◌, max, Bool, true, false, cond, ◌==◌}
-use Rattle.std.proofs.Common.{List, [], ◌∷◌, ◌++◌, length, Option, None, slice_get, refl, sym, ap, ◌∙◌, subst, arith}
-use Rattle.std.specs.Prelude.{slice_index, slice_set, unwrap_or, IsOk}
+use Rattle.std.proofs.Common.{List, [], ◌∷◌, ◌++◌, length, None, slice_get, refl, sym, ap, ◌∙◌, subst, arith}
+use Rattle.std.specs.Prelude.{slice_index, slice_set, IsOk}
 use Rattle.std.specs.Option.{option_and_then}
 use Rattle.std.specs.Ordering.{eq_by_cmp}
 use Rattle.std.proofs.lemmas.Bool.{cases_eq, eqb-false}
 use Rattle.std.proofs.lemmas.List.{length-set, length_push, get_or-set_same, get_or-set_other}
-use Rattle.std.proofs.lemmas.List.Elements.{All-push}
 use Rattle.repo_plan.specs.declared.part.Part.{Part}
 use Rattle.sorted_lists.specs.SortedList.{keys, contains, value_of}
 use Rattle.repo_plan.specs.Parts.{Pair, part_cmp, pair_of, part_of}
@@ -14,26 +13,29 @@ use Rattle.repo_plan.specs.Plan.{hides}
 use Rattle.repo_plan.specs.Sound.{PlanIsSound}
 use Rattle.repo_plan.proofs.Orders.{exact_parts}
 use Rattle.sorted_lists.proofs.Sets.{eq_same}
-use Rattle.repo_object.specs.Objects.{NamedContents, IsObject, Publisher}
-use Rattle.repo_object.specs.Publication.{published_segments, packets}
-use Rattle.repo_object.specs.Wants.{WantedPart, want_record, want_segment}
-use Rattle.repo_object.specs.Verdict.{listing_in, ring_verdict}
+use Rattle.repo_object.specs.Objects.{Post, IsPost, Publisher}
+use Rattle.repo_object.specs.Publication.{published_record, packets}
+use Rattle.repo_object.specs.Wants.{WantedPart}
+use Rattle.repo_object.specs.Verdict.{ring_verdict}
+use Rattle.repo_holdings.specs.declared.told.Told.{Told}
+use Rattle.repo_holdings.specs.Gaining.{AreTied, told_of, shape_told}
 use Rattle.repo_store.specs.StoreList.{with_packet}
 use Rattle.repo_holdings.specs.Records.{Packet}
-use Rattle.repo_member.specs.Groups.{GroupKeys, node_at, publisher_at}
+use Rattle.repo_member.specs.Groups.{GroupKeys, publisher_at}
 use Rattle.repo_member.specs.Alone.{Alone, alone_plan, next_seq, alone_publishes, logged}
 use Rattle.repo_holdings.specs.NewPublications.{as_parts, with_packets}
 use Rattle.repo_member.specs.Alone.{packet_in, want_of}
-use Rattle.repo_holdings.specs.Wanting.{nothing_listed}
 use Rattle.repo_holdings.specs.NewPublications.{IsNew}
 use Rattle.repo_holdings.proofs.GainingLemmas.{put_here, put_elsewhere}
-use Rattle.repo_holdings.proofs.PublishLemmas.{puts_aside, later_part, gained_none}
+use Rattle.repo_holdings.proofs.PublishLemmas.{puts_aside, later_part, gained_none, first_listing, packets_sized}
+use Rattle.repo_holdings.proofs.PublishLemmas.{count_packets, all_to_come}
 use Rattle.repo_member.proofs.MemberLemmas.{knows_more}
-use Rattle.repo_member.proofs.OwnLemmas.{is_publisher, packets_are, next_to_last}
+use Rattle.repo_member.proofs.PostLemmas.{are_posts_more}
+use Rattle.repo_member.proofs.OwnLemmas.{is_publisher, logged_own, packets_are, next_to_last}
 use Rattle.repo_member.proofs.ChangeLemmas.{rises_puts}
 use Rattle.repo_member.proofs.CallLogs.{at_end}
 use Rattle.repo_member.proofs.PlanChanges.{sound_known, sound_puts}
-use Rattle.repo_member.proofs.HeldParts.{IsReached, logged_own, missing_value, not_there}
+use Rattle.repo_member.proofs.HeldParts.{IsReached, want_same, missing_value, not_there}
 
 -- a place of a list that isn't the one where an element comes
 not_at_end : {A : Type 0} (xs : List A) (x : A) (i : ℕ) → i ≢ length xs → slice_get (xs ++ x ∷ []) i ≡ slice_get xs i
@@ -69,7 +71,7 @@ puts_value pair x (octets ∷ made) stored none (suc k) =
             absurd (omega arith)
         go false p = refl
 
-module _ (g : GroupKeys) (object : NamedContents) (moment draw : ℕ) (a : Alone) (is_object : IsObject object)
+module _ (g : GroupKeys) (post : Post) (moment draw : ℕ) (a : Alone) (is_post : IsPost (next_seq a) post)
     (room : length a.log < 65535) (r : IsReached g a) where
   abbrev pair : Pair
   pair = (a.number, next_seq a)
@@ -78,10 +80,10 @@ module _ (g : GroupKeys) (object : NamedContents) (moment draw : ℕ) (a : Alone
   by = publisher_at g a.number
 
   abbrev made : List (List ℕ)
-  made = packets by (next_seq a) object
+  made = packets by (next_seq a) post
 
-  abbrev segments : ℕ
-  segments = length (published_segments by object)
+  abbrev says : Told
+  says = told_of (published_record by (next_seq a) post)
 
   abbrev after : List Packet
   after = with_packets (as_parts pair 0 made) a.store
@@ -115,13 +117,24 @@ module _ (g : GroupKeys) (object : NamedContents) (moment draw : ℕ) (a : Alone
       subst (λ (n : ℕ). IsNew (alone_plan (record a { known = slice_set a.known a.number n })) pair) greater
       (next_to_last (alone_plan a) a.number (length a.log) r.sound r.alone.member r.alone.own (r.alone.hidden pair))
 
+  told_tied : AreTied (alone_plan told) a.store
+  told_tied = record {
+    in_order = r.tied.in_order;
+    held = refl;
+    shapes = refl;
+    recorded = r.tied.recorded;
+    indexed = r.tied.indexed;
+  }
+
   all_sound : PlanIsSound (alone_plan (record told { store = after }))
+      × AreTied (alone_plan (record told { store = after })) after
   all_sound =
       let are =
-      packets_are by object (next_seq a) (is_publisher g a.number r.group (omega (arith, r.alone.member, r.of)))
-      is_object (omega (arith, room)) made refl in
-      sound_puts (alone_plan told) pair segments new 0 made told (omega arith) (λ e. are.lists) r.alone.in_order
-      (gained_none (alone_plan told) pair segments new) told_sound
+      packets_are by (next_seq a) (is_publisher g a.number r.group (omega (arith, r.alone.member, r.of)))
+      (omega (arith, room)) post is_post says refl made refl in
+      sound_puts (alone_plan told) pair says (first_listing made) (packets_sized says made are.lists) new 0 made told
+      (omega (arith, count_packets says made are.lists)) (all_to_come says pair made a.store are.lists) told_tied
+      (gained_none (alone_plan told) pair (shape_told says) new) told_sound
 
   -- ---- what is stored
 
@@ -141,21 +154,21 @@ module _ (g : GroupKeys) (object : NamedContents) (moment draw : ℕ) (a : Alone
     go true p = absurd (away (ap (λ (t : Part). t.seq) (eq_same exact_parts q (part_of pair y) p)))
     go false p = refl
 
-  logged_before : (q : Part) → q.seq ≢ next_seq a → logged g a q ≡ logged g (alone_publishes g object moment draw a) q
+  logged_before : (q : Part) → q.seq ≢ next_seq a → logged g a q ≡ logged g (alone_publishes g post moment draw a) q
   logged_before q other = go (q.publisher == a.number) (q.seq == 0) refl where
     go : (b c : Bool) → (q.seq == 0) ≡ c
         → cond b (cond c None (option_and_then (packet_in by q) (slice_get a.log (q.seq - 1)))) None
-        ≡ cond b (cond c None (option_and_then (packet_in by q) (slice_get (a.log ++ object ∷ []) (q.seq - 1)))) None
+        ≡ cond b (cond c None (option_and_then (packet_in by q) (slice_get (a.log ++ post ∷ []) (q.seq - 1)))) None
     go false c p = refl
     go true true p = refl
     go true false p =
         ap (option_and_then (packet_in by q))
-        (sym (not_at_end a.log object (q.seq - 1) (λ e. other (above e (eqb-false q.seq 0 p))))) where
+        (sym (not_at_end a.log post (q.seq - 1) (λ e. other (above e (eqb-false q.seq 0 p))))) where
           above : q.seq - 1 ≡ length a.log → (q.seq ≡ 0 → ⊥) → q.seq ≡ next_seq a
           above e ne = elim (cases_eq q.seq 0) [ inl z ↦ absurd (ne z) | inr n ↦ omega (arith, e, n) ]
 
   own_parts : (q : Part) → q.publisher ≡ a.number → hides (alone_plan a) (pair_of q) ≡ false
-      → value_of part_cmp after q ≡ logged g (alone_publishes g object moment draw a) q
+      → value_of part_cmp after q ≡ logged g (alone_publishes g post moment draw a) q
   own_parts q own shown = elim (cases_eq q.seq (next_seq a)) [
     | inl same ↦
         let is : q ≡ part_of pair q.part = λ i. record { publisher = own i; seq = same i; part = q.part } in
@@ -163,32 +176,32 @@ module _ (g : GroupKeys) (object : NamedContents) (moment draw : ℕ) (a : Alone
         let from_first : q.part ≡ 0 + q.part = omega arith in
         ap (value_of part_cmp after) (is ∙ ap (part_of pair) from_first)
         ∙ puts_value pair 0 made a.store (λ y h. new.not_held y) q.part
-        ∙ ap (λ (n : ℕ). slice_get (packets by n object) q.part) (sym same)
-        ∙ sym (logged_own g (alone_publishes g object moment draw a) q object own (omega (arith, same))
-        (ap (slice_get (a.log ++ object ∷ [])) last ∙ at_end a.log object))
+        ∙ ap (λ (n : ℕ). slice_get (packets by n post) q.part) (sym same)
+        ∙ sym (logged_own g (alone_publishes g post moment draw a) q post own (omega (arith, same))
+        (ap (slice_get (a.log ++ post ∷ [])) last ∙ at_end a.log post))
     | inr other ↦ aside q (of_another q other) ∙ r.own q own shown ∙ logged_before q other
   ]
 
   same_want : (q : Part) → q.publisher ≢ a.number → want_of g a.store q ≡ want_of g after q
   same_want q away =
-      ap (λ (o : Option (List ℕ)). cond (q.part == 0) (want_record q (node_at g q.publisher) g.name)
-      (want_segment q (unwrap_or (option_and_then listing_in o) nothing_listed)))
-      (sym (aside (part_of (pair_of q) 0) (of_others (part_of (pair_of q) 0) away)))
+      want_same g after a.store q
+      (λ x. sym (aside (part_of (pair_of q) x) (of_others (part_of (pair_of q) x) away)))
 
-  pub reached_publishes : IsReached g (alone_publishes g object moment draw a)
+  pub reached_publishes : IsReached g (alone_publishes g post moment draw a)
   reached_publishes = record {
     group = r.group;
     alone = record {
       member = omega (arith, long, r.alone.member);
-      own = at_own ∙ sym (length_push a.log object);
+      own = at_own ∙ sym (length_push a.log post);
       width = r.alone.width ∙ sym long;
       in_order = rises_puts (as_parts pair 0 made) a.store r.alone.in_order;
       hidden = λ p h. knows_more (alone_plan a) (alone_plan told) p more (r.alone.hidden p h);
     };
     of = r.of ∙ sym long;
-    sound = all_sound;
-    few = omega (arith, room, length_push a.log object);
-    objects = All-push IsObject a.log object r.objects is_object;
+    sound = all_sound.0;
+    few = omega (arith, room, length_push a.log post);
+    tied = all_sound.1;
+    posts = are_posts_more a.log post r.posts is_post;
     own = own_parts;
     others = λ q octets away h.
         subst (λ (want : WantedPart). IsOk (ring_verdict want g.members.ring octets)) (same_want q away)

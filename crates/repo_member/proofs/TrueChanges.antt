@@ -14,13 +14,14 @@ use Rattle.repo_plan.specs.Plan.{PlanState, is_in, no_claims, is_wanted, is_clai
 use Rattle.repo_plan.proofs.Orders.{exact_parts}
 use Rattle.sorted_lists.proofs.Sets.{In, contains_in}
 use Rattle.repo_plan.proofs.Known.{contains-unclaimed}
-use Rattle.repo_object.specs.Objects.{NamedContents}
+use Rattle.repo_object.specs.Objects.{Post, shape_in}
+use Rattle.repo_object.specs.Objects.Post.{Offers}
 use Rattle.repo_command.specs.declared.command.Command.TheVariants.{Insert, Check, Delete}
 use Rattle.repo_process.specs.Processes.{Process, BlockState, object_of, closed}
 use Rattle.repo_process.specs.Processes.BlockState.{Unknown, Already, Waiting, Whole}
 use Rattle.repo_process.specs.Insertions.{next_number, starts, with_process}
 use Rattle.repo_store.specs.StoreList.{packets_outside}
-use Rattle.group_model.specs.Publications.{Logs, last_of}
+use Rattle.group_model.specs.Publications.{Logs, last_of, shape_at}
 use Rattle.group_model.specs.Member.{plan_of, with_tries}
 use Rattle.group_model.specs.Changes as group
 use Rattle.group_model.specs.Sound.{IsSoundMember, HeardTruly}
@@ -50,8 +51,8 @@ use Rattle.repo_member.proofs.ChangeLemmas.{publishes_alike, accepts_alike, take
 use Rattle.repo_member.proofs.DeletionLemmas.{deletes_alike}
 use Rattle.repo_member.proofs.GroupPlans.{plans_alike}
 use Rattle.repo_holdings.proofs.HidingLemmas.{value_outside}
-use Rattle.repo_member.proofs.LastingPackets.{begins_truly, grown_last, grown_object, grows_truly, publishes_truly}
-use Rattle.repo_member.proofs.LastingPackets.{published_grows, object_next, accepts_truly, takes_truly}
+use Rattle.repo_member.proofs.LastingPackets.{begins_truly, grown_last, grown_post, grows_truly, publishes_truly}
+use Rattle.repo_member.proofs.LastingPackets.{published_grows, post_next, accepts_truly, takes_truly}
 use Rattle.repo_member.proofs.MemberLemmas.{still_wide}
 use Rattle.repo_member.proofs.OutcomeLemmas.{takes_all}
 use Rattle.repo_member.proofs.TrueMembers.{true_stores, wanted_published, claimed_wanted}
@@ -71,7 +72,7 @@ all_zeros zero p = refl
 all_zeros (suc n) zero = refl
 all_zeros (suc n) (suc p) = all_zeros n p
 
-none_logged : (n p : ℕ) → get_or (replicate n (let l : List NamedContents = [] in l)) p [] ≡ []
+none_logged : (n p : ℕ) → get_or (replicate n (let l : List Post = [] in l)) p [] ≡ []
 none_logged zero p = refl
 none_logged (suc n) zero = refl
 none_logged (suc n) (suc p) = none_logged n p
@@ -108,38 +109,36 @@ grows_from : (logs later : Logs) → GrowInto logs later → length later ≡ le
 grows_from logs later grows wide = record {
   width = wide;
   last = λ p. grown_last logs later p grows;
-  counts = λ pair there. ap (λ (o : NamedContents). length o.contents) (grown_object logs later pair grows there);
+  shapes = λ pair there. ap shape_in (grown_post logs later pair grows there);
 }
 
 pub logs_have_grown : LogsHaveGrown
-logs_have_grown logs j object inside = published_grows logs j (get_or logs j []) object inside refl
+logs_have_grown logs j post inside = published_grows logs j (get_or logs j []) post inside refl
 
 pub publishes_true : PublishesTrue
-publishes_true g object moment draw logs a t =
-    let later : Logs = set logs a.number (a.log ++ object ∷ []) in
-    let grows : GrowInto logs later = published_grows logs a.number a.log object t.there t.log in
-    let wide : length later ≡ length logs = length-set logs a.number (a.log ++ object ∷ []) in
-    let own : get_or later a.number [] ≡ a.log ++ object ∷ [] =
-    get_or-set_same logs a.number (a.log ++ object ∷ []) [] t.there in
+publishes_true g post moment draw logs a t =
+    let later : Logs = set logs a.number (a.log ++ post ∷ []) in
+    let grows : GrowInto logs later = published_grows logs a.number a.log post t.there t.log in
+    let wide : length later ≡ length logs = length-set logs a.number (a.log ++ post ∷ []) in
+    let own : get_or later a.number [] ≡ a.log ++ post ∷ [] =
+    get_or-set_same logs a.number (a.log ++ post ∷ []) [] t.there in
     let last : last_of logs a.number ≡ length a.log = ap length t.log in
-    let one : last_of later a.number ≡ length a.log + 1 = ap length own ∙ length_push a.log object in
+    let one : last_of later a.number ≡ length a.log + 1 = ap length own ∙ length_push a.log post in
     let next : last_of logs a.number + 1 ≡ length a.log + 1 = omega (arith, last) in
-    let publishes : Publishes logs later a.number object = record {
+    let publishes : Publishes logs later a.number post = record {
       grows = grows_from logs later grows wide;
       one_more = omega (arith, one, last);
-      counts =
-          ap (λ (s : ℕ). length
-          (get_or (get_or later a.number []) (s - 1)
-          (let o : NamedContents = record { name = []; contents = [] } in o)).contents) next
-          ∙ ap (λ (o : NamedContents). length o.contents) (object_next logs a.number a.log object t.there t.log);
+      shape =
+          ap (λ (s : ℕ). shape_at later (a.number, s)) next
+          ∙ ap shape_in (post_next logs a.number a.log post t.there t.log);
     } in
     record {
       there = omega (arith, t.there, wide);
       log = own;
-      sound = subst (IsSoundMember later a.number) (sym (publishes_alike g object moment draw a t.sound.in_order.held))
-          (sound_publishes draw moment logs later a.number object (in_group a) t.there (sym last) publishes t.sound);
+      sound = subst (IsSoundMember later a.number) (sym (publishes_alike g post moment draw a t.sound.in_order.held))
+          (sound_publishes draw moment logs later a.number post (in_group a) t.there (sym last) publishes t.sound);
       machine = t.machine ∙ sym wide;
-      packets = (publishes_truly g object moment draw logs a t.there t.log (true_stores g logs a t)).packets;
+      packets = (publishes_truly g post moment draw logs a t.there t.log (true_stores g logs a t)).packets;
     }
 
 pub others_publish : OthersPublish
@@ -229,10 +228,11 @@ blocks_true g process index content moment draw logs a t = go (alone_block a pro
   kept p = inserts_true g logs (with_process process p a.insertions) a t
 
   publishes : (p : Process) (b : Bool)
-      → let later = cond b (alone_publishes g (object_of p) moment draw (alone_keeps process (closed p) a)) a in
+      → let later = cond b (alone_publishes g (Offers (object_of p)) moment draw
+      (alone_keeps process (closed p) a)) a in
       IsTrueMember g (set logs a.number later.log) later
   publishes p true =
-      publishes_true g (object_of p) moment draw logs (alone_keeps process (closed p) a) (kept (closed p))
+      publishes_true g (Offers (object_of p)) moment draw logs (alone_keeps process (closed p) a) (kept (closed p))
   publishes p false = same_logs g logs a a refl refl t t
 
   go : (state : BlockState)

@@ -18,6 +18,7 @@ use Rattle.repo_member.specs.declared.member.Member.TheInside.{Inside}
 use Rattle.repo_member.specs.Alone.{alone_plan}
 use Rattle.repo_holdings.specs.HoldingsState.{HoldingsState, AreInOrder}
 use Rattle.repo_holdings.specs.Hiding.{with_hidden, hides_all}
+use Rattle.repo_member.specs.Posts.{posts_of, IsKeptLog}
 use Rattle.repo_member.specs.Members.{alone, AreWaiting, IsMember}
 use Rattle.repo_member.proofs.InsertionParts.{exact_numbers}
 
@@ -59,6 +60,7 @@ with_processes m processes is waiting = record {
     hidden = is.alone.hidden;
   };
   known = is.known;
+  log = is.log;
   waiting = waiting;
 }
 
@@ -94,7 +96,7 @@ hidden_is m next pairs is number log vector machine processes hiding in_order ea
         ap (λ (v : List ℕ). get_or v next.number 0) vector
         ∙ ap (λ (n : ℕ). get_or m.vector n 0) number
         ∙ is.alone.own
-        ∙ sym (ap (λ l. length l) log);
+        ∙ sym (ap (λ l. length (posts_of l)) log);
     width = ap (λ k. k.members) machine ∙ is.alone.width ∙ sym (ap (λ (v : List ℕ). length v) vector);
     in_order = in_order;
     hidden =
@@ -103,6 +105,7 @@ hidden_is m next pairs is number log vector machine processes hiding in_order ea
         (ap (λ (x : HoldingsState). contains pair_cmp x.hidden q) (sym hiding) ∙ h));
   };
   known = ap (λ (x : HoldingsState). x.known) hiding ∙ is.known ∙ sym vector;
+  log = subst IsKeptLog (sym log) is.log;
   waiting = subst (λ (i : Insertions). AreWaiting i.processes) (sym processes) is.waiting;
 } where
   at : (q : Pair) → ((In q pairs) ⊎ (contains pair_cmp m.held.hidden q ≡ true)) → knows (alone_plan (alone m)) q ≡ true

@@ -1,5 +1,5 @@
 -- A member by itself: what it has, without what it can't know of others.
-use Rattle.std.specs.Prelude.{◌≡◌, ℕ, ◌+◌, ◌-◌, ◌<◌, true, List, [], ◌∷◌, ◌++◌, length, Option, None, slice_get}
+use Rattle.std.specs.Prelude.{◌≡◌, ℕ, ◌+◌, ◌-◌, ◌<◌, true, List, [], ◌∷◌, ◌++◌, length, Option, Some, None, slice_get}
 use Rattle.std.specs.Prelude.{slice_set, slice_index, replicate, ◌==◌, if◌then◌else◌}
 use Rattle.std.specs.Option.{option_and_then}
 use Rattle.svs_vector.specs.Vectors.{join}
@@ -9,8 +9,8 @@ use Rattle.repo_plan.specs.declared.part.Part.{Part}
 use Rattle.repo_plan.specs.Parts.{Pair, part_cmp}
 use Rattle.sorted_lists.specs.SortedList.{Rises, keys}
 use Rattle.repo_plan.specs.Plan.{PlanState, no_claims, knows, hides}
-use Rattle.repo_object.specs.Objects.{NamedContents, Publisher}
-use Rattle.repo_object.specs.Publication.{packets}
+use Rattle.repo_object.specs.Objects.{Post, IsPost, Publisher}
+use Rattle.repo_object.specs.Publication.{packets, packet_at}
 use Rattle.repo_object.specs.Wants.{WantedPart}
 use Rattle.repo_process.specs.Insertions.{Insertions}
 use Rattle.repo_store.specs.StoreList.{with_packet}
@@ -26,7 +26,7 @@ use Rattle.repo_member.specs.Groups.{GroupKeys, publisher_at}
 -- what a member has
 pub record Alone : Type 0 where
   pub number : ℕ  -- its own, in its group
-  pub log : List NamedContents  -- what it published, in order
+  pub log : List Post  -- what it published, in order
   pub known : List ℕ  -- its vector: one number a member
   pub store : List Packet  -- the packet of each part that it holds, in order of the parts
   pub hidden : List Pair  -- in order
@@ -53,7 +53,7 @@ alone_opening members number moment draw = record {
   insertions = no_insertions;
 }
 
--- its fetch plan: it holds what it stores, and the stored records tell how many segments there are
+-- its fetch plan: it holds what it stores, and the stored records tell which parts there are
 abbrev pub alone_plan : Alone → PlanState
 alone_plan a = record {
   known = a.known;
@@ -74,6 +74,10 @@ pub record IsAlone (a : Alone) : Type 0 where
   pub in_order : Rises part_cmp (keys a.store)
   pub hidden : (pair : Pair) → hides (alone_plan a) pair ≡ true → knows (alone_plan a) pair ≡ true
 
+-- what can be published under the numbers from 1 on: objects within the limits, and withdrawals of earlier numbers
+abbrev pub ArePosts : List Post → Type 0
+ArePosts log = (i : ℕ) (post : Post) → slice_get log i ≡ Some post → IsPost (i + 1) post
+
 -- the group has as many members as the member knows of
 abbrev pub IsOfGroup : GroupKeys → Alone → Type 0
 IsOfGroup g a = length g.members.names ≡ length a.known
@@ -89,21 +93,22 @@ abbrev pub next_seq : Alone → ℕ
 next_seq a = length a.log + 1
 
 -- the member's packets of its next publication
-abbrev pub new_packets : GroupKeys → NamedContents → Alone → List Packet
-new_packets g object a =
-    as_parts (a.number, next_seq a) 0 (packets (publisher_at g a.number) (next_seq a) object)
+abbrev pub new_packets : GroupKeys → Post → Alone → List Packet
+new_packets g post a =
+    as_parts (a.number, next_seq a) 0 (packets (publisher_at g a.number) (next_seq a) post)
 
-abbrev pub alone_publishes : GroupKeys → NamedContents → ℕ → ℕ → Alone → Alone
-alone_publishes g object moment draw a = record a {
-  log = a.log ++ object ∷ [];
+-- an object or a withdrawal is published: the member holds all its packets
+abbrev pub alone_publishes : GroupKeys → Post → ℕ → ℕ → Alone → Alone
+alone_publishes g post moment draw a = record a {
+  log = a.log ++ post ∷ [];
   known = slice_set a.known a.number (next_seq a);
-  store = with_packets (new_packets g object a) a.store;
+  store = with_packets (new_packets g post a) a.store;
   machine = steady_kept moment draw a.machine;
 }
 
 -- the packet of an own part that was published, whether it is still stored or not
-abbrev pub packet_in : Publisher → Part → NamedContents → Option (List ℕ)
-packet_in publisher t object = slice_get (packets publisher t.seq object) t.part
+abbrev pub packet_in : Publisher → Part → Post → Option (List ℕ)
+packet_in publisher t post = packet_at publisher t.seq post t.part
 
 abbrev pub logged : GroupKeys → Alone → Part → Option (List ℕ)
 logged g a t =
@@ -131,7 +136,8 @@ alone_fires moment draw a = record a { machine = fired_kept moment draw a.machin
 abbrev pub alone_claims : ℕ → Option Part → Alone → Alone
 alone_claims f claim a = record a { claims = slice_set a.claims (f - 1) claim }
 
--- the want of a part: a record is asked for by its publisher's name, a segment as the stored record lists it
+-- the want of a part: a record is asked for by its publisher's name, an index packet as the stored record lists it, and
+-- a segment as the stored record or index packet does
 abbrev pub want_of : GroupKeys → List Packet → Part → WantedPart
 want_of g stored t = want_at g.members.names g.name stored t
 

@@ -4,6 +4,7 @@ use Rattle.std.specs.Ordering.{nat_cmp}
 use Rattle.ndn_name.specs.Names.{IsName}
 use Rattle.sorted_lists.specs.SortedList.{value_of}
 use Rattle.repo_object.specs.Objects.{is_object_name, IsContent, IsObject}
+use Rattle.repo_object.specs.Objects.Post.{Offers}
 use Rattle.repo_process.specs.Processes.{Process, BlockState, indexes, object_of, closed, block_state}
 use Rattle.repo_process.specs.Processes.BlockState.{Unknown, Already, Waiting, Whole}
 use Rattle.repo_process.specs.Insertions.{with_process}
@@ -38,7 +39,7 @@ alone_keeps number p a = record a { insertions = with_process number p a.inserti
 abbrev pub alone_publishes_whole : GroupKeys → (number moment draw : ℕ) → Process → Alone → Alone
 alone_publishes_whole g number moment draw p a =
     if nat_lt (length a.log) publication_limit
-    then alone_publishes g (object_of p) moment draw (alone_keeps number (closed p) a) else a
+    then alone_publishes g (Offers (object_of p)) moment draw (alone_keeps number (closed p) a) else a
 
 abbrev pub after_block : GroupKeys → (number moment draw : ℕ) → Alone → BlockState → Alone
 after_block g number moment draw a Unknown = a

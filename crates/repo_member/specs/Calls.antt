@@ -10,9 +10,11 @@ use Rattle.sorted_lists.specs.SortedList.{value_of}
 use Rattle.repo_plan.specs.Plan.{hides, is_wanted, claim_of, unclaimed, first}
 use Rattle.repo_plan.specs.Calls.{IsFetcher}
 use Rattle.repo_object.specs.declared.job.Job.{Job}
-use Rattle.repo_object.specs.Objects.{NamedContents, IsContent, IsObject}
+use Rattle.repo_object.specs.Objects.{NamedContents, Post, IsContent, IsObject}
+use Rattle.repo_object.specs.Objects.Post.{Offers, Withdraws}
 use Rattle.repo_object.specs.Verdict.{CheckedPart, IsChecked, ring_verdict}
 use Rattle.repo_command.specs.Commands.{CommandIsSpelled}
+use Rattle.group_model.specs.Publications.{has_unwithdrawn}
 use Rattle.repo_member.specs.declared.refusals.HearRefusal.{HearRefusal}
 use Rattle.repo_member.specs.declared.refusals.AcceptRefusal.{AcceptRefusal}
 use Rattle.repo_member.specs.Groups.{GroupKeys, IsGroup}
@@ -28,6 +30,7 @@ use Rattle.repo_member.specs.Blocks.{alone_blocks}
 -- memory changes nothing, so it is in no list.
 pub data MemberCall : Type 0 where
   Publish : NamedContents → ℕ → ℕ → MemberCall
+  Withdraw : ℕ → ℕ → ℕ → MemberCall
   Hear : List ℕ → ℕ → ℕ → MemberCall
   JoinFrom : List ℕ → MemberCall
   Fire : ℕ → ℕ → MemberCall
@@ -68,10 +71,16 @@ abbrev pub if_accepted : ℕ → List ℕ → Alone → Result Part AcceptRefusa
 if_accepted f octets a (Ok t) = alone_accepts f t octets a
 if_accepted f octets a (Err refusal) = a
 
+-- What is published, where there is a number for it.
+abbrev pub if_numbers : GroupKeys → Post → ℕ → ℕ → Alone → Alone
+if_numbers g post moment draw a =
+    if nat_lt (length a.log) publication_limit then alone_publishes g post moment draw a else a
+
 -- The member after a call.
 abbrev pub after_call : GroupKeys → MemberCall → Alone → Alone
-after_call g (Publish object moment draw) a =
-    if nat_lt (length a.log) publication_limit then alone_publishes g object moment draw a else a
+after_call g (Publish object moment draw) a = if_numbers g (Offers object) moment draw a
+after_call g (Withdraw seq moment draw) a =
+    if has_unwithdrawn a.log seq then if_numbers g (Withdraws seq) moment draw a else a
 after_call g (Hear octets moment draw) a = if_heard moment draw a (hear_verdict g a octets)
 after_call g (JoinFrom octets) a = if_joined a (hear_verdict g a octets)
 after_call g (Fire moment draw) a = alone_fires moment draw a
@@ -92,10 +101,11 @@ after_calls g (call ∷ calls) a = after_calls g calls (after_call g call a)
 
 -- ---- which calls can be made
 
--- The conditions of a call, but for those that keep moments and draws small. A checked part passed its checks by its
--- type, and so is the name in a command a name.
+-- The conditions of a call, but for those that keep moments, draws and lists of jobs small. A checked part passed its
+-- checks by its type, and so is the name in a command a name.
 abbrev pub IsAllowedCall : GroupKeys → Alone → MemberCall → Type 0
 IsAllowedCall g a (Publish object moment draw) = IsObject object
+IsAllowedCall g a (Withdraw seq moment draw) = Unit {0}
 IsAllowedCall g a (Hear octets moment draw) = Unit {0}
 IsAllowedCall g a (JoinFrom octets) = Unit {0}
 IsAllowedCall g a (Fire moment draw) = Unit {0}
@@ -125,19 +135,24 @@ InEveryMember P = (g : GroupKeys) (number moment draw : ℕ) (calls : List Membe
 -- ---- what is published
 
 -- A log has the earlier one as its front, and so is no shorter.
-pub record GoesOn (earlier log : List NamedContents) : Type 0 where
+pub record GoesOn (earlier log : List Post) : Type 0 where
   pub front : take (length earlier) log ≡ earlier
   pub longer : length earlier ≤ length log
 
 abbrev pub LogsGoOn : Type 0
 LogsGoOn = (g : GroupKeys) (calls : List MemberCall) (a : Alone) → GoesOn a.log (after_calls g calls a).log
 
--- The publication that is made after `n` others has the number `n + 1`, and its object stands at place `n` from then
--- on.
+-- The object that is published after `n` publications has the number `n + 1`, and stands at place `n` from then on.
 abbrev pub PublicationsStay : Type 0
 PublicationsStay = (g : GroupKeys) (object : NamedContents) (moment draw : ℕ) (calls : List MemberCall) (a : Alone)
     → length a.log < publication_limit
-    → slice_get (after_calls g (Publish object moment draw ∷ calls) a).log (length a.log) ≡ Some object
+    → slice_get (after_calls g (Publish object moment draw ∷ calls) a).log (length a.log) ≡ Some (Offers object)
+
+-- So does the withdrawal of an object that was not withdrawn.
+abbrev pub WithdrawalsStay : Type 0
+WithdrawalsStay = (g : GroupKeys) (seq moment draw : ℕ) (calls : List MemberCall) (a : Alone)
+    → has_unwithdrawn a.log seq ≡ true → length a.log < publication_limit
+    → slice_get (after_calls g (Withdraw seq moment draw ∷ calls) a).log (length a.log) ≡ Some (Withdraws seq)
 
 -- The packet of a part that was published stays what it is.
 abbrev pub LoggedPacketsStay : Type 0

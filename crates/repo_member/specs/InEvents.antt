@@ -7,6 +7,7 @@ use Rattle.repo_plan.specs.Parts.{part_cmp}
 use Rattle.sorted_lists.specs.SortedList.{contains}
 use Rattle.repo_plan.specs.Plan.{claim_of, unclaimed, first}
 use Rattle.repo_object.specs.Objects.{NamedContents}
+use Rattle.repo_object.specs.Objects.Post.{Offers, Withdraws}
 use Rattle.repo_command.specs.declared.command.Command.{Command}
 use Rattle.group_model.specs.Publications.{Logs}
 use Rattle.group_model.specs.Events.{SyncInterest, Came, Event}
@@ -43,7 +44,13 @@ abbrev pub PublishIsEvent : Type 0
 PublishIsEvent = (out : Outside) (w : World) (j : ℕ) (g : GroupKeys) (object : NamedContents) (a : Alone)
     → IsMemberOf w j a → StoresInOrder a
     → member (after_event out w (Event.Publish j object)) j
-    ≡ in_group (alone_publishes g object w.moment (drawn out w j) a)
+    ≡ in_group (alone_publishes g (Offers object) w.moment (drawn out w j) a)
+
+abbrev pub WithdrawIsEvent : Type 0
+WithdrawIsEvent = (out : Outside) (w : World) (j seq : ℕ) (g : GroupKeys) (a : Alone)
+    → IsMemberOf w j a → StoresInOrder a
+    → member (after_event out w (Event.Withdraw j seq)) j
+    ≡ in_group (alone_publishes g (Withdraws seq) w.moment (drawn out w j) a)
 
 abbrev pub DeliverIsEvent : Type 0
 DeliverIsEvent = (out : Outside) (w : World) (k j : ℕ) (a : Alone) → IsMemberOf w j a

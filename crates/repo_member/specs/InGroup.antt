@@ -1,5 +1,6 @@
 -- A member by itself and the same member as its group has it.
-use Rattle.std.specs.Prelude.{◌≡◌, ℕ, ◌<◌, ◌≤◌, ◌↔◌, true, List, [], ◌∷◌, ◌++◌, map, filter, length, take, replicate}
+use Rattle.std.specs.Prelude.{◌≡◌, ℕ, ◌+◌, ◌<◌, ◌≤◌, ◌↔◌, true, List, [], ◌∷◌, ◌++◌, map, filter, length, take}
+use Rattle.std.specs.Prelude.{replicate}
 use Rattle.std.specs.Prelude.{Option, Some, None, is_some, slice_index_or, slice_set, if◌then◌else◌}
 use Rattle.std.specs.List.{All}
 use Rattle.svs_vector.specs.Vectors.{join}
@@ -11,22 +12,22 @@ use Rattle.repo_plan.specs.Parts.{part_cmp, pair_of}
 use Rattle.sorted_lists.specs.SortedList.{keys, contains, value_of, Rises}
 use Rattle.repo_plan.specs.Plan.{wanted}
 use Rattle.ndn_name.specs.Names.{Component}
-use Rattle.repo_object.specs.Objects.{NamedContents, IsObject}
+use Rattle.repo_object.specs.Objects.{Post, IsPost}
 use Rattle.repo_process.specs.Processes.{Process}
 use Rattle.repo_process.specs.Insertions.{next_number}
 use Rattle.repo_object.specs.Publication.{packet_at}
-use Rattle.group_model.specs.Publications.{Logs, object_at, last_of}
+use Rattle.group_model.specs.Publications.{Logs, post_at, last_of}
 use Rattle.group_model.specs.Member.{Member, member_holds, catalogue, catalogued_under, gains, member_hides_all}
 use Rattle.group_model.specs.Member.{with_each_tried, member_without_claims}
 use Rattle.group_model.specs.Member as group_member
 use Rattle.group_model.specs.Sound.{IsPublished, IsSoundMember}
-use Rattle.group_model.specs.Wanted.{IsWantedPart}
+use Rattle.group_model.specs.Wanted.{IsWantedPart, HoldsRecords}
 use Rattle.group_model.specs.Changes as group
 use Rattle.group_model.specs.World.{Outside, member, opening_world}
 use Rattle.group_model.specs.Steps.{can_start}
 use Rattle.repo_member.specs.Groups.{GroupKeys, IsGroup, publisher_at}
 use Rattle.repo_holdings.specs.Listed.{alone_catalogue}
-use Rattle.repo_member.specs.Alone.{Alone, publication_limit, alone_plan, alone_opening, alone_publishes}
+use Rattle.repo_member.specs.Alone.{Alone, ArePosts, publication_limit, alone_plan, alone_opening, alone_publishes}
 use Rattle.repo_holdings.specs.Taking.{Fetched}
 use Rattle.repo_member.specs.Alone.{alone_learns, alone_hears, alone_fires, alone_claims, alone_accepts, alone_takes}
 use Rattle.repo_member.specs.Alone.{alone_ends_claims, alone_resets, alone_restarts}
@@ -59,10 +60,10 @@ abbrev pub BeginsAlike : Type 0
 BeginsAlike =
     (out : Outside) (n j : ℕ) → j < n → in_group (alone_opening n j 0 (out.draw j 0)) ≡ member (opening_world out n) j
 
--- It publishes an object, and stores all its packets.
+-- It publishes an object or a withdrawal, and stores all its packets.
 abbrev pub PublishesAlike : Type 0
-PublishesAlike = (g : GroupKeys) (object : NamedContents) (moment draw : ℕ) (a : Alone) → StoresInOrder a
-    → in_group (alone_publishes g object moment draw a) ≡ group.publishes draw moment a.number object (in_group a)
+PublishesAlike = (g : GroupKeys) (post : Post) (moment draw : ℕ) (a : Alone) → StoresInOrder a
+    → in_group (alone_publishes g post moment draw a) ≡ group.publishes draw moment a.number post (in_group a)
 
 -- It is told of a vector.
 abbrev pub HearsAlike : Type 0
@@ -142,17 +143,17 @@ KeepsAlike = (number : ℕ) (p : Process) (a : Alone)
 
 -- ---- what is stored and what was published
 
--- What the members of a group can have published: as many logs as there are members, of objects within the limits, and
--- no more of them than there are numbers.
+-- What the members of a group can have published: as many logs as there are members, of objects within the limits and
+-- withdrawals of earlier numbers, and no more of them than there are numbers.
 pub record AreLogs (g : GroupKeys) (logs : Logs) : Type 0 where
   pub group : IsGroup g
   pub width : length logs ≡ length g.members.names
-  pub objects : All (All IsObject) logs
+  pub posts : All ArePosts logs
   pub few : All (λ log. length log ≤ publication_limit) logs
 
 -- The packet of a part, as its publisher makes it.
 abbrev pub true_packet : GroupKeys → Logs → Part → Option (List ℕ)
-true_packet g logs t = packet_at (publisher_at g t.publisher) t.seq (object_at logs (pair_of t)) t.part
+true_packet g logs t = packet_at (publisher_at g t.publisher) t.seq (post_at logs (pair_of t)) t.part
 
 -- Each stored packet is that of its part.
 abbrev pub AreItsPackets : GroupKeys → Logs → Alone → Type 0
@@ -176,10 +177,11 @@ abbrev pub PlansAlike : Type 0
 PlansAlike = (g : GroupKeys) (logs : Logs) (a : Alone) → AreLogs g logs → StoresTruly g logs a
     → alone_plan a ≡ group_member.plan_of logs (in_group a)
 
--- So it wants the records of the known publications, and the published segments of those whose records it holds, that
--- it neither holds nor hides.
+-- So it wants the records of the known publications, and the published parts that those or index packets list which it
+-- holds, that it neither holds nor hides.
 abbrev pub WantsAlike : Type 0
 WantsAlike = (g : GroupKeys) (logs : Logs) (a : Alone) (t : Part) → AreLogs g logs → StoresTruly g logs a
+    → HoldsRecords (in_group a)
     → (contains part_cmp (wanted (alone_plan a)) t ≡ true) ↔ IsWantedPart logs (in_group a) t
 
 -- Its catalogue, which reads the stored packets, is the group's catalogue of that member.
@@ -218,11 +220,11 @@ abbrev pub GrowsTruly : Type 0
 GrowsTruly = (g : GroupKeys) (logs later : Logs) (a : Alone) → GrowInto logs later → StoresTruly g logs a
     → StoresTruly g later a
 
--- The member's log, which is the group's of its number, has the object too from now on.
+-- The member's log, which is the group's of its number, has the publication too from now on.
 abbrev pub PublishesTruly : Type 0
-PublishesTruly = (g : GroupKeys) (object : NamedContents) (moment draw : ℕ) (logs : Logs) (a : Alone)
+PublishesTruly = (g : GroupKeys) (post : Post) (moment draw : ℕ) (logs : Logs) (a : Alone)
     → a.number < length logs → slice_index_or logs a.number [] ≡ a.log → StoresTruly g logs a →
-    let published = alone_publishes g object moment draw a in
+    let published = alone_publishes g post moment draw a in
     StoresTruly g (slice_set logs a.number published.log) published
 
 -- The packet that is accepted is that of its part.
@@ -244,8 +246,8 @@ StaysTrue =
 abbrev pub LogsBegin : Type 0
 LogsBegin = (g : GroupKeys) → IsGroup g → AreLogs g (replicate (length g.members.names) [])
 
--- A member publishes one object more.
+-- A member publishes once more.
 abbrev pub LogsGrow : Type 0
-LogsGrow = (g : GroupKeys) (logs : Logs) (j : ℕ) (object : NamedContents) → AreLogs g logs → j < length logs
-    → IsObject object → last_of logs j < publication_limit
-    → AreLogs g (slice_set logs j (slice_index_or logs j [] ++ object ∷ []))
+LogsGrow = (g : GroupKeys) (logs : Logs) (j : ℕ) (post : Post) → AreLogs g logs → j < length logs
+    → IsPost (last_of logs j + 1) post → last_of logs j < publication_limit
+    → AreLogs g (slice_set logs j (slice_index_or logs j [] ++ post ∷ []))

@@ -8,6 +8,7 @@ pub use Rattle.svs_sync.specs.KeptVector
 pub use Rattle.sorted_lists.specs.SortedList
 pub use Rattle.repo_plan.specs.Parts
 pub use Rattle.repo_plan.specs.Plan
+pub use Rattle.repo_object.specs.Limits
 pub use Rattle.repo_object.specs.Objects
 pub use Rattle.repo_object.specs.Publication
 pub use Rattle.repo_object.specs.Wants
@@ -37,7 +38,7 @@ pub mod Alone
 pub mod Verdicts
 pub mod Fires
 pub use Rattle.repo_holdings.specs.Gaining
-pub use Rattle.repo_holdings.specs.StoredRecords
+pub use Rattle.repo_holdings.specs.StoredParents
 pub use Rattle.repo_holdings.specs.HoldingsState
 pub use Rattle.repo_holdings.specs.Taking
 pub use Rattle.repo_holdings.specs.WholeContents
@@ -49,6 +50,7 @@ pub mod Outcomes
 pub mod Deleting
 pub mod Commanded
 pub mod Blocks
+pub mod Posts
 pub mod Members
 pub mod InGroup
 pub mod InEvents

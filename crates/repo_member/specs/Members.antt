@@ -5,12 +5,13 @@ use Rattle.sorted_lists.specs.SortedList.{value_of}
 use Rattle.repo_process.specs.Processes.{Process, is_whole}
 use Rattle.repo_member.specs.declared.member.Member.TheInside.{Inside}
 use Rattle.repo_member.specs.Alone.{Alone, IsAlone}
+use Rattle.repo_member.specs.Posts.{posts_of, IsKeptLog}
 
 -- what a member's fields say
 abbrev pub alone : Inside → Alone
 alone m = record {
   number = m.number;
-  log = m.log.items;
+  log = posts_of m.log.items;
   known = m.vector;
   store = m.held.store;
   hidden = m.held.hidden;
@@ -25,8 +26,10 @@ abbrev pub AreWaiting : List (ℕ × Process) → Type 0
 AreWaiting processes = (number : ℕ) (p : Process) → value_of nat_cmp processes number ≡ Some p → p.published ≡ false
     → is_whole p ≡ false
 
--- what is held is of the publications that the member knows, and what is whole is published
+-- what is held is of the publications that the member knows, its objects are marked where they are withdrawn, and what
+-- is whole is published
 pub record IsMember (m : Inside) : Type 0 where
   pub alone : IsAlone (alone m)
   pub known : m.held.known ≡ m.vector
+  pub log : IsKeptLog m.log.items
   pub waiting : AreWaiting m.processes.processes

@@ -45,6 +45,10 @@ AreFetched g a [] [] [] = Unit {0}
 AreFetched g a (job ∷ jobs) (part ∷ parts) (n ∷ ns) = IsFetched g a job part n × AreFetched g a jobs parts ns
 AreFetched g a _ _ _ = ⊥
 
+-- how many jobs a fetch has at most
+abbrev pub job_limit : ℕ
+job_limit = 4096
+
 -- the outcome of a fetch that the member planned, of different parts
 pub record IsOutcome (g : GroupKeys) (a : Alone) (jobs : List Job) (parts : List (Option CheckedPart))
     (attempts : List ℕ) : Type 0 where

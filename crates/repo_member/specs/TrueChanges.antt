@@ -5,7 +5,7 @@ use Rattle.std.specs.List.{All}
 use Rattle.repo_plan.specs.declared.part.Part.{Part}
 use Rattle.repo_plan.specs.Plan.{claim_of, unclaimed, is_unclaimed, first}
 use Rattle.ndn_name.specs.Names.{Component}
-use Rattle.repo_object.specs.Objects.{NamedContents}
+use Rattle.repo_object.specs.Objects.{Post}
 use Rattle.repo_command.specs.declared.command.Command.{Command}
 use Rattle.repo_process.specs.Insertions.{Insertions}
 use Rattle.group_model.specs.Publications.{Logs, last_of}
@@ -26,11 +26,11 @@ abbrev pub BeginsTrue : Type 0
 BeginsTrue = (g : GroupKeys) (n number moment draw : ℕ) → number < n
     → IsTrueMember g (replicate n []) (alone_opening n number moment draw)
 
--- It publishes an object, and its log has it from now on.
+-- It publishes an object or a withdrawal, and its log has it from now on.
 abbrev pub PublishesTrue : Type 0
-PublishesTrue = (g : GroupKeys) (object : NamedContents) (moment draw : ℕ) (logs : Logs) (a : Alone)
+PublishesTrue = (g : GroupKeys) (post : Post) (moment draw : ℕ) (logs : Logs) (a : Alone)
     → IsTrueMember g logs a →
-    let published = alone_publishes g object moment draw a in
+    let published = alone_publishes g post moment draw a in
     IsTrueMember g (slice_set logs a.number published.log) published
 
 -- Other members publish.
@@ -38,10 +38,10 @@ abbrev pub OthersPublish : Type 0
 OthersPublish = (g : GroupKeys) (logs later : Logs) (a : Alone) → GrowInto logs later → length later ≡ length logs
     → last_of later a.number ≡ last_of logs a.number → IsTrueMember g logs a → IsTrueMember g later a
 
--- Logs grow where a member publishes an object more.
+-- Logs grow where a member publishes once more.
 abbrev pub LogsHaveGrown : Type 0
-LogsHaveGrown = (logs : Logs) (j : ℕ) (object : NamedContents) → j < length logs
-    → GrowInto logs (slice_set logs j (slice_index_or logs j [] ++ object ∷ []))
+LogsHaveGrown = (logs : Logs) (j : ℕ) (post : Post) → j < length logs
+    → GrowInto logs (slice_set logs j (slice_index_or logs j [] ++ post ∷ []))
 
 -- It is told of a vector that tells of no publication that there isn't.
 abbrev pub LearnsTrue : Type 0

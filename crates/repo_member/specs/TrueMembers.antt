@@ -1,15 +1,17 @@
 -- Members as each is in a sound group, whose stored packets are those of their parts: what the group's publications say
 -- of them.
 use Rattle.std.specs.Prelude.{◌≡◌, ℕ, ◌<◌, ◌≤◌, true, List, [], map, length, Some, unwrap_or, slice_index_or, IsOk}
-use Rattle.std.specs.Prelude.{IsSomeAnd, Ok, ◌==◌, if◌then◌else◌}
+use Rattle.std.specs.Prelude.{IsSomeAnd, Ok, nat_le, ◌==◌, if◌then◌else◌}
+use Rattle.sha2.specs.Sha256.{sha256}
 use Rattle.repo_plan.specs.declared.part.Part.{Part}
-use Rattle.repo_plan.specs.Parts.{pair_of}
+use Rattle.repo_plan.specs.Parts.{Pair, pair_of}
 use Rattle.sorted_lists.specs.SortedList.{keys}
 use Rattle.repo_plan.specs.Plan.{is_wanted, claim_of}
-use Rattle.repo_object.specs.Publication.{published_listing}
-use Rattle.repo_object.specs.Wants.{WantedPart, want_record, want_segment}
+use Rattle.repo_object.specs.Objects.{offered}
+use Rattle.repo_object.specs.Publication.{Listed, published_listing}
+use Rattle.repo_object.specs.Wants.{WantedPart, want_record, want_index, want_segment}
 use Rattle.repo_object.specs.Verdict.{ring_verdict}
-use Rattle.group_model.specs.Publications.{Logs, object_at}
+use Rattle.group_model.specs.Publications.{Logs, no_object, post_at, shape_at}
 use Rattle.group_model.specs.Sound.{IsPublished, IsPublishedPart, IsSoundMember}
 use Rattle.repo_member.specs.Groups.{GroupKeys, node_at, publisher_at}
 use Rattle.repo_holdings.specs.Records.{Packet}
@@ -26,11 +28,20 @@ pub record IsTrueMember (g : GroupKeys) (logs : Logs) (a : Alone) : Type 0 where
   pub machine : a.machine.members ≡ length logs
   pub packets : AreItsPackets g logs a
 
--- The want of a published part.
+-- What the record of a published object lists.
+abbrev pub true_listing : GroupKeys → Logs → Pair → Listed
+true_listing g logs pair =
+    published_listing (publisher_at g pair.0) pair.1 (unwrap_or (offered (post_at logs pair)) no_object)
+
+-- The want of a published part: a record is asked for by its publisher's name, an index packet as the record lists it,
+-- and a segment by the digest of its packet.
 abbrev pub true_want : GroupKeys → Logs → Part → WantedPart
 true_want g logs t =
     if t.part == 0 then want_record t (node_at g t.publisher) g.name
-    else want_segment t (published_listing (publisher_at g t.publisher) (object_at logs (pair_of t)))
+    else if nat_le t.part (shape_at logs (pair_of t)).index
+    then want_index t (true_listing g logs (pair_of t)) (node_at g t.publisher) g.name
+    else want_segment t (shape_at logs (pair_of t)) (true_listing g logs (pair_of t)).name
+    (sha256 (unwrap_or (true_packet g logs t) []))
 
 -- Parts with their packets.
 abbrev pub true_packets : GroupKeys → Logs → List Part → List Packet

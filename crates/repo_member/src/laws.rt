@@ -1,13 +1,14 @@
 ghost use Rattle.repo_plan.specs.Sound.{PlanIsSound};
 ghost use Rattle.repo_plan.specs.Calls.{ClaimsOnce};
-ghost use Rattle.repo_member.specs.Alone.{IsAlone, IsOfGroup, alone_plan};
+ghost use Rattle.repo_member.specs.Alone.{IsAlone, ArePosts, IsOfGroup, alone_plan};
 ghost use Rattle.repo_member.specs.Blocks.{AreWithinLimits};
 ghost use Rattle.repo_member.specs.InGroup.{BeginsAlike, PublishesAlike, HearsAlike, LearnsAlike, FiresAlike};
 ghost use Rattle.repo_member.specs.InGroup.{ClaimsAlike, AcceptsAlike, TakesAlike, EndsClaimsAlike, ResetsAlike};
 ghost use Rattle.repo_member.specs.InGroup.{RestartsAlike, StartsAlike, KeepsAlike, SoundStoresTruly, PlansAlike};
 ghost use Rattle.repo_member.specs.InGroup.{WantsAlike, ListsAlike, DeletesAlike, BeginsTruly, GrowsTruly};
 ghost use Rattle.repo_member.specs.InGroup.{PublishesTruly, AcceptsTruly, TakesTruly, StaysTrue, LogsBegin, LogsGrow};
-ghost use Rattle.repo_member.specs.InEvents.{PublishIsEvent, DeliverIsEvent, HearIsEvent, FireIsEvent, RestartIsEvent};
+ghost use Rattle.repo_member.specs.InEvents.{PublishIsEvent, WithdrawIsEvent, DeliverIsEvent, HearIsEvent};
+ghost use Rattle.repo_member.specs.InEvents.{FireIsEvent, RestartIsEvent};
 ghost use Rattle.repo_member.specs.InEvents.{ClaimIsEvent, LoseIsEvent, AnswerIsEvent, FeedIsEvent, FetchIsEvent};
 ghost use Rattle.repo_member.specs.InEvents.{OrderIsEvent, OrderIsAnswered, IssueIsEvent, IssueIsAnswered};
 ghost use Rattle.repo_member.specs.InEvents.{BlockIsEvent, BlockStatesAlike, LearnsAtOnce, LearnsWhatAllKnow};
@@ -22,7 +23,8 @@ ghost use Rattle.repo_member.specs.TrueChanges.{ResetsTrue, RestartsTrue, EndsCl
 ghost use Rattle.repo_member.specs.TrueChanges.{AcceptsTrue, TakesTrue};
 ghost use Rattle.repo_member.specs.TrueSyncs.{KeysAreFound, SyncsAreTold, SyncsAreTaken};
 ghost use Rattle.repo_member.specs.Commanded.{MadeOrdersAreTaken, OrdersBeyondAreMalformed};
-ghost use Rattle.repo_member.specs.Calls.{LogsGoOn, PublicationsStay, LoggedPacketsStay, NumbersNeverFall};
+ghost use Rattle.repo_member.specs.Calls.{LogsGoOn, PublicationsStay, WithdrawalsStay, LoggedPacketsStay};
+ghost use Rattle.repo_member.specs.Calls.{NumbersNeverFall};
 ghost use Rattle.repo_member.specs.Calls.{KnownIsTheJoin, InEveryMember, HeldPacketsStay, HiddenForGood, HiddenIsGone};
 ghost use Rattle.repo_member.specs.Calls.{OthersPassed, OwnStored};
 
@@ -75,6 +77,7 @@ pub fn truly_stored_lasts()
 /// world says of it there is what the member says. In a settle vectors and parts may come in any order.
 pub fn calls_are_events()
     ensures publish { PublishIsEvent }
+    ensures withdraw { WithdrawIsEvent }
     ensures deliver { DeliverIsEvent }
     ensures hear { HearIsEvent }
     ensures fire { FireIsEvent }
@@ -110,11 +113,12 @@ pub fn made_orders_are_taken()
 pub fn publications_last()
     ensures log { LogsGoOn }
     ensures numbers { PublicationsStay }
+    ensures withdrawals { WithdrawalsStay }
     ensures packets { LoggedPacketsStay }
 {}
 
 /// No number that a member knows falls, whatever is called. What it knows is the join of what it knew and of the
-/// vectors that it was told and took; of itself it knows how many objects it published.
+/// vectors that it was told and took; of itself it knows how often it published.
 pub fn vectors_only_rise()
     ensures rise { NumbersNeverFall }
     ensures join { KnownIsTheJoin }
@@ -126,9 +130,9 @@ pub fn claims_differ()
 {}
 
 /// In every member that calls reach, a stored packet of another publisher's part passes for the want that the member
-/// has of that part now, which for a segment is of what the stored record lists. Of its own parts it stores those that
-/// it published and did not hide, as they were published. What is stored stays, whatever is called, as long as its
-/// publication is not hidden.
+/// has of that part now, which for a part behind a record is of what the stored record or index packet lists. Of its
+/// own parts it stores those that it published and did not hide, as they were published. What is stored stays, whatever
+/// is called, as long as its publication is not hidden.
 pub fn held_parts_passed_their_checks()
     ensures others { InEveryMember OthersPassed }
     ensures own { InEveryMember OwnStored }
@@ -142,12 +146,13 @@ pub fn hidden_publications_are_gone()
     ensures gone { InEveryMember HiddenIsGone }
 {}
 
-/// Every member that calls reach is one of its group, knows all that it published, and has a sound plan. Its insertion
-/// processes are within the limits of objects.
+/// Every member that calls reach is one of its group, knows all that it published, and has a sound plan. Its objects
+/// and insertion processes are within the limits, and its withdrawals are of earlier numbers.
 pub fn calls_keep_members_sound()
     ensures alone { InEveryMember (λ g a. IsAlone a) }
     ensures group { InEveryMember IsOfGroup }
     ensures plan { InEveryMember (λ g a. PlanIsSound (alone_plan a)) }
+    ensures posts { InEveryMember (λ g a. ArePosts a.log) }
     ensures insertions { InEveryMember (λ g a. AreWithinLimits a.insertions.processes) }
 {}
 

@@ -7,6 +7,7 @@ mod group_fault;
 mod laws;
 mod member;
 mod nodes;
+mod post;
 mod refusals;
 
 pub use group::Group;
@@ -20,4 +21,4 @@ pub use laws::{
     truly_stored_lasts, vectors_only_rise,
 };
 pub use member::{Answered, Blocked, Fire, Kept, Member, Published};
-pub use refusals::{AcceptRefusal, HearRefusal, PublishRefusal, WantFault};
+pub use refusals::{AcceptRefusal, HearRefusal, PublishRefusal, WantFault, WithdrawRefusal};

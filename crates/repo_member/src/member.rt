@@ -14,6 +14,7 @@ mod publishing;
 mod syncing;
 
 use crate::group::Group;
+use crate::post::Post;
 pub use block::Blocked;
 pub use command::Answered;
 use ndn_name::PacketFault;
@@ -21,7 +22,6 @@ pub use outcome::Kept;
 pub use publishing::Published;
 use repo_catalog::Catalogue;
 use repo_holdings::Holdings;
-use repo_object::Object;
 use repo_plan::Part;
 use repo_process::Processes;
 use std::alloc::{AllocError, Global};
@@ -37,7 +37,7 @@ pub use syncing::Fire;
 #[derive(Drop)]
 pub struct Member {
     number: u32,
-    log: Vec<Object>,
+    log: Vec<Post>,
     vector: Vector,
     machine: Machine,
     held: Holdings,
@@ -82,7 +82,7 @@ impl Member {
         })
     }
 
-    /// The objects that the member published or wholly fetched.
+    /// The objects that the member published or wholly fetched, and that it does not know to be withdrawn.
     pub fn catalogue(&self) -> &Catalogue
         ensures { result.now.entries ≡ alone_catalogue self.now.store }
     {
@@ -112,7 +112,7 @@ impl Member {
         self.machine.next_draw()
     }
 
-    /// How many objects the member published: at most 65,535.
+    /// How often the member published, objects and withdrawals: at most 65,535 times.
     pub fn log_len(&self) -> u32
         ensures len { result ≡ length self.now.log }
         ensures small { result < 2 ^ 16 }

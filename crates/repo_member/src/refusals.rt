@@ -24,6 +24,30 @@ impl From<AllocError> for PublishRefusal {
     }
 }
 
+/// Why an object was not withdrawn, in the order of the tests.
+#[derive(Clone, Copy, Debug, PartialEq, Eq, Error)]
+pub enum WithdrawRefusal {
+    /// No object was published under the number, or it is withdrawn already.
+    #[error("there is no object of number {seq} that is not withdrawn")]
+    NoSuchNumber { seq: u16 },
+    /// The log has 65,535 publications, which is as far as the numbers go.
+    #[error("all numbers are spent: the log has {log} publications")]
+    NumbersSpent { log: u32 },
+    #[error("out of memory")]
+    NoMemory,
+}
+
+impl From<AllocError> for WithdrawRefusal {
+    ghost use Rattle.std.specs.Prelude.{◌≡◌};
+    ghost use Rattle.repo_member.specs.declared.refusals.WithdrawRefusal.TheVariants.{NoMemory};
+
+    ghost from_gives = { λ _ refusal. refusal ≡ NoMemory };
+
+    fn from(_: AllocError) -> WithdrawRefusal {
+        WithdrawRefusal::NoMemory
+    }
+}
+
 /// Why a sync Interest was not taken, in the order of the tests.
 #[derive(Clone, Copy, Debug, PartialEq, Eq, Error)]
 pub enum HearRefusal {

@@ -2,7 +2,6 @@
 use Rattle.std.proofs.Common.{◌≡◌, ℕ, ◌-◌, ◌^◌, ◌<◌, ◌≤◌, false, List, [], ◌∷◌, ◌++◌, length, length-append, Option}
 use Rattle.std.proofs.Common.{Some, None, slice_get, Ok, sym, ap, ◌∙◌, inl, inr, arith}
 use Rattle.std.specs.Prelude.{IfSome}
-use Rattle.std.proofs.lemmas.Option.{slice_get_within}
 use Rattle.sha2.specs.Sha256.{sha256}
 use Rattle.ndn_tlv.specs.Spelling.{element}
 use Rattle.ndn_tlv.specs.NumberField.{number_field}
@@ -14,14 +13,15 @@ use Rattle.ndn_interest.specs.Interest.{interest_of}
 use Rattle.ndn_interest.specs.WrittenInterest.{written_plain, read_plain}
 use Rattle.ndn_interest.proofs.ReadBackLemmas.{plain_again}
 use Rattle.repo_plan.specs.declared.part.Part.{Part}
+use Rattle.repo_plan.specs.declared.shape.Shape.{Shape}
 use Rattle.repo_object.specs.Objects.{IsShortName, record_name, segment_name}
 use Rattle.repo_object.specs.Publication.{Listed}
-use Rattle.repo_object.specs.Records.{IsListing}
-use Rattle.repo_object.specs.Wants.{WantedPart, asked_name, want_record, want_segment}
+use Rattle.repo_object.specs.Formats.{IsListing}
+use Rattle.repo_object.specs.Wants.{WantedPart, asked_name, want_record, want_index, want_segment}
 use Rattle.repo_object.specs.Verdict.{Passes}
 use Rattle.repo_object.proofs.Sizes.{element-at_most, named_short, pushed-size}
-use Rattle.repo_object.proofs.NameLemmas.{IsName-number}
 use Rattle.repo_object.proofs.PacketSizes.{record_name-size, segment_name-size}
+use Rattle.repo_object.proofs.WantLemmas.{record_valid, segment_valid}
 
 -- ---- a packet that passes is asked for
 
@@ -57,23 +57,15 @@ pub record_interest : (part : Part) (node group : List Component) → IsShortNam
     → part.seq < 2 ^ 16
     → interest_of (want_record part node group).interest ≡ Ok (read_plain (record_name node group part.seq) false)
 record_interest part node group short_node short_group low =
-    let valid =
-    IsName-number (node ++ group) 0x3a part.seq (IsName-append node group short_node.0 short_group.0) (omega arith)
-    (omega arith) low in
-    interest_again (record_name node group part.seq) valid
+    interest_again (record_name node group part.seq) (record_valid node group part.seq short_node.0 short_group.0 low)
     (omega (arith, length-append (node ++ group) ((0x3a, number_field part.seq) ∷ [])))
     (omega (arith, record_name-size node group part.seq short_node.1 short_group.1 low))
 
-pub segment_interest : (part : Part) (l : Listed) (digest : List ℕ) → IsListing l
-    → slice_get l.digests (part.part - 1) ≡ Some digest → length digest ≡ 32 → IsOctets digest
-    → interest_of (want_segment part l).interest
-    ≡ Ok (read_plain (full_name (segment_name l.name (part.part - 1)) digest) false)
-segment_interest part l digest within at long fits =
-    let i = part.part - 1 in
-    let in_range = slice_get_within l.digests i digest at in
-    let low : i < 2 ^ 8 = omega (arith, in_range, within.few) in
-    let name = segment_name l.name i in
-    let named = IsName-number l.name 0x32 i within.name (omega arith) (omega arith) (omega (arith, low)) in
+-- the Interest for a full name
+full_interest : (name : List Component) (digest : List ℕ) → IsName name → length (encoding name) ≤ 900
+    → length digest ≡ 32 → IsOctets digest
+    → interest_of (written_plain (full_name name digest) false) ≡ Ok (read_plain (full_name name digest) false)
+full_interest name digest named short long fits =
     let component : IsComponent (1, digest) = record {
       above = omega arith;
       below = omega arith;
@@ -83,6 +75,32 @@ segment_interest part l digest within at long fits =
     } in
     let valid = IsName-append name ((1, digest) ∷ []) named (component, tt) in
     let size = pushed-size name 1 digest (omega arith) (omega (arith, long)) in
+    interest_again (full_name name digest) valid (omega (arith, length-append name ((1, digest) ∷ [])))
+    (omega (arith, size, long, short))
+
+pub index_interest : (part : Part) (l : Listed) (digest : List ℕ) (node group : List Component) → IsShortName node
+    → IsShortName group → part.seq < 2 ^ 16 → part.part < 2 ^ 16
+    → slice_get l.digests (part.part - 1) ≡ Some digest → length digest ≡ 32 → IsOctets digest
+    → interest_of (want_index part l node group).interest
+    ≡ Ok (read_plain (full_name (segment_name (record_name node group part.seq) (part.part - 1)) digest) false)
+index_interest part l digest node group short_node short_group low low_part at long fits =
+    let record_ = record_name node group part.seq in
+    let name = segment_name record_ (part.part - 1) in
     ap (λ (d : Option (List ℕ)). interest_of (written_plain (asked_name name d) false)) at
-    ∙ interest_again (full_name name digest) valid (omega (arith, length-append name ((1, digest) ∷ [])))
-    (omega (arith, size, long, segment_name-size l.name i low, named_short l.name within.named))
+    ∙ full_interest name digest
+    (segment_valid record_ (part.part - 1) (record_valid node group part.seq short_node.0 short_group.0 low)
+    (omega (arith, low_part)))
+    (omega (
+      arith,
+      segment_name-size record_ (part.part - 1) (omega (arith, low_part)),
+      record_name-size node group part.seq short_node.1 short_group.1 low,
+    )) long fits
+
+pub segment_interest : (part : Part) (shape : Shape) (l : Listed) (digest : List ℕ) → IsListing l
+    → part.part < 2 ^ 16 → length digest ≡ 32 → IsOctets digest
+    → interest_of (want_segment part shape l.name digest).interest
+    ≡ Ok (read_plain (full_name (segment_name l.name (part.part - shape.index - 1)) digest) false)
+segment_interest part shape l digest within low long fits =
+    let i = part.part - shape.index - 1 in
+    full_interest (segment_name l.name i) digest (segment_valid l.name i within.name (omega (arith, low)))
+    (omega (arith, segment_name-size l.name i (omega (arith, low)), named_short l.name within.named)) long fits

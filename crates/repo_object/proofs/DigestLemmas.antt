@@ -1,5 +1,6 @@
 -- The digests of a record, one field after another.
-use Rattle.std.proofs.Common.{◌≡◌, ℕ, ◌+◌, eqb, List, [], ◌∷◌, length, Option, Some, None, option_map, refl, ap, sym}
+use Rattle.std.proofs.Common.{◌≡◌, ℕ, ◌+◌, eqb, Bool, List, [], ◌∷◌, length, Option, Some, None, option_map, refl, ap}
+use Rattle.std.proofs.Common.{sym}
 use Rattle.std.proofs.Common.{◌∙◌, inl, inr, arith}
 use Rattle.std.proofs.lemmas.Bool.{eq-eqb, ne_eqb, cases_eq}
 use Rattle.ndn_tlv.specs.declared.order_table.FieldFault.{FieldFault}
@@ -30,31 +31,34 @@ counts-full : (d : List ℕ) (o : Option (List (List ℕ))) → counts 0 (with_d
 counts-full d None = refl
 counts-full d (Some digests) = rw (ne_eqb (length (d ∷ digests)) 0 (λ e. absurd (omega arith))) refl
 
-module _ (n : ℕ) (fields : Fields) where
-  pub counted-fault : (f : FieldFault) → fields ≡ only_fault f → counted_digests n fields ≡ None
+module _ (indexes : Bool) (n : ℕ) (fields : Fields) where
+  pub counted-fault : (f : FieldFault) → fields ≡ only_fault f → counted_digests indexes n fields ≡ None
   unfolding digests_among
-  counted-fault f is = ap (counted_digests n) is
+  counted-fault f is = ap (counted_digests indexes n) is
 
-  pub counted-end : fields ≡ nothing → n ≡ 0 → counted_digests n fields ≡ Some []
+  pub counted-end : fields ≡ nothing → n ≡ 0 → counted_digests indexes n fields ≡ Some []
   unfolding digests_among
-  counted-end is zero = ap (counted_digests n) is ∙ rw zero refl
+  counted-end is zero = ap (counted_digests indexes n) is ∙ rw zero refl
 
-  pub counted-early : fields ≡ nothing → (n ≡ 0 → ⊥) → counted_digests n fields ≡ None
+  pub counted-early : fields ≡ nothing → (n ≡ 0 → ⊥) → counted_digests indexes n fields ≡ None
   unfolding digests_among
-  counted-early is some = ap (counted_digests n) is ∙ rw (ne_eqb 0 n (λ e. some (sym e))) refl
+  counted-early is some = ap (counted_digests indexes n) is ∙ rw (ne_eqb 0 n (λ e. some (sym e))) refl
 
   module _ (first : RecordField × Item) (rest : Fields) (is : fields ≡ (first then rest)) where
-    pub counted-bad : digest_in first ≡ None → counted_digests n fields ≡ None
+    pub counted-bad : digest_in indexes first ≡ None → counted_digests indexes n fields ≡ None
     unfolding digests_among
-    counted-bad none = ap (counted_digests n) is ∙ rw none refl
+    counted-bad none = ap (counted_digests indexes n) is ∙ rw none refl
 
-    module _ (d : List ℕ) (good : digest_in first ≡ Some d) where
-      pub counted-full : n ≡ 0 → counted_digests n fields ≡ None
+    module _ (d : List ℕ) (good : digest_in indexes first ≡ Some d) where
+      pub counted-full : n ≡ 0 → counted_digests indexes n fields ≡ None
       unfolding digests_among
       counted-full zero =
-          ap (counted_digests n) is ∙ rw (good, zero) (counts-full d (digests_among rest.items rest.fault))
+          ap (counted_digests indexes n) is ∙ rw (good, zero) (counts-full d (digests_among indexes rest.items
+          rest.fault))
 
-      pub counted-digest : (m : ℕ) → n ≡ m + 1 → counted_digests n fields ≡ with_digest d (counted_digests m rest)
+      pub counted-digest : (m : ℕ) → n ≡ m + 1 → counted_digests indexes n fields
+          ≡ with_digest d (counted_digests indexes m rest)
       unfolding digests_among
       counted-digest m more =
-          ap (counted_digests n) is ∙ rw (good, more) (counts-more d (digests_among rest.items rest.fault) m)
+          ap (counted_digests indexes n) is ∙ rw (good, more) (counts-more d (digests_among indexes rest.items
+          rest.fault) m)

@@ -2,7 +2,8 @@
 use Rattle.std.proofs.Common.{◌≡◌, ℕ, Bool, true, false, not, cond, ◌||◌, is_some, eqb, zero, suc, ◌<◌, ◌↔◌, List, []}
 use Rattle.std.proofs.Common.{◌∷◌, ◌++◌, length, slice_get, Option, Some, None, option_map, Result, Ok, Err, IsOk, refl}
 use Rattle.std.proofs.Common.{sym, ap, subst, ◌∙◌, inl, inr, arith}
-use Rattle.std.specs.Prelude.{IfSome}
+use Rattle.std.specs.Prelude.{IsTrue, IsSome, IfSome}
+use Rattle.std.specs.Option.{option_and_then}
 use Rattle.std.proofs.lemmas.Bool.{and_parts, and_from, eqb-true, eq-eqb, cases_eq, ne_eqb}
 use Rattle.std.proofs.lemmas.Bool.Decides.{same_from_decides}
 use Rattle.std.proofs.lemmas.List.{append-nil}
@@ -21,10 +22,11 @@ use Rattle.ndn_data.specs.Data.{Data, data_of}
 use Rattle.repo_object.specs.declared.part_refusal.PartRefusal.{PartRefusal}
 use Rattle.repo_object.specs.declared.part_refusal.PartRefusal.TheVariants.{UnsignedOctets, OtherName, OtherDigest}
 use Rattle.repo_object.specs.declared.part_refusal.PartRefusal.TheVariants.{UnknownKey, BadSignature, BadRecord}
-use Rattle.repo_object.specs.Records.{listing_of}
+use Rattle.repo_object.specs.Records.{record_of, index_of}
 use Rattle.repo_object.specs.Wants.{WantedPart}
 use Rattle.repo_object.specs.Verdict.{is_all_signed, data_has_name, has_digest, locates, names_key, is_signed_by}
-use Rattle.repo_object.specs.Verdict.{lists_if_record, packet_verdict, read_packet, part_verdict, Passes, key_at}
+use Rattle.repo_object.specs.Verdict.{may_say, lists_as_many, is_well_said, packet_verdict, read_packet, part_verdict}
+use Rattle.repo_object.specs.Verdict.{Passes, key_at, content_within, said_in, index_in}
 
 abbrev passed : Data → Result Data PartRefusal
 passed d = Ok d
@@ -123,15 +125,31 @@ located_at : (key_name : List ℕ) (locator : Option (List Component)) → locat
 located_at key_name None h = absurd cc
 located_at key_name (Some name) h = (name, refl, equal (encoding name) key_name h)
 
-record_lists : (part : ℕ) (b : Bool) → (not (eqb part 0) || b) ≡ true → part ≡ 0 → b ≡ true
-record_lists part b h first = rw (eq-eqb part 0 first) at h
+record_says : (part : ℕ) (b : Bool) → (not (eqb part 0) || b) ≡ true → part ≡ 0 → b ≡ true
+record_says part b h first = rw (eq-eqb part 0 first) at h
 
-lists_record : (part : ℕ) (b : Bool) → (part ≡ 0 → b ≡ true) → (not (eqb part 0) || b) ≡ true
-lists_record part b h =
+says_record : (part : ℕ) (b : Bool) → (part ≡ 0 → b ≡ true) → (not (eqb part 0) || b) ≡ true
+says_record part b h =
     elim (cases_eq part 0) [
       | inl first ↦ rw (eq-eqb part 0 first) (h first)
       | inr other ↦ rw (ne_eqb part 0 other) refl
     ]
+
+index_lists : (count : Option ℕ) (content : List ℕ) → lists_as_many count content ≡ true
+    → IfSome count (λ n. IsSome (index_of content n))
+index_lists None content h = tt
+index_lists (Some n) content h = found (index_of content n) h where
+  found : (o : Option (List (List ℕ))) → is_some o ≡ true → IsSome o
+  found None h = absurd cc
+  found (Some digests) h = refl
+
+lists_index : (count : Option ℕ) (content : List ℕ) → IfSome count (λ n. IsSome (index_of content n))
+    → lists_as_many count content ≡ true
+lists_index None content h = refl
+lists_index (Some n) content h = found (index_of content n) h where
+  found : (o : Option (List (List ℕ))) → IsSome o → is_some o ≡ true
+  found None h = absurd cc
+  found (Some digests) h = refl
 
 read_ok : (r : Result Data PacketFault) (d : Data) → read_packet r ≡ Ok d → r ≡ Ok d
 read_ok (Ok x) d e = cc
@@ -144,9 +162,11 @@ passes want key_name key octets d h =
     let x = b.0 in
     let all =
     chain_passes (is_all_signed x) (data_has_name want.name x) (has_digest want.digest octets) (names_key key_name x)
-    (is_signed_by key x) (lists_if_record want.part.part x) x d b.2 in
+    (is_signed_by key x) (is_well_said want x) x d b.2 in
     let key_parts = and_parts (eqb x.signature_type 4) (locates key_name x.locator) all.0.key in
     let found = located_at key_name x.locator key_parts.1 in
+    let may = may_say want.part.seq (record_of x.content) in
+    let well = and_parts (not (eqb want.part.part 0) || may) (lists_as_many want.lists x.content) all.0.listing in
     subst (Passes want key_name key octets) all.1 (record {
       read = read_ok (data_of octets) x b.1;
       all_signed = equal x.value (x.signed ++ element 0x17 x.signature) all.0.all_signed;
@@ -157,7 +177,8 @@ passes want key_name key octets d h =
       located = found.1;
       key_named = found.2;
       signature = sym (equal (hmac key x.signed) x.signature all.0.signature);
-      listing = record_lists want.part.part (is_some (listing_of x.content)) all.0.listing;
+      said = record_says want.part.part may well.0;
+      listing = index_lists want.lists x.content well.1;
     })
 
 pub verdict_of : (want : WantedPart) (key_name key octets : List ℕ) (d : Data) → Passes want key_name key octets d
@@ -165,9 +186,10 @@ pub verdict_of : (want : WantedPart) (key_name key octets : List ℕ) (d : Data)
 verdict_of want key_name key octets d p =
     let located : locates key_name d.locator ≡ true =
     ap (locates key_name) p.located ∙ same_bytes (encoding p.locator) key_name p.key_named in
+    let may = may_say want.part.seq (record_of d.content) in
     ap (λ (r : Result Data PacketFault). read_packet r >>= packet_verdict want key_name key octets) p.read
     ∙ all_pass (is_all_signed d) (data_has_name want.name d) (has_digest want.digest octets) (names_key key_name d)
-    (is_signed_by key d) (lists_if_record want.part.part d) d (record {
+    (is_signed_by key d) (is_well_said want d) d (record {
       all_signed = same_bytes d.value (d.signed ++ element 0x17 d.signature) p.all_signed;
       name = same_bytes (encoding d.name) (encoding want.name) p.name;
       digest = is_digest want.digest octets p.digest;
@@ -175,7 +197,9 @@ verdict_of want key_name key octets d p =
           and_from (eqb d.signature_type 4) (locates key_name d.locator) (eq-eqb d.signature_type 4 p.signature_type)
           located;
       signature = same_bytes (hmac key d.signed) d.signature (sym p.signature);
-      listing = lists_record want.part.part (is_some (listing_of d.content)) p.listing;
+      listing =
+          and_from (not (eqb want.part.part 0) || may) (lists_as_many want.lists d.content)
+          (says_record want.part.part may p.said) (lists_index want.lists d.content p.listing);
     })
 
 pub passing_is_ok : (want : WantedPart) (key_name key octets : List ℕ) (d : Data) → Passes want key_name key octets d
@@ -189,4 +213,30 @@ passing_digest want key_name key octets = go (part_verdict want key_name key oct
   go : (r : Result Data PartRefusal) → part_verdict want key_name key octets ≡ r → IsOk r
       → IfSome want.digest (λ digest. sha256 octets ≡ digest)
   go (Ok d) e ok = (passes want key_name key octets d e).digest
+  go (Err refusal) e ok = absurd cc
+
+-- ---- what octets that pass say
+
+pub passing_said : (want : WantedPart) (key_name key octets : List ℕ) → IsOk (part_verdict want key_name key octets)
+    → want.part.part ≡ 0 → IsTrue (may_say want.part.seq (said_in octets))
+passing_said want key_name key octets = go (part_verdict want key_name key octets) refl where
+  go : (r : Result Data PartRefusal) → part_verdict want key_name key octets ≡ r → IsOk r
+      → want.part.part ≡ 0 → IsTrue (may_say want.part.seq (said_in octets))
+  go (Ok d) e ok first =
+      let p = passes want key_name key octets d e in
+      ap (λ (r : Result Data PacketFault). may_say want.part.seq (option_and_then record_of (content_within r))) p.read
+      ∙ p.said first
+  go (Err refusal) e ok first = absurd cc
+
+pub passing_index : (want : WantedPart) (key_name key octets : List ℕ) → IsOk (part_verdict want key_name key octets)
+    → IfSome want.lists (λ count. IsSome (index_in octets count))
+passing_index want key_name key octets = go (part_verdict want key_name key octets) refl where
+  go : (r : Result Data PartRefusal) → part_verdict want key_name key octets ≡ r → IsOk r
+      → IfSome want.lists (λ count. IsSome (index_in octets count))
+  go (Ok d) e ok =
+      let p = passes want key_name key octets d e in
+      let in_packet : Result Data PacketFault → ℕ → Option (List (List ℕ)) =
+      λ r count. option_and_then (λ (content : List ℕ). index_of content count) (content_within r) in
+      let P : Result Data PacketFault → Type 0 = λ r. IfSome want.lists (λ count. IsSome (in_packet r count)) in
+      subst P (sym p.read) p.listing
   go (Err refusal) e ok = absurd cc

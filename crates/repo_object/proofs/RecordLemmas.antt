@@ -1,10 +1,10 @@
--- What a content lists is what its fields say.
-use Rattle.std.proofs.Common.{◌≡◌, ℕ, ◌^◌, ◌<◌, Bool, true, false, cond, eqb, leb, List, [], ◌∷◌, length, length-append}
-use Rattle.std.proofs.Common.{map, Option, Some, None, option_map, Result, Ok, Err, refl, sym, ap, subst, ◌∙◌, arith}
-use Rattle.std.specs.Prelude.{IsSome, unwrap_or}
+-- What records and index packets say is what their fields say.
+use Rattle.std.proofs.Common.{◌≡◌, ℕ, ◌<◌, ◌↔◌, ◌^◌, Bool, true, false, cond, ◌&&◌, eqb, leb, List, [], ◌∷◌, length}
+use Rattle.std.proofs.Common.{length-append, map, Option, Some, None, option_map, Result, Ok, Err, refl, sym, ap, subst}
+use Rattle.std.proofs.Common.{◌∙◌, arith}
 use Rattle.std.specs.List.{All}
 use Rattle.std.specs.Option.{option_and_then}
-use Rattle.std.proofs.lemmas.Bool.{eq-eqb, eqb-true, le-leb, leb-true}
+use Rattle.std.proofs.lemmas.Bool.{eq-eqb, eqb-true, le-leb, leb-true, and_parts, and_from}
 use Rattle.std.proofs.lemmas.List.Elements.{All-nil, All-cons, All-head, All-tail}
 use Rattle.ndn_tlv.specs.declared.order_table.FieldFault.{FieldFault}
 use Rattle.ndn_tlv.specs.declared.order_table.FieldFault.TheVariants.{Critical}
@@ -23,18 +23,21 @@ use Rattle.ndn_packet.proofs.Gathering.{Each}
 use Rattle.repo_object.specs.declared.record_fields.RecordField.{RecordField}
 use Rattle.repo_object.specs.declared.record_fields.RecordField.TheVariants as field
 use Rattle.repo_object.specs.Objects.{is_object_name}
-use Rattle.repo_object.specs.Publication.{Listed}
-use Rattle.repo_object.specs.declared.record_fields.DigestReader.{DigestReader}
-use Rattle.repo_object.specs.Records.{record_table, that_passes, read_name, object_name_in, segment_count_in, digest_in}
-use Rattle.repo_object.specs.Records.{digests_among, counted_digests, listed_record, listing_among, record_fields}
-use Rattle.repo_object.specs.Records.{listing_of, IsDigest, IsListing, IsRow, RecordIsRead, digests_to_come, Lists}
+use Rattle.repo_object.specs.Publication.{Listed, RecordSays, is_indexed, count_listed}
+use Rattle.repo_object.specs.Publication.RecordSays.{Lists, WithdrawsNumber}
+use Rattle.repo_object.specs.Records.{record_table, that_passes, read_name, object_name_in, segment_count_in, number_in}
+use Rattle.repo_object.specs.Records.{digest_in, digests_among, counted_digests, listed_digests, listed_record}
+use Rattle.repo_object.specs.Records.{withdrawal_among, listing_among, said_among, record_fields, record_of}
+use Rattle.repo_object.specs.Records.{index_fields, index_of}
+use Rattle.repo_object.specs.Formats.{IsDigest, IsListing, IsSaid, digest_field, as_digests, values, HasListing}
+use Rattle.repo_object.specs.Formats.{HasWithdrawal, HasSaid, HasIndex}
 
-abbrev Field : Type 0
+abbrev pub Field : Type 0
 Field = RecordField × Item
 
 -- ---- the value of a step that did not fail
 
-and_then_some : {A B : Type 0} (f : A → Option B) (o : Option A) (y : B) → option_and_then f o ≡ Some y
+pub and_then_some : {A B : Type 0} (f : A → Option B) (o : Option A) (y : B) → option_and_then f o ≡ Some y
     → (x : A) × (o ≡ Some x) × (f x ≡ Some y)
 and_then_some f None y e = absurd cc
 and_then_some f (Some x) y e = (x, refl, e)
@@ -67,23 +70,29 @@ some_passes : {A : Type 0} (test : A → Bool) (o : Option A) (x : A) → o ≡ 
     → that_passes test o ≡ Some x
 some_passes test o x e h = ap (that_passes test) e ∙ rw h refl
 
+same_listing : (a b : Listing Field FieldFault) → a.items ≡ b.items → a.fault ≡ b.fault → a ≡ b
+same_listing a b i f =
+    let with_items : List Field → Listing Field FieldFault = λ items. record { items = items; fault = a.fault } in
+    let with_fault : Option FieldFault → Listing Field FieldFault =
+    λ fault. record { items = b.items; fault = fault } in
+    ap with_items i ∙ ap with_fault f
+
 -- ---- digests
 
-abbrev digest_field : Item → Field
-digest_field e = (field.Digest, e)
-
-pub record DigestFields (fields : List Field) (fault : Option FieldFault) (digests : List (List ℕ)) : Type 0 where
+pub record DigestFields (indexes : Bool) (fields : List Field) (fault : Option FieldFault) (digests : List (List ℕ))
+    : Type 0 where
   pub items : List Item
-  pub are : fields ≡ map (λ (d : Item). (field.Digest, d)) items
-  pub values : map (λ (d : Item). d.value) items ≡ digests
+  pub are : fields ≡ as_digests indexes items
+  pub values : values items ≡ digests
   pub ended : fault ≡ None
   pub long : All IsDigest digests
 
-first_digest : (first : Field) (d : List ℕ) → digest_in first ≡ Some d
-    → (first ≡ digest_field first.1) × (first.1.value ≡ d) × (length d ≡ 32)
-first_digest (field.Name, e) d h = absurd cc
-first_digest (field.SegmentCount, e) d h = absurd cc
-first_digest (field.Digest, e) d h = by_test (eqb (length e.value) 32) refl h where
+abbrev IsField : Bool → Field → List ℕ → Type 0
+IsField indexes first d = (first ≡ (digest_field indexes, first.1)) × (first.1.value ≡ d) × (length d ≡ 32)
+
+long_value : (e : Item) (d : List ℕ) → cond (eqb (length e.value) 32) (Some e.value) None ≡ Some d
+    → (e.value ≡ d) × (length d ≡ 32)
+long_value e d h = by_test (eqb (length e.value) 32) refl h where
   found : List ℕ → Option (List ℕ)
   found x = Some x
 
@@ -91,73 +100,106 @@ first_digest (field.Digest, e) d h = by_test (eqb (length e.value) 32) refl h wh
   same x y e = cc
 
   by_test : (b : Bool) → eqb (length e.value) 32 ≡ b → cond b (found e.value) None ≡ Some d
-      → (digest_field e ≡ digest_field e) × (e.value ≡ d) × (length d ≡ 32)
-  by_test true g k = let is = same e.value d k in (refl, is, ap length (sym is) ∙ eqb-true (length e.value) 32 g)
+      → (e.value ≡ d) × (length d ≡ 32)
+  by_test true g k = let is = same e.value d k in (is, ap length (sym is) ∙ eqb-true (length e.value) 32 g)
   by_test false g k = absurd cc
 
-pub digest_fields : (fields : List Field) (fault : Option FieldFault) (digests : List (List ℕ))
-    → digests_among fields fault ≡ Some digests → DigestFields fields fault digests
+first_digest : (indexes : Bool) (first : Field) (d : List ℕ) → digest_in indexes first ≡ Some d
+    → IsField indexes first d
+first_digest true (field.Withdraws, e) d h = absurd cc
+first_digest true (field.Name, e) d h = absurd cc
+first_digest true (field.SegmentCount, e) d h = absurd cc
+first_digest true (field.Digest, e) d h = absurd cc
+first_digest true (field.IndexDigest, e) d h = let v = long_value e d h in (refl, v.0, v.1)
+first_digest false (field.Withdraws, e) d h = absurd cc
+first_digest false (field.Name, e) d h = absurd cc
+first_digest false (field.SegmentCount, e) d h = absurd cc
+first_digest false (field.Digest, e) d h = let v = long_value e d h in (refl, v.0, v.1)
+first_digest false (field.IndexDigest, e) d h = absurd cc
+
+pub digest_fields : (indexes : Bool) (fields : List Field) (fault : Option FieldFault) (digests : List (List ℕ))
+    → digests_among indexes fields fault ≡ Some digests → DigestFields indexes fields fault digests
 unfolding digests_among
-digest_fields [] None digests h =
+digest_fields indexes [] None digests h =
     let none : [] ≡ digests = cc in
     record { items = []; are = refl; values = none; ended = refl; long = subst (All IsDigest) none (All-nil IsDigest) }
-digest_fields [] (Some fault) digests h = absurd cc
-digest_fields (first ∷ fields) fault digests h =
+digest_fields indexes [] (Some fault) digests h = absurd cc
+digest_fields indexes (first ∷ fields) fault digests h =
     let b =
-    and_then_some (λ (digest : List ℕ). option_map (λ (ds : List (List ℕ)). digest ∷ ds) (digests_among fields fault))
-    (digest_in first) digests h in
-    let m = mapped_some (λ (ds : List (List ℕ)). b.0 ∷ ds) (digests_among fields fault) digests b.2 in
-    let rest = digest_fields fields fault m.0 m.1 in
-    let here = first_digest first b.0 b.1 in
+    and_then_some
+    (λ (digest : List ℕ). option_map (λ (ds : List (List ℕ)). digest ∷ ds) (digests_among indexes fields fault))
+    (digest_in indexes first) digests h in
+    let m = mapped_some (λ (ds : List (List ℕ)). b.0 ∷ ds) (digests_among indexes fields fault) digests b.2 in
+    let rest = digest_fields indexes fields fault m.0 m.1 in
+    let here = first_digest indexes first b.0 b.1 in
     record {
       items = first.1 ∷ rest.items;
-      are = ap (λ (x : Field). x ∷ fields) here.0 ∙ ap (λ (xs : List Field). (field.Digest, first.1) ∷ xs) rest.are;
+      are = ap (λ (x : Field). x ∷ fields) here.0 ∙ ap (λ (xs : List Field). (digest_field indexes, first.1) ∷ xs)
+          rest.are;
       values =
-          ap (λ (x : List ℕ). x ∷ map (λ (d : Item). d.value) rest.items) here.1
+          ap (λ (x : List ℕ). x ∷ values rest.items) here.1
           ∙ ap (λ (xs : List (List ℕ)). b.0 ∷ xs) rest.values
           ∙ m.2;
       ended = rest.ended;
       long = subst (All IsDigest) m.2 (All-cons IsDigest b.0 m.0 here.2 rest.long);
     }
 
-digests_of_fields : (items : List Item) → All IsDigest (map (λ (d : Item). d.value) items)
-    → digests_among (map (λ (d : Item). (field.Digest, d)) items) None ≡ Some (map (λ (d : Item). d.value) items)
+digests_of_fields : (indexes : Bool) (items : List Item) → All IsDigest (values items)
+    → digests_among indexes (as_digests indexes items) None ≡ Some (values items)
 unfolding digests_among
-digests_of_fields [] long = refl
-digests_of_fields (e ∷ es) long =
-    let rest = digests_of_fields es (All-tail IsDigest e.value (map (λ (d : Item). d.value) es) long) in
-    rw (eq-eqb (length e.value) 32 (All-head IsDigest e.value (map (λ (d : Item). d.value) es) long), rest) refl
+digests_of_fields indexes [] long = refl
+digests_of_fields true (e ∷ es) long =
+    let rest = digests_of_fields true es (All-tail IsDigest e.value (values es) long) in
+    rw (eq-eqb (length e.value) 32 (All-head IsDigest e.value (values es) long), rest) refl
+digests_of_fields false (e ∷ es) long =
+    let rest = digests_of_fields false es (All-tail IsDigest e.value (values es) long) in
+    rw (eq-eqb (length e.value) 32 (All-head IsDigest e.value (values es) long), rest) refl
+
+-- so many digests, where the fields are so many and no fault ends them
+counted_fields : (indexes : Bool) (n : ℕ) (items : List Item) (digests : List (List ℕ)) → values items ≡ digests
+    → All IsDigest digests → length digests ≡ n
+    → counted_digests indexes n (record { items = as_digests indexes items; fault = None }) ≡ Some digests
+counted_fields indexes n items digests same are many =
+    some_passes (λ (ds : List (List ℕ)). eqb (length ds) n) (digests_among indexes (as_digests indexes items) None)
+    digests
+    (digests_of_fields indexes items (subst (All IsDigest) (sym same) are) ∙ ap (λ (ds : List (List ℕ)). all ds) same)
+    (eq-eqb (length digests) n many)
+  where
+    all : List (List ℕ) → Option (List (List ℕ))
+    all ds = Some ds
 
 -- ---- the fields of a record
 
-abbrev found : Listed → Option Listed
-found l = Some l
-
--- what is left of a listing behind its first two fields
-abbrev listing_of_fields : Item → Item → List Field → Option FieldFault → Option Listed
-listing_of_fields n c ds fault =
-    option_and_then (λ (name : List Component).
-    option_and_then
-    (λ (count : ℕ). option_map (listed_record name) (counted_digests count (record { items = ds; fault = fault })))
-    (segment_count_in c))
-    (object_name_in n)
-
-record Begins (fields : List Field) (fault : Option FieldFault) (l : Listed) : Type 0 where
+record BeginsNamed (fields : List Field) (fault : Option FieldFault) (l : Listed) : Type 0 where
   name : Item
   count : Item
   digests : List Field
   are : fields ≡ (field.Name, name) ∷ (field.SegmentCount, count) ∷ digests
-  lists : listing_of_fields name count digests fault ≡ Some l
+  lists : listing_among name count digests fault ≡ Some (Lists l)
 
-begins : (fields : List Field) (fault : Option FieldFault) (l : Listed) → listing_among fields fault ≡ Some l
-    → Begins fields fault l
-begins [] fault l h = absurd cc
-begins ((field.SegmentCount, e) ∷ fs) fault l h = absurd cc
-begins ((field.Digest, e) ∷ fs) fault l h = absurd cc
-begins ((field.Name, n) ∷ []) fault l h = absurd cc
-begins ((field.Name, n) ∷ (field.Name, c) ∷ ds) fault l h = absurd cc
-begins ((field.Name, n) ∷ (field.Digest, c) ∷ ds) fault l h = absurd cc
-begins ((field.Name, n) ∷ (field.SegmentCount, c) ∷ ds) fault l h =
+withdraws_no_listing : (w : Item) (fields : List Field) (fault : Option FieldFault) (l : Listed)
+    → withdrawal_among w fields fault ≡ Some (Lists l) → ⊥
+withdraws_no_listing w [] None l h =
+    let m = mapped_some (λ (n : ℕ). WithdrawsNumber n) (number_in w) (Lists l) h in other m.0 m.2
+  where
+    other : (n : ℕ) → WithdrawsNumber n ≡ Lists l → ⊥
+    other n e = cc
+withdraws_no_listing w [] (Some f) l h = cc
+withdraws_no_listing w (f ∷ fs) fault l h = cc
+
+begins_named : (fields : List Field) (fault : Option FieldFault) (l : Listed) → said_among fields fault ≡ Some (Lists l)
+    → BeginsNamed fields fault l
+begins_named [] fault l h = absurd cc
+begins_named ((field.Withdraws, w) ∷ fs) fault l h = absurd (withdraws_no_listing w fs fault l h)
+begins_named ((field.SegmentCount, e) ∷ fs) fault l h = absurd cc
+begins_named ((field.Digest, e) ∷ fs) fault l h = absurd cc
+begins_named ((field.IndexDigest, e) ∷ fs) fault l h = absurd cc
+begins_named ((field.Name, n) ∷ []) fault l h = absurd cc
+begins_named ((field.Name, n) ∷ (field.Withdraws, c) ∷ ds) fault l h = absurd cc
+begins_named ((field.Name, n) ∷ (field.Name, c) ∷ ds) fault l h = absurd cc
+begins_named ((field.Name, n) ∷ (field.Digest, c) ∷ ds) fault l h = absurd cc
+begins_named ((field.Name, n) ∷ (field.IndexDigest, c) ∷ ds) fault l h = absurd cc
+begins_named ((field.Name, n) ∷ (field.SegmentCount, c) ∷ ds) fault l h =
     record { name = n; count = c; digests = ds; are = refl; lists = h }
 
 -- a name that was read
@@ -167,87 +209,157 @@ named_ok (Ok n) name h = let same : n ≡ name = cc in ap (λ (x : List Componen
   ok x = Ok x
 named_ok (Err fault) name h = absurd cc
 
-pub lists : (content : List ℕ) (l : Listed) → listing_of content ≡ Some l → Lists content l
-lists content l h =
+-- what follows the name, and what follows the number of segments
+abbrev digests_behind : List Field → Option FieldFault → List Component → ℕ → Option RecordSays
+digests_behind items fault name segments = option_map (listed_record name segments) (listed_digests segments items
+    fault)
+
+abbrev count_behind : Item → List Field → Option FieldFault → List Component → Option RecordSays
+count_behind c items fault name = option_and_then (digests_behind items fault name) (segment_count_in c)
+
+pub listing_said : (content : List ℕ) (l : Listed) → record_of content ≡ Some (Lists l) → HasListing content l
+listing_said content l h =
     let read = record_fields content in
-    let b = begins read.items read.fault l h in
-    let n =
-    and_then_some
-    (λ (name : List Component). option_and_then
-    (λ (count : ℕ).
-    option_map (listed_record name) (counted_digests count (record { items = b.digests; fault = read.fault })))
-    (segment_count_in b.count)) (object_name_in b.name) l b.lists in
-    let c =
-    and_then_some
-    (λ (count : ℕ).
-    option_map (listed_record n.0) (counted_digests count (record { items = b.digests; fault = read.fault })))
-    (segment_count_in b.count) l n.2 in
-    let m =
-    mapped_some (listed_record n.0) (counted_digests c.0 (record { items = b.digests; fault = read.fault })) l c.2 in
+    let b = begins_named read.items read.fault l h in
+    let n = and_then_some (count_behind b.count b.digests read.fault) (object_name_in b.name) (Lists l) b.lists in
+    let c = and_then_some (digests_behind b.digests read.fault n.0) (segment_count_in b.count) (Lists l) n.2 in
+    let m = mapped_some (listed_record n.0 c.0) (listed_digests c.0 b.digests read.fault) (Lists l) c.2 in
     let counted =
-    passes_some (λ (ds : List (List ℕ)). eqb (length ds) c.0) (digests_among b.digests read.fault) m.0 m.1 in
+    passes_some (λ (ds : List (List ℕ)). eqb (length ds) (count_listed c.0))
+    (digests_among (is_indexed c.0) b.digests read.fault) m.0 m.1 in
     let name = passes_some is_object_name (read_name (name_of b.name.value_start b.name.value)) n.0 n.1 in
-    let count = passes_some (λ (k : ℕ). leb k 200) (number_of b.count.value) c.0 c.1 in
-    let ds = digest_fields b.digests read.fault m.0 counted.0 in
-    let many : length m.0 ≡ c.0 = eqb-true (length m.0) c.0 counted.1 in
+    let count = passes_some (λ (k : ℕ). leb k 20000) (number_of b.count.value) c.0 c.1 in
+    let ds = digest_fields (is_indexed c.0) b.digests read.fault m.0 counted.0 in
     let whole : List Field → List Field = λ fs. (field.Name, b.name) ∷ (field.SegmentCount, b.count) ∷ fs in
-    let items : List Field = map (λ (d : Item). (field.Digest, d)) ds.items in
-    let rest : whole b.digests ≡ whole items = ap whole ds.are in
-    let all : read.items ≡ whole items = b.are ∙ rest in
-    subst (Lists content) m.2 (record {
+    let rest : whole b.digests ≡ whole (as_digests (is_indexed c.0) ds.items) = ap whole ds.are in
+    let all : read.items ≡ whole (as_digests (is_indexed c.0) ds.items) = b.are ∙ rest in
+    subst (HasListing content) (same_lists (record { name = n.0; segments = c.0; digests = m.0 }) l m.2) (record {
       name = b.name;
       count = b.count;
       digests = ds.items;
       fields =
-          same_listing read (record {
-            items =
-                (field.Name, b.name) ∷ (field.SegmentCount, b.count) ∷ map (λ (d : Item). (field.Digest, d)) ds.items;
-            fault = None;
-          }) all ds.ended;
+          same_listing read
+          (record { items = whole (as_digests (is_indexed c.0) ds.items); fault = None }) all ds.ended;
       names = named_ok (name_of b.name.value_start b.name.value) n.0 name.0;
       named = name.1;
-      counts = count.0 ∙ ap (λ (k : ℕ). some_count k) (sym many);
-      few = omega (arith, leb-true c.0 200 count.1, many);
+      counts = count.0;
+      few = leb-true c.0 20000 count.1;
+      many = eqb-true (length m.0) (count_listed c.0) counted.1;
       values = ds.values;
       are = ds.long;
     })
   where
-    some_count : ℕ → Option ℕ
-    some_count k = Some k
+    same_lists : (a b : Listed) → Lists a ≡ Lists b → a ≡ b
+    same_lists a b e = cc
 
-    same_listing : (a b : Listing Field FieldFault) → a.items ≡ b.items → a.fault ≡ b.fault → a ≡ b
-    same_listing a b i f =
-        let with_items : List Field → Listing Field FieldFault = λ items. record { items = items; fault = a.fault } in
-        let with_fault : Option FieldFault → Listing Field FieldFault =
-        λ fault. record { items = b.items; fault = fault } in
-        ap with_items i ∙ ap with_fault f
-
-pub listing_from : (content : List ℕ) (l : Listed) → Lists content l → listing_of content ≡ Some l
+pub listing_from : (content : List ℕ) (l : Listed) → HasListing content l → record_of content ≡ Some (Lists l)
 listing_from content l s =
-    let items = map (λ (d : Item). (field.Digest, d)) s.digests in
+    let items = as_digests (is_indexed l.segments) s.digests in
     let name =
     some_passes is_object_name (read_name (name_of s.name.value_start s.name.value)) l.name (ap read_name s.names)
     s.named in
     let count =
-    some_passes (λ (k : ℕ). leb k 200) (number_of s.count.value) (length l.digests) s.counts
-    (le-leb (length l.digests) 200 s.few) in
-    let read : digests_among items None ≡ Some l.digests =
-    digests_of_fields s.digests (subst (All IsDigest) (sym s.values) s.are)
-    ∙ ap (λ (ds : List (List ℕ)). all ds) s.values in
+    some_passes (λ (k : ℕ). leb k 20000) (number_of s.count.value) l.segments s.counts (le-leb l.segments 20000
+    s.few) in
     let counted =
-    some_passes (λ (ds : List (List ℕ)). eqb (length ds) (length l.digests)) (digests_among items None) l.digests read
-    (eq-eqb (length l.digests) (length l.digests) refl) in
-    ap (λ (f : Listing Field FieldFault). listing_among f.items f.fault) s.fields
-    ∙ ap (option_and_then
-    (λ (n : List Component). option_and_then
-    (λ (k : ℕ). option_map (listed_record n) (counted_digests k (record { items = items; fault = None })))
-    (segment_count_in s.count))) name
-    ∙ ap (option_and_then
-    (λ (k : ℕ). option_map (listed_record l.name) (counted_digests k (record { items = items; fault = None })))) count
-    ∙ ap (option_map (listed_record l.name)) counted
+    counted_fields (is_indexed l.segments) (count_listed l.segments) s.digests l.digests s.values s.are s.many in
+    ap (λ (f : Listing Field FieldFault). said_among f.items f.fault) s.fields
+    ∙ ap (option_and_then (count_behind s.count items None)) name
+    ∙ ap (option_and_then (digests_behind items None l.name)) count
+    ∙ ap (option_map (listed_record l.name l.segments)) counted
+
+record BeginsWithdrawn (fields : List Field) (fault : Option FieldFault) (seq : ℕ) : Type 0 where
+  number : Item
+  are : fields ≡ (field.Withdraws, number) ∷ []
+  ended : fault ≡ None
+  said : number_in number ≡ Some seq
+
+listing_no_withdrawal : (n c : Item) (ds : List Field) (fault : Option FieldFault) (seq : ℕ)
+    → listing_among n c ds fault ≡ Some (WithdrawsNumber seq) → ⊥
+listing_no_withdrawal n c ds fault seq h =
+    let a = and_then_some (count_behind c ds fault) (object_name_in n) (WithdrawsNumber seq) h in
+    let b = and_then_some (digests_behind ds fault a.0) (segment_count_in c) (WithdrawsNumber seq) a.2 in
+    let m = mapped_some (listed_record a.0 b.0) (listed_digests b.0 ds fault) (WithdrawsNumber seq) b.2 in
+    other (record { name = a.0; segments = b.0; digests = m.0 }) m.2
   where
-    all : List (List ℕ) → Option (List (List ℕ))
-    all ds = Some ds
+    other : (l : Listed) → Lists l ≡ WithdrawsNumber seq → ⊥
+    other l e = cc
+
+begins_withdrawn : (fields : List Field) (fault : Option FieldFault) (seq : ℕ)
+    → said_among fields fault ≡ Some (WithdrawsNumber seq) → BeginsWithdrawn fields fault seq
+begins_withdrawn [] fault seq h = absurd cc
+begins_withdrawn ((field.Withdraws, w) ∷ []) None seq h =
+    let m = mapped_some (λ (n : ℕ). WithdrawsNumber n) (number_in w) (WithdrawsNumber seq) h in
+    record { number = w; are = refl; ended = refl; said = m.1 ∙ ap (λ (n : ℕ). some_number n) (same m.0 seq m.2) }
+  where
+    some_number : ℕ → Option ℕ
+    some_number n = Some n
+
+    same : (m n : ℕ) → WithdrawsNumber m ≡ WithdrawsNumber n → m ≡ n
+    same m n e = cc
+begins_withdrawn ((field.Withdraws, w) ∷ []) (Some f) seq h = absurd cc
+begins_withdrawn ((field.Withdraws, w) ∷ f ∷ fs) fault seq h = absurd cc
+begins_withdrawn ((field.SegmentCount, e) ∷ fs) fault seq h = absurd cc
+begins_withdrawn ((field.Digest, e) ∷ fs) fault seq h = absurd cc
+begins_withdrawn ((field.IndexDigest, e) ∷ fs) fault seq h = absurd cc
+begins_withdrawn ((field.Name, n) ∷ []) fault seq h = absurd cc
+begins_withdrawn ((field.Name, n) ∷ (field.Withdraws, c) ∷ ds) fault seq h = absurd cc
+begins_withdrawn ((field.Name, n) ∷ (field.Name, c) ∷ ds) fault seq h = absurd cc
+begins_withdrawn ((field.Name, n) ∷ (field.Digest, c) ∷ ds) fault seq h = absurd cc
+begins_withdrawn ((field.Name, n) ∷ (field.IndexDigest, c) ∷ ds) fault seq h = absurd cc
+begins_withdrawn ((field.Name, n) ∷ (field.SegmentCount, c) ∷ ds) fault seq h =
+    absurd (listing_no_withdrawal n c ds fault seq h)
+
+withdrawal_said : (content : List ℕ) (seq : ℕ) → record_of content ≡ Some (WithdrawsNumber seq)
+    → HasWithdrawal content seq
+withdrawal_said content seq h =
+    let read = record_fields content in
+    let b = begins_withdrawn read.items read.fault seq h in
+    let number = passes_some (λ (n : ℕ). leb 1 n && leb n 65535) (number_of b.number.value) seq b.said in
+    let within = and_parts (leb 1 seq) (leb seq 65535) number.1 in
+    record {
+      number = b.number;
+      fields = same_listing read (record { items = (field.Withdraws, b.number) ∷ []; fault = None }) b.are b.ended;
+      counts = number.0;
+      some = omega (arith, leb-true 1 seq within.0);
+      few = leb-true seq 65535 within.1;
+    }
+
+withdrawal_from : (content : List ℕ) (seq : ℕ) → HasWithdrawal content seq
+    → record_of content ≡ Some (WithdrawsNumber seq)
+withdrawal_from content seq s =
+    let number =
+    some_passes (λ (n : ℕ). leb 1 n && leb n 65535) (number_of s.number.value) seq s.counts
+    (and_from (leb 1 seq) (leb seq 65535) (le-leb 1 seq (omega (arith, s.some))) (le-leb seq 65535 s.few)) in
+    ap (λ (f : Listing Field FieldFault). said_among f.items f.fault) s.fields
+    ∙ ap (option_map (λ (n : ℕ). WithdrawsNumber n)) number
+
+pub said : (content : List ℕ) (says : RecordSays) → (record_of content ≡ Some says) ↔ HasSaid content says
+said content (Lists l) = (listing_said content l, listing_from content l)
+said content (WithdrawsNumber seq) = (withdrawal_said content seq, withdrawal_from content seq)
+
+-- ---- index packets
+
+pub index_said : (content : List ℕ) (count : ℕ) (digests : List (List ℕ)) → index_of content count ≡ Some digests
+    → HasIndex content digests × (length digests ≡ count)
+index_said content count digests h =
+    let read = index_fields content in
+    let counted =
+    passes_some (λ (ds : List (List ℕ)). eqb (length ds) count) (digests_among false read.items read.fault) digests h in
+    let ds = digest_fields false read.items read.fault digests counted.0 in (
+      record {
+        items = ds.items;
+        fields = same_listing read (record { items = as_digests false ds.items; fault = None }) ds.are ds.ended;
+        values = ds.values;
+        are = ds.long;
+      },
+      eqb-true (length digests) count counted.1,
+    )
+
+pub index_from : (content : List ℕ) (count : ℕ) (digests : List (List ℕ)) → HasIndex content digests
+    → length digests ≡ count → index_of content count ≡ Some digests
+index_from content count digests s many =
+    ap (counted_digests false count) s.fields ∙ counted_fields false count s.items digests s.values s.are many
 
 -- ---- what was read is within the limits
 
@@ -301,9 +413,12 @@ module _ (P : Item → Type 0) where
       each_field (λ places. fields_among places es fault) table e (place_of e.typ table) fits.0
       (λ places. each_of_fields places es fault fits.1)
 
-pub lists_within : (content : List ℕ) (l : Listed) → IsOctets content → length content < 2 ^ 64 → Lists content l
-    → IsListing l
-lists_within content l fits short s =
+pub said_within : (content : List ℕ) (says : RecordSays) → IsOctets content → length content < 2 ^ 64
+    → record_of content ≡ Some says → IsSaid says
+said_within content (WithdrawsNumber seq) fits short h =
+    let s = withdrawal_said content seq h in (s.some, s.few)
+said_within content (Lists l) fits short h =
+    let s = listing_said content l h in
     let read = elements 0 content in
     let each =
     each_of_fields Fits record_table read.items read.fault
@@ -314,31 +429,16 @@ lists_within content l fits short s =
       name = (name_of-encoded s.name.value_start s.name.value l.name first.octets first.long s.names).0;
       named = s.named;
       few = s.few;
+      count = s.many;
       digests = s.are;
     }
 
--- ---- what a reader of a record has read
-
-pub some_mapped : {A B : Type 0} (f : A → B) (o : Option A) → IsSome (option_map f o) → IsSome o
-some_mapped f None s = s
-some_mapped f (Some x) s = refl
-
--- a record's name and digests were read, where they are what its content lists
-pub record_is_read : (content : List ℕ) (name : List Component) (reader : DigestReader) (octets : List ℕ)
+-- a listing whose name, number of segments and digests were read
+pub listing_read : (content : List ℕ) (name : List Component) (segments : ℕ) (digests : List (List ℕ))
+    (read : Option (List (List ℕ)))
     → IsOctets content → length content < 2 ^ 64
-    → listing_of content ≡ option_map (listed_record name) (digests_to_come reader)
-    → (IsSome (digests_to_come reader) → IsRow octets reader) → IsSome (digests_to_come reader)
-    → RecordIsRead name reader octets
-record_is_read content name reader octets fits short is row all = go (digests_to_come reader) refl all where
-  go : (o : Option (List (List ℕ))) → digests_to_come reader ≡ o → IsSome o → RecordIsRead name reader octets
-  go None p s = absurd cc
-  go (Some digests) p s =
-      let read : listing_of content ≡ Some (listed_record name digests) = is ∙ ap (option_map (listed_record name)) p in
-      record {
-        all = all;
-        within =
-            subst (λ (o : Option (List (List ℕ))). IsListing (listed_record name (unwrap_or o []))) (sym p)
-            (lists_within content (listed_record name digests) fits short
-            (lists content (listed_record name digests) read));
-        row = row all;
-      }
+    → record_of content ≡ option_map (listed_record name segments) read → read ≡ Some digests
+    → IsListing (record { name = name; segments = segments; digests = digests })
+listing_read content name segments digests read fits short is found =
+    said_within content (listed_record name segments digests) fits short
+    (is ∙ ap (option_map (listed_record name segments)) found)

@@ -1,5 +1,5 @@
--- Digests that fill all that follows the number of segments stand one after another.
-use Rattle.std.proofs.Common.{◌≡◌, ℕ, zero, suc, ◌+◌, ◌*◌, ◌^◌, ◌<◌, ◌≤◌, eqb, List, [], ◌∷◌, ◌++◌, length}
+-- Digests that fill all that follows a place of a content stand one after another.
+use Rattle.std.proofs.Common.{◌≡◌, ℕ, zero, suc, ◌+◌, ◌*◌, ◌^◌, ◌<◌, ◌≤◌, Bool, eqb, List, [], ◌∷◌, ◌++◌, length}
 use Rattle.std.proofs.Common.{length-append, append_assoc, length-drop, take, drop, drop_at, drop-drop, map, Option}
 use Rattle.std.proofs.Common.{Some, None, slice_get, refl, ap, sym, subst, ◌∙◌, inl, inr, arith}
 use Rattle.std.specs.Prelude.{IsSome, unwrap_or}
@@ -7,9 +7,9 @@ use Rattle.std.specs.List.{All}
 use Rattle.std.proofs.lemmas.Bool.{cases_lt, eqb-true}
 use Rattle.std.proofs.lemmas.List.{take_at}
 use Rattle.std.proofs.lemmas.List.Elements.{All-head, All-tail}
-use Rattle.ndn_tlv.specs.declared.tlv_fault.TlvFault.{TlvFault}
+use Rattle.ndn_tlv.specs.declared.order_table.Place.{Place}
 use Rattle.ndn_tlv.specs.Spelling.{number, head, element}
-use Rattle.ndn_tlv.specs.Listing.{Listing, ◌then◌}
+use Rattle.ndn_tlv.specs.Listing.{◌then◌}
 use Rattle.ndn_tlv.specs.Elements.{IsOctets, Item, AreWithin, elements}
 use Rattle.ndn_tlv.specs.OrderTable.{fields}
 use Rattle.ndn_tlv.proofs.Numbers.{number-narrow, number-16, number-32, number-64}
@@ -20,12 +20,11 @@ use Rattle.ndn_packet.proofs.Lengths.{length-element}
 use Rattle.repo_object.specs.declared.record_fields.RecordField.{RecordField}
 use Rattle.repo_object.specs.declared.record_fields.RecordField.TheVariants as field
 use Rattle.repo_object.specs.declared.record_fields.DigestReader.{DigestReader}
-use Rattle.repo_object.specs.Records.{record_table, record_fields, digests_among, IsDigest, digests_to_come, IsRow}
+use Rattle.repo_object.specs.Records.{record_table, record_fields, index_table, index_fields, digests_among}
+use Rattle.repo_object.specs.Readers.{digests_to_come, IsRow}
+use Rattle.repo_object.specs.Formats.{IsDigest, as_digests, values}
 use Rattle.repo_object.proofs.DigestLemmas.{Fields}
 use Rattle.repo_object.proofs.RecordLemmas.{passes_some, elements_of, each_of_fields, digest_fields}
-
-abbrev values : List Item → List (List ℕ)
-values items = map (λ (d : Item). d.value) items
 
 -- ---- an element has two octets at least in front of its value
 
@@ -114,70 +113,95 @@ module _ (content : List ℕ) (high : ℕ) where
 
 -- ---- the elements of fields
 
-abbrev field_items : List (RecordField × Item) → List Item
+abbrev pub field_items : List (RecordField × Item) → List Item
 field_items fields = map (λ (x : RecordField × Item). x.1) fields
 
-items_of_digests : (items : List Item) → field_items (map (λ (d : Item). (field.Digest, d)) items) ≡ items
-items_of_digests [] = refl
-items_of_digests (e ∷ es) = ap (λ (xs : List Item). e ∷ xs) (items_of_digests es)
+items_of_digests : (indexes : Bool) (items : List Item) → field_items (as_digests indexes items) ≡ items
+items_of_digests indexes [] = refl
+items_of_digests indexes (e ∷ es) = ap (λ (xs : List Item). e ∷ xs) (items_of_digests indexes es)
 
 length-values : (items : List Item) → length (values items) ≡ length items
 length-values [] = refl
 length-values (e ∷ es) = ap suc (length-values es)
 
+-- digests that are fields behind a place, of which nothing else has room there
+row : (content : List ℕ) (start : ℕ) (reader : DigestReader) → start ≤ length content
+    → AreWithin start (length content) (field_items reader.fields.items)
+    → Each (Stands content) (field_items reader.fields.items)
+    → IsSome (digests_to_come reader) → IsRow (drop start content) reader
+row content start reader inside within stand all full i lt = go (digests_to_come reader) refl all where
+  go : (o : Option (List (List ℕ))) → digests_to_come reader ≡ o → IsSome o
+      → slice_get (unwrap_or o []) i ≡ Some (take 32 (drop (34 * i + 2) (drop start content)))
+  go None p s = absurd cc
+  go (Some digests) p s =
+      let counted =
+      passes_some (λ (ds : List (List ℕ)). eqb (length ds) reader.left)
+      (digests_among reader.indexes reader.fields.items reader.fields.fault) digests p in
+      let many : length digests ≡ reader.left = eqb-true (length digests) reader.left counted.1 in
+      let ds = digest_fields reader.indexes reader.fields.items reader.fields.fault digests counted.0 in
+      let same : field_items reader.fields.items ≡ ds.items =
+      ap field_items ds.are ∙ items_of_digests reader.indexes ds.items in
+      let in_order = subst (AreWithin start (length content)) same within in
+      let at_places = subst (Each (Stands content)) same stand in
+      let long = subst (All IsDigest) (sym ds.values) ds.long in
+      let size : length ds.items ≡ reader.left = sym (length-values ds.items) ∙ ap length ds.values ∙ many in
+      let exact : length content ≡ start + 34 * length ds.items =
+      omega (arith, full, size, length-drop start content, inside) in
+      let found =
+      in_row content (length content) start ds.items in_order at_places long exact i (omega (arith, lt, size)) in
+      ap (λ (xs : List (List ℕ)). slice_get xs i) (sym ds.values)
+      ∙ found
+      ∙ ap (λ (xs : List ℕ). Some (take 32 xs)) (sym (drop-drop (34 * i + 2) start content))
+
 -- two fields that were read are the first ones
-pub fields_begin : (content : List ℕ) (read : Listing Item TlvFault) (whole behind rest : Fields)
-    (one two : RecordField) (name count : Item)
-    → read ≡ elements 0 content → whole ≡ fields record_table read
-    → whole ≡ ((one, name) then behind) → one ≡ field.Name
-    → behind ≡ ((two, count) then rest) → two ≡ field.SegmentCount
+pub fields_begin : (content : List ℕ) (fields rest : Fields) (two : RecordField) (name count : Item)
+    → record_fields content ≡ ((field.Name, name) then fields) → fields ≡ ((two, count) then rest)
+    → two ≡ field.SegmentCount
     → record_fields content ≡ ((field.Name, name) then ((field.SegmentCount, count) then rest))
-fields_begin content read whole behind rest one two name count octets gives first is_name second is_count =
-    ap (fields record_table) (sym octets) ∙ sym gives ∙ first
-    ∙ ap (λ (x : RecordField). (x, name) then behind) is_name
+fields_begin content fields rest two name count first second is_count =
+    first
     ∙ ap (λ (f : Fields). (field.Name, name) then f) second
     ∙ ap (λ (x : RecordField). (field.Name, name) then ((x, count) then rest)) is_count
 
-module _ (content : List ℕ) (fits : IsOctets content) (name count : Item) (reader : DigestReader)
-    (are : record_fields content ≡ ((field.Name, name) then ((field.SegmentCount, count) then reader.fields))) where
-  within : AreWithin 0 (length content) (name ∷ count ∷ field_items reader.fields.items)
-  within =
-      let W : Fields → Type 0 = λ f. AreWithin 0 (length content) (elements_of f) in
+module _ (content : List ℕ) (fits : IsOctets content) where
+  -- the elements of fields stand in the content, in order
+  fields_in_order : (table : List (Place RecordField))
+      → AreWithin 0 (length content) (elements_of (fields table (elements 0 content)))
+  fields_in_order table =
       let read = elements 0 content in
       let whole : 0 + length content ≡ length content = omega arith in
       let all = subst (λ (high : ℕ). AreWithin 0 high read.items) whole (elements_within_octets 0 content) in
-      subst W are (fields_within record_table read.items read.fault 0 (length content) all)
+      fields_within table read.items read.fault 0 (length content) all
 
-  stand : Each (Stands content) (name ∷ count ∷ field_items reader.fields.items)
-  stand =
-      let E : Fields → Type 0 = λ f. Each (Stands content) (elements_of f) in
+  fields_stand : (table : List (Place RecordField)) → Each (Stands content) (elements_of (fields table (elements 0
+      content)))
+  fields_stand table =
       let read = elements 0 content in
-      subst E are (each_of_fields (Stands content) record_table read.items read.fault
-      (elements_stand content 0 content read.items read.fault refl (elements_are 0 content fits)))
+      each_of_fields (Stands content) table read.items read.fault
+      (elements_stand content 0 content read.items read.fault refl (elements_are 0 content fits))
 
-  pub count_ends : count.end ≤ length content
-  count_ends = AreWithin-ends count.end (length content) (field_items reader.fields.items) within.3.3
+  -- behind the number of segments
+  module _ (name count : Item) (reader : DigestReader)
+      (are : record_fields content ≡ ((field.Name, name) then ((field.SegmentCount, count) then reader.fields))) where
+    within : AreWithin 0 (length content) (name ∷ count ∷ field_items reader.fields.items)
+    within =
+        let W : Fields → Type 0 = λ f. AreWithin 0 (length content) (elements_of f) in
+        subst W are (fields_in_order record_table)
 
-  pub row : IsSome (digests_to_come reader) → IsRow (drop count.end content) reader
-  row all full i lt = go (digests_to_come reader) refl all where
-    go : (o : Option (List (List ℕ))) → digests_to_come reader ≡ o → IsSome o
-        → slice_get (unwrap_or o []) i ≡ Some (take 32 (drop (34 * i + 2) (drop count.end content)))
-    go None p s = absurd cc
-    go (Some digests) p s =
-        let counted =
-        passes_some (λ (ds : List (List ℕ)). eqb (length ds) reader.left)
-        (digests_among reader.fields.items reader.fields.fault) digests p in
-        let many : length digests ≡ reader.left = eqb-true (length digests) reader.left counted.1 in
-        let ds = digest_fields reader.fields.items reader.fields.fault digests counted.0 in
-        let same : field_items reader.fields.items ≡ ds.items = ap field_items ds.are ∙ items_of_digests ds.items in
-        let in_order = subst (AreWithin count.end (length content)) same within.3.3 in
-        let at_places = subst (Each (Stands content)) same stand.1.1 in
-        let long = subst (All IsDigest) (sym ds.values) ds.long in
-        let size : length ds.items ≡ reader.left = sym (length-values ds.items) ∙ ap length ds.values ∙ many in
-        let exact : length content ≡ count.end + 34 * length ds.items =
-        omega (arith, full, size, length-drop count.end content, count_ends) in
-        let found =
-        in_row content (length content) count.end ds.items in_order at_places long exact i (omega (arith, lt, size)) in
-        ap (λ (xs : List (List ℕ)). slice_get xs i) (sym ds.values)
-        ∙ found
-        ∙ ap (λ (xs : List ℕ). Some (take 32 xs)) (sym (drop-drop (34 * i + 2) count.end content))
+    pub count_ends : count.end ≤ length content
+    count_ends = AreWithin-ends count.end (length content) (field_items reader.fields.items) within.3.3
+
+    pub record_row : IsSome (digests_to_come reader) → IsRow (drop count.end content) reader
+    record_row =
+        let E : Fields → Type 0 = λ f. Each (Stands content) (elements_of f) in
+        let stand = subst E are (fields_stand record_table) in
+        row content count.end reader count_ends within.3.3 stand.1.1
+
+  -- in an index packet
+  pub index_row : (reader : DigestReader) → reader.fields ≡ index_fields content
+      → IsSome (digests_to_come reader) → IsRow content reader
+  index_row reader are =
+      let W : Fields → Type 0 = λ f. AreWithin 0 (length content) (elements_of f) in
+      let E : Fields → Type 0 = λ f. Each (Stands content) (elements_of f) in
+      row content 0 reader (omega arith) (subst W (sym are) (fields_in_order index_table))
+      (subst E (sym are) (fields_stand index_table))

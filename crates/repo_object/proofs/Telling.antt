@@ -1,9 +1,9 @@
 -- Names and digests tell parts apart.
-use Rattle.std.proofs.Common.{◌≡◌, ℕ, zero, suc, ◌+◌, ◌-◌, ◌^◌, ◌<◌, ◌≤◌, List, [], ◌∷◌, ◌++◌, length, length-append}
+use Rattle.std.proofs.Common.{◌≡◌, ℕ, zero, suc, ◌-◌, ◌^◌, ◌<◌, ◌≤◌, List, [], ◌∷◌, ◌++◌, length, length-append}
 use Rattle.std.proofs.Common.{Option, Some, slice_get, Result, Ok, Err, refl, sym, ap, subst, ◌∙◌, arith}
 use Rattle.std.specs.Prelude.{◌≢◌, IfSome, IsOk}
 use Rattle.std.proofs.lemmas.List.{append_cancel_right}
-use Rattle.std.proofs.lemmas.Option.{slice_get_within, get_or_from_slice_get}
+use Rattle.std.proofs.lemmas.Option.{same_Some}
 use Rattle.sha2.specs.Sha256.{sha256}
 use Rattle.ndn_tlv.specs.NumberField.{number_of, number_field}
 use Rattle.ndn_tlv.proofs.Steps.{ok_is}
@@ -12,15 +12,20 @@ use Rattle.ndn_name.specs.Names.{Component, IsName, encoding}
 use Rattle.ndn_name.proofs.Encodings.{encoding-same}
 use Rattle.ndn_data.specs.Data.{Data, data_of}
 use Rattle.repo_plan.specs.declared.part.Part.{Part}
+use Rattle.repo_plan.specs.Parts.{index_packets}
 use Rattle.repo_object.specs.declared.part_refusal.PartRefusal.{PartRefusal}
-use Rattle.repo_object.specs.Objects.{NamedContents, IsObject, Publisher, IsPublisher, record_name, segment_name}
-use Rattle.repo_object.specs.Publication.{published_listing, record_packet, packets, packet_at}
-use Rattle.repo_object.specs.Published.{AreClear}
-use Rattle.repo_object.specs.Wants.{WantedPart, want_record, want_segment}
-use Rattle.repo_object.specs.Verdict.{part_verdict, Passes, content_within, content_in}
+use Rattle.repo_object.specs.Objects.{NamedContents, IsObject, Post, IsPost, Publisher, IsPublisher, record_name}
+use Rattle.repo_object.specs.Objects.{segment_name, shape_in}
+use Rattle.repo_object.specs.Objects.Post.{Offers}
+use Rattle.repo_object.specs.Publication.{published_listing, published_record, record_packet, packets, packet_at}
+use Rattle.repo_object.specs.Published.{Published, behind, AreClear}
+use Rattle.repo_object.specs.Wants.{WantedPart, want_record, want_index, want_segment}
+use Rattle.repo_object.specs.Verdict.{part_verdict, Passes}
+use Rattle.repo_object.proofs.Places.{all_at}
 use Rattle.repo_object.proofs.Passing.{passes}
-use Rattle.repo_object.proofs.Publications.{some_is, SegmentPacket, record_named, record_read, record_again, segment_is}
-use Rattle.repo_object.proofs.Publications.{segment_read, all_fit}
+use Rattle.repo_object.proofs.Publications.{numbered_data, record_named, record_read, record_again, index_is}
+use Rattle.repo_object.proofs.Publications.{segment_is}
+use Rattle.repo_object.proofs.Publications.{index_part, segment_part, index_digest, behind_is, all_fit}
 
 -- ---- one component more
 
@@ -95,80 +100,108 @@ module _ (want : WantedPart) (key_name key octets : List ℕ) (ok : IsOk (part_v
   passed_digest : IfSome want.digest (λ digest. sha256 octets ≡ digest)
   passed_digest = passed.1.digest
 
-module _ (own other : Publisher) (theirs : NamedContents) (is_own : IsPublisher own) (is_other : IsPublisher other)
-    (is_theirs : IsObject theirs) (seq : ℕ) (low : seq < 2 ^ 16) (key_name key octets : List ℕ) where
+module _ (own other : Publisher) (theirs : Post) (is_own : IsPublisher own) (is_other : IsPublisher other) (seq : ℕ)
+    (is_theirs : IsPost seq theirs) (low : seq < 2 ^ 16) (key_name key octets : List ℕ) where
   -- a record that has the wanted name
   record_name_is : (want : WantedPart) → packet_at other seq theirs 0 ≡ Some octets
       → IsOk (part_verdict want key_name key octets) → IsName want.name
       → record_name other.node other.group seq ≡ want.name
   record_name_is want at ok valid =
-      let is = some_is (record_packet other seq (published_listing other theirs)) octets at in
-      passed_name want key_name key octets ok (record_read other theirs is_other is_theirs seq)
-      (ap data_of (sym is) ∙ record_again other theirs is_other is_theirs seq low)
-      (record_named other theirs is_other is_theirs seq low) valid
-
-  -- and a segment
-  segment_name_is : (want : WantedPart) (k : ℕ) → SegmentPacket other theirs k octets
-      → IsOk (part_verdict want key_name key octets) → IsName want.name
-      → segment_name theirs.name k ≡ want.name
-  segment_name_is want k s ok valid =
-      passed_name want key_name key octets ok (segment_read other theirs k s.content) s.read s.named valid
+      let is = same_Some (record_packet other seq (published_record other seq theirs)) octets at in
+      passed_name want key_name key octets ok (record_read other is_other seq theirs)
+      (ap data_of (sym is) ∙ record_again other is_other seq theirs is_theirs low) (record_named other is_other seq low)
+      valid
 
   pub records_pass : (part : Part) (x : ℕ) → own.group ≡ other.group → part.seq < 2 ^ 16
       → packet_at other seq theirs x ≡ Some octets
       → IsOk (part_verdict (want_record part own.node own.group) key_name key octets)
       → (x ≡ 0) × (own.node ≡ other.node) × (part.seq ≡ seq)
   records_pass part zero group low_part at ok =
-      let named = record_named own theirs is_own is_theirs part.seq low_part in
+      let named = record_named own is_own part.seq low_part in
       let name = record_name_is (want_record part own.node own.group) at ok named in
       let same = sym name ∙ ap (λ (g : List Component). record_name other.node g seq) (sym group) in
       let both = records_differ own.node other.node own.group part.seq seq low_part low same in
       (refl, both.0, both.1)
   records_pass part (suc k) group low_part at ok =
-      let s = segment_is other theirs is_other is_theirs seq (suc k) octets (omega arith) at in
-      let named = record_named own theirs is_own is_theirs part.seq low_part in
-      let name = segment_name_is (want_record part own.node own.group) (suc k - 1) s ok named in
-      absurd (records_are_no_segments own.node own.group theirs.name part.seq (suc k - 1) (sym name))
+      let s = behind_is other is_other seq (suc k) theirs octets is_theirs low (omega arith) at in
+      let named = record_named own is_own part.seq low_part in
+      let name =
+      passed_name (want_record part own.node own.group) key_name key octets ok
+      (numbered_data other s.name s.last s.number s.content) s.read s.named named in
+      absurd (records_are_no_segments own.node own.group s.name part.seq s.number (sym name))
 
-  module _ (object : NamedContents) (is_object : IsObject object) (part : Part) (packet : List ℕ)
-      (above : 0 < part.part) (its : packet_at own part.seq object part.part ≡ Some packet) where
-    mine : SegmentPacket own object (part.part - 1) packet
-    mine = segment_is own object is_own is_object part.seq part.part packet above its
-
-    abbrev want : WantedPart
-    want = want_segment part (published_listing own object)
+  -- a part behind a record: another packet that passes has its name and its digest
+  module _ (want : WantedPart) (name : List Component) (number i : ℕ) (packet : List ℕ) (d : Data) (mine : Published)
+      (wants : want.name ≡ segment_name name number) (named : IsName (segment_name name number))
+      (read : data_of packet ≡ Ok d) (same_name : d.name ≡ segment_name name number)
+      (stands : slice_get (behind mine) i ≡ Some packet) (digest : want.digest ≡ Some (sha256 packet)) where
+    valid : IsName want.name
+    valid = subst IsName (sym wants) named
 
     same_digest : IsOk (part_verdict want key_name key octets) → sha256 octets ≡ sha256 packet
     same_digest ok =
-        let P : Option (List ℕ) → Type 0 = λ o. IfSome o (λ digest. sha256 octets ≡ digest) in
-        subst P mine.digest (passed_digest want key_name key octets ok)
+        let P : Option (List ℕ) → Type 0 = λ o. IfSome o (λ x. sha256 octets ≡ x) in
+        subst P digest (passed_digest want key_name key octets ok)
 
-    pub segments_pass : (x : ℕ)
-        → AreClear (record { publisher = own; object = object }) (record { publisher = other; object = theirs })
+    part_passes : (x : ℕ) → AreClear mine (record { publisher = other; seq = seq; post = theirs })
         → packet_at other seq theirs x ≡ Some octets → IsOk (part_verdict want key_name key octets) → octets ≡ packet
-    segments_pass zero clear at ok =
-        let name = record_name_is want at ok mine.named in
-        absurd (records_are_no_segments other.node other.group object.name seq (part.part - 1) name)
-    segments_pass (suc k) clear at ok =
-        let s = segment_is other theirs is_other is_theirs seq (suc k) octets (omega arith) at in
-        let name = segment_name_is want (suc k - 1) s ok mine.named in
-        sym (clear (part.part - 1) (suc k - 1) packet octets mine.stands s.stands (sym name) (sym (same_digest ok)))
+    part_passes zero clear at ok =
+        let is = record_name_is want at ok valid in
+        absurd (records_are_no_segments other.node other.group name seq number (is ∙ wants))
+    part_passes (suc k) clear at ok =
+        let s = behind_is other is_other seq (suc k) theirs octets is_theirs low (omega arith) at in
+        let theirs_data = numbered_data other s.name s.last s.number s.content in
+        let is = passed_name want key_name key octets ok theirs_data s.read s.named valid in
+        sym (clear i (suc k - 1) packet octets d theirs_data stands s.stands read s.read
+        (same_name ∙ sym wants ∙ sym is) (sym (same_digest ok)))
+
+  module _ (object : NamedContents) (is_object : IsObject object) (part : Part) (packet : List ℕ)
+      (its : packet_at own part.seq (Offers object) part.part ≡ Some packet)
+      (clear : AreClear (record { publisher = own; seq = part.seq; post = Offers object })
+      (record { publisher = other; seq = seq; post = theirs })) where
+    abbrev mine : Published
+    mine = record { publisher = own; seq = part.seq; post = Offers object }
+
+    stands_behind : 0 < part.part → slice_get (behind mine) (part.part - 1) ≡ Some packet
+    stands_behind above = behind_first part.part above its where
+      behind_first : (x : ℕ) → 0 < x → packet_at own part.seq (Offers object) x ≡ Some packet
+          → slice_get (behind mine) (x - 1) ≡ Some packet
+      behind_first zero above h = absurd (omega (arith, above))
+      behind_first (suc k) above h =
+          let same : suc k - 1 ≡ k = omega arith in ap (slice_get (behind mine)) same ∙ h
+
+    pub indexes_pass : (x : ℕ) → part.seq < 2 ^ 16 → 0 < part.part
+        → part.part ≤ index_packets (length object.contents)
+        → packet_at other seq theirs x ≡ Some octets
+        → IsOk
+        (part_verdict (want_index part (published_listing own part.seq object) own.node own.group) key_name key octets)
+        → octets ≡ packet
+    indexes_pass x low_part above below at ok =
+        let k = part.part - 1 in
+        let found = index_part own is_own object is_object part.seq part.part packet above below its in
+        let s = index_is own is_own object is_object part.seq k packet low_part found in
+        let listing = published_listing own part.seq object in
+        part_passes (want_index part listing own.node own.group) (record_name own.node own.group part.seq) k k packet _
+        mine refl s.named s.read refl (stands_behind above)
+        (index_digest own is_own object is_object part.seq part.part packet above below its) x clear at ok
+
+    pub segments_pass : (x : ℕ) → index_packets (length object.contents) < part.part
+        → packet_at other seq theirs x ≡ Some octets
+        → IsOk
+        (part_verdict (want_segment part (shape_in (Offers object)) object.name (sha256 packet)) key_name key octets)
+        → octets ≡ packet
+    segments_pass x above at ok =
+        let k = part.part - index_packets (length object.contents) - 1 in
+        let found = segment_part own is_own object is_object part.seq part.part packet above its in
+        let s = segment_is own is_own object is_object k packet found in
+        part_passes (want_segment part (shape_in (Offers object)) object.name (sha256 packet)) object.name k
+        (part.part - 1) packet _ mine refl s.named s.read refl (stands_behind (omega (arith, above))) refl x clear at ok
 
 -- ---- what one packet is
 
-pub content_again : (publisher : Publisher) (seq i : ℕ) (object : NamedContents) (octets : List ℕ)
-    → IsPublisher publisher → IsObject object
-    → packet_at publisher seq object (i + 1) ≡ Some octets → content_in octets ≡ slice_get object.contents i
-content_again publisher seq i object octets is_publisher is_object at =
-    let s = segment_is publisher object is_publisher is_object seq (i + 1) octets (omega arith) at in
-    let same : i + 1 - 1 ≡ i = omega arith in
-    ap content_within s.read ∙ sym s.place ∙ ap (slice_get object.contents) same
-
-pub part_fits : (publisher : Publisher) (seq x : ℕ) (object : NamedContents) (octets : List ℕ)
-    → IsPublisher publisher → IsObject object → seq < 2 ^ 16
-    → packet_at publisher seq object x ≡ Some octets → length octets ≤ 8800
-part_fits publisher seq x object octets is_publisher is_object low at =
-    let made = packets publisher seq object in
-    let P : List ℕ → Type 0 = λ packet. length packet ≤ 8800 in
-    subst P (get_or_from_slice_get made x octets [] at)
-    (all_fit publisher object is_publisher is_object seq low x [] (slice_get_within made x octets at))
+pub part_fits : (publisher : Publisher) (seq x : ℕ) (post : Post) (octets : List ℕ)
+    → IsPublisher publisher → IsPost seq post → seq < 2 ^ 16
+    → packet_at publisher seq post x ≡ Some octets → length octets ≤ 8800
+part_fits publisher seq x post octets is_publisher is_post low at =
+    all_at (λ (packet : List ℕ). length packet ≤ 8800) (packets publisher seq post) x octets
+    (all_fit publisher is_publisher seq post is_post low) at

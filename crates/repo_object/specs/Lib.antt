@@ -13,6 +13,12 @@ pub mod Objects
 pub mod Publication
 pub mod Published
 pub mod Records
+pub mod KindTables
+pub mod Readers
+pub mod Formats
+pub mod WorkedContents
+pub mod Said
+pub mod NameParts
 pub mod Wants
 pub mod Verdict
 pub mod Cuts

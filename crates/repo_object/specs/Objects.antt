@@ -1,15 +1,42 @@
 -- Objects, who publishes them, and the names of what is published.
-use Rattle.std.specs.Prelude.{◌<◌, ◌≤◌, ℕ, ◌&&◌, Bool, IsTrue, List, [], ◌∷◌, ◌++◌, length, nat_lt, nat_le}
+use Rattle.std.specs.Prelude.{◌<◌, ◌≤◌, ℕ, ◌==◌, nat_lt, nat_le, Bool, false, ◌&&◌, IsTrue, List, [], ◌∷◌, ◌++◌, length}
+use Rattle.std.specs.Prelude.{Option, Some, None}
 use Rattle.std.specs.List.{All, list_all}
 use Rattle.ndn_tlv.specs.Types as types
 use Rattle.ndn_tlv.specs.NumberField.{number_field}
 use Rattle.ndn_name.specs.Names.{Component, IsName, encoding}
+use Rattle.repo_plan.specs.declared.shape.Shape.{Shape}
+use Rattle.repo_plan.specs.Parts.{shape_of_segments}
 use Rattle.repo_object.specs.Limits.{node_name_limit, object_name_limit, segment_limit, content_limit}
 
 -- An object as contracts see it: a name and the contents of its segments, in order.
 pub record NamedContents : Type 0 where
   pub name : List Component
   pub contents : List (List ℕ)
+
+-- What is published under a number: an object, or the withdrawal of what its publisher published under an earlier one.
+pub data Post : Type 0 where
+  Offers : NamedContents → Post
+  Withdraws : ℕ → Post
+
+-- The object that is published. A withdrawal has none.
+abbrev pub offered : Post → Option NamedContents
+offered (Offers object) = Some object
+offered (Withdraws seq) = None
+
+-- The contents of its segments. A withdrawal has none.
+abbrev pub contents_of : Post → List (List ℕ)
+contents_of (Offers object) = object.contents
+contents_of (Withdraws seq) = []
+
+-- What its record tells of its parts.
+abbrev pub shape_in : Post → Shape
+shape_in post = shape_of_segments (length (contents_of post))
+
+-- It is the withdrawal of that number.
+abbrev pub withdraws_number : Post → ℕ → Bool
+withdraws_number (Offers object) seq = false
+withdraws_number (Withdraws withdrawn) seq = withdrawn == seq
 
 -- An object's name has 1 to 400 octets of value, and no component that is a digest: the two types of
 -- those are the least.
@@ -19,6 +46,7 @@ is_object_name name =
     && nat_le (length (encoding name)) object_name_limit
     && list_all (λ c. nat_lt types.ParametersSha256DigestComponent c.0) name
 
+-- The content of a segment has 1 to 8,000 octets.
 abbrev pub IsContent : List ℕ → Type 0
 IsContent content = (0 < length content) × (length content ≤ content_limit)
 
@@ -29,12 +57,19 @@ pub record IsObject (object : NamedContents) : Type 0 where
   pub few : length object.contents ≤ segment_limit
   pub contents : All IsContent object.contents
 
+-- What may be published under a number: an object within the limits, or the withdrawal of a number from 1 on that is
+-- below it.
+abbrev pub IsPost : ℕ → Post → Type 0
+IsPost seq (Offers object) = IsObject object
+IsPost seq (Withdraws withdrawn) = (0 < withdrawn) × (withdrawn < seq)
+
 -- Who publishes: its node's name, its group's name, and its key.
 pub record Publisher : Type 0 where
   pub node : List Component
   pub group : List Component
   pub key : List ℕ
 
+-- The publisher of this node, this group and this key.
 abbrev pub publisher : List Component → List Component → List ℕ → Publisher
 publisher node group key = record { node = node; group = group; key = key }
 
@@ -42,6 +77,7 @@ publisher node group key = record { node = node; group = group; key = key }
 abbrev pub IsShortName : List Component → Type 0
 IsShortName name = IsName name × (length (encoding name) ≤ node_name_limit)
 
+-- A publisher's names are short.
 pub record IsPublisher (publisher : Publisher) : Type 0 where
   pub node : IsShortName publisher.node
   pub group : IsShortName publisher.group

@@ -1,33 +1,71 @@
--- The packets of a publication: its record, and then the segments of its object.
-use Rattle.std.specs.Prelude.{ℕ, ◌+◌, ◌-◌, List, [], ◌∷◌, ◌++◌, length, map, Option, Some, None, slice_get}
+-- The packets of a publication: its record, its index packets, and then the segments of its object.
+use Rattle.std.specs.Prelude.{ℕ, ◌+◌, ◌-◌, ◌*◌, ◌==◌, Bool, not, if◌then◌else◌, List, [], ◌∷◌, ◌++◌, length, map, take}
+use Rattle.std.specs.Prelude.{drop, Option, Some, None, slice_get}
 use Rattle.std.specs.List.{flat_map}
 use Rattle.sha2.specs.Sha256.{sha256}
+use Rattle.sorted_lists.specs.Range.{numbers_from}
 use Rattle.ndn_tlv.specs.Types as types
 use Rattle.ndn_tlv.specs.Spelling.{element}
 use Rattle.ndn_tlv.specs.NumberField.{number_field}
 use Rattle.ndn_name.specs.Names.{Component, encoding}
 use Rattle.ndn_data.specs.WrittenData.{written_data}
+use Rattle.repo_plan.specs.declared.shape.Shape.{Shape}
+use Rattle.repo_plan.specs.Parts.{most_listed, index_packets, shape_of_segments}
 use Rattle.repo_object.specs.RecordTypes as record_types
-use Rattle.repo_object.specs.Objects.{NamedContents, Publisher, key_name, record_name, segment_name}
+use Rattle.repo_object.specs.Objects.{NamedContents, Post, Publisher, key_name, record_name, segment_name}
+use Rattle.repo_object.specs.Objects.Post.{Offers, Withdraws}
 
--- What a record lists: an object's name, and the digest of each of its segments' packets, in order.
+-- ---- what is written in records and index packets
+
+-- What the record of an object lists: the object's name, how many segments it has, and digests in order, of the index
+-- packets where there are some, and else of the segments' packets.
 pub record Listed : Type 0 where
   pub name : List Component
+  pub segments : ℕ
   pub digests : List (List ℕ)
 
--- The content of a record: Name, SegmentCount and a Digest for each segment.
-abbrev pub record_content : Listed → List ℕ
-record_content l =
-    element types.Name (encoding l.name)
-    ++ element record_types.SegmentCount (number_field (length l.digests))
-    ++ flat_map (element record_types.Digest) l.digests
+-- What a record says: it lists the parts of an object, or withdraws the publication of a number.
+pub data RecordSays : Type 0 where
+  Lists : Listed → RecordSays
+  WithdrawsNumber : ℕ → RecordSays
 
--- The packet of a segment, which names the object's last one, signed with the key of that name.
+-- Whether so many segments are listed by index packets.
+abbrev pub is_indexed : ℕ → Bool
+is_indexed segments = not (index_packets segments == 0)
+
+-- How many digests the record of so many segments lists.
+abbrev pub count_listed : ℕ → ℕ
+count_listed segments = if is_indexed segments then index_packets segments else segments
+
+-- The type of the elements that such a record lists them in.
+abbrev pub digest_type : ℕ → ℕ
+digest_type segments = if is_indexed segments then record_types.IndexDigest else record_types.Digest
+
+-- What a record tells of its publication's parts. A withdrawal has none behind its record.
+abbrev pub shape_said : RecordSays → Shape
+shape_said (Lists l) = shape_of_segments l.segments
+shape_said (WithdrawsNumber seq) = shape_of_segments 0
+
+-- The content of a record: Name, SegmentCount and the digests, or Withdraws.
+abbrev pub record_content : RecordSays → List ℕ
+record_content (Lists l) =
+    element types.Name (encoding l.name)
+    ++ element record_types.SegmentCount (number_field l.segments)
+    ++ flat_map (element (digest_type l.segments)) l.digests
+record_content (WithdrawsNumber seq) = element record_types.Withdraws (number_field seq)
+
+-- The content of an index packet: a Digest for each segment that it lists.
+abbrev pub index_content : List (List ℕ) → List ℕ
+index_content digests = flat_map (element record_types.Digest) digests
+
+-- ---- packets that are numbered under a name
+
+-- The packet of that number under a name, which names the last number, signed with the key of that name.
 abbrev pub segment_packet : List Component → List ℕ → List Component → ℕ → ℕ → List ℕ → List ℕ
 segment_packet key_name key name last i content =
     written_data (segment_name name i) (Some last) content key_name key
 
--- The packets of the segments from number `i` on, which have these contents.
+-- The packets from number `i` on, which have these contents.
 unfoldable pub segment_packets_from : List Component → List ℕ → List Component → ℕ → ℕ → List (List ℕ)
     → List (List ℕ)
 segment_packets_from key_name key name last i [] = []
@@ -35,33 +73,69 @@ segment_packets_from key_name key name last i (content ∷ contents) =
     segment_packet key_name key name last i content
     ∷ segment_packets_from key_name key name last (i + 1) contents
 
--- The packets of all segments of an object.
-abbrev pub segment_packets : List Component → List ℕ → NamedContents → List (List ℕ)
-segment_packets key_name key object =
-    segment_packets_from key_name key object.name (length object.contents - 1) 0 object.contents
+-- The packets of all these contents.
+abbrev pub packets_under : List Component → List ℕ → List Component → List (List ℕ) → List (List ℕ)
+packets_under key_name key name contents =
+    segment_packets_from key_name key name (length contents - 1) 0 contents
 
--- The same, as the publisher signs them.
+-- ---- publications
+
+-- The packets of the segments of an object, as the publisher signs them.
 abbrev pub published_segments : Publisher → NamedContents → List (List ℕ)
 published_segments publisher object =
-    segment_packets (key_name publisher.node) publisher.key object
+    packets_under (key_name publisher.node) publisher.key object.name object.contents
 
--- What the publication's record lists.
-abbrev pub published_listing : Publisher → NamedContents → Listed
-published_listing publisher object =
-    record { name = object.name; digests = map sha256 (published_segments publisher object) }
+-- What index packet `k`, counted from 0, lists of all: the 200 from place `200 k` on, or as many as there are.
+abbrev pub listed_by : {A : Type 0} → List A → ℕ → List A
+listed_by all k = take most_listed (drop (k * most_listed) all)
 
--- The packet of a record that lists this, of the publication of that number.
-abbrev pub record_packet : Publisher → ℕ → Listed → List ℕ
-record_packet publisher seq l =
-    written_data (record_name publisher.node publisher.group seq) None (record_content l)
+-- The contents of the index packets of segments with these packets.
+abbrev pub index_contents : List (List ℕ) → List (List ℕ)
+index_contents segments =
+    map (λ k. index_content (map sha256 (listed_by segments k))) (numbers_from 0 (index_packets (length segments)))
+
+-- The index packets of an object that is published under that number: they are numbered under the record's name.
+abbrev pub published_indexes : Publisher → ℕ → NamedContents → List (List ℕ)
+published_indexes publisher seq object =
+    packets_under (key_name publisher.node) publisher.key (record_name publisher.node publisher.group seq)
+    (index_contents (published_segments publisher object))
+
+-- The packets that the object's record lists.
+abbrev pub listed_packets : Publisher → ℕ → NamedContents → List (List ℕ)
+listed_packets publisher seq object =
+    if is_indexed (length object.contents) then published_indexes publisher seq object
+    else published_segments publisher object
+
+-- What the object's record lists.
+abbrev pub published_listing : Publisher → ℕ → NamedContents → Listed
+published_listing publisher seq object = record {
+  name = object.name;
+  segments = length object.contents;
+  digests = map sha256 (listed_packets publisher seq object);
+}
+
+-- What the record of a publication says.
+abbrev pub published_record : Publisher → ℕ → Post → RecordSays
+published_record publisher seq (Offers object) = Lists (published_listing publisher seq object)
+published_record publisher seq (Withdraws withdrawn) = WithdrawsNumber withdrawn
+
+-- The packet of a record that says this, of the publication of that number.
+abbrev pub record_packet : Publisher → ℕ → RecordSays → List ℕ
+record_packet publisher seq says =
+    written_data (record_name publisher.node publisher.group seq) None (record_content says)
     (key_name publisher.node) publisher.key
 
--- The packets of a publication: the record, then the segments in order.
-abbrev pub packets : Publisher → ℕ → NamedContents → List (List ℕ)
-packets publisher seq object =
-    record_packet publisher seq (published_listing publisher object)
-    ∷ published_segments publisher object
+-- The packets of the parts behind the record.
+abbrev pub packets_behind : Publisher → ℕ → Post → List (List ℕ)
+packets_behind publisher seq (Offers object) =
+    published_indexes publisher seq object ++ published_segments publisher object
+packets_behind publisher seq (Withdraws withdrawn) = []
 
--- The packet of part `x`, counted from 0: part 0 is the record, part `i + 1` segment `i`.
-abbrev pub packet_at : Publisher → ℕ → NamedContents → ℕ → Option (List ℕ)
-packet_at publisher seq object x = slice_get (packets publisher seq object) x
+-- The packets of a publication: the record, then the index packets, then the segments, each kind in order.
+abbrev pub packets : Publisher → ℕ → Post → List (List ℕ)
+packets publisher seq post =
+    record_packet publisher seq (published_record publisher seq post) ∷ packets_behind publisher seq post
+
+-- The packet of part `x`, counted from 0: part 0 is the record, and the parts behind it follow.
+abbrev pub packet_at : Publisher → ℕ → Post → ℕ → Option (List ℕ)
+packet_at publisher seq post x = slice_get (packets publisher seq post) x

@@ -1,8 +1,6 @@
--- What the content of a record is read as.
-use Rattle.std.specs.Prelude.{◌≡◌, ◌<◌, ◌≤◌, ℕ, ◌+◌, ◌*◌, Bool, IsTrue, IsSome, List, [], ◌∷◌, length, map, take, drop}
-use Rattle.std.specs.Prelude.{slice_get, Option, Some, None, option_map, unwrap_or, Result, Ok, Err, nat_le, ◌==◌}
-use Rattle.std.specs.Prelude.{if◌then◌else◌}
-use Rattle.std.specs.List.{All}
+-- What the contents of records and index packets are read as.
+use Rattle.std.specs.Prelude.{ℕ, ◌==◌, nat_le, Bool, true, false, ◌&&◌, if◌then◌else◌, List, [], ◌∷◌, length, Option}
+use Rattle.std.specs.Prelude.{Some, None, option_map, Result, Ok, Err}
 use Rattle.std.specs.Option.{option_and_then}
 use Rattle.ndn_tlv.specs.Types as types
 use Rattle.ndn_tlv.specs.declared.order_table.FieldFault.{FieldFault}
@@ -12,23 +10,29 @@ use Rattle.ndn_tlv.specs.Elements.{Item, elements}
 use Rattle.ndn_tlv.specs.NumberField.{number_of}
 use Rattle.ndn_tlv.specs.OrderTable.{once, repeated, fields}
 use Rattle.ndn_name.specs.declared.name_fault.NameFault.{NameFault}
-use Rattle.ndn_name.specs.Names.{Component, IsName, name_of}
+use Rattle.ndn_name.specs.Names.{Component, name_of}
 use Rattle.repo_object.specs.declared.record_fields.RecordField.{RecordField}
 use Rattle.repo_object.specs.declared.record_fields.RecordField.TheVariants as field
-use Rattle.repo_object.specs.declared.record_fields.DigestReader.{DigestReader}
-use Rattle.repo_object.specs.declared.record_fields.RecordReader.{RecordReader}
-use Rattle.repo_object.specs.Limits.{segment_limit}
+use Rattle.repo_object.specs.Limits.{segment_limit, number_limit}
 use Rattle.repo_object.specs.RecordTypes as record_types
 use Rattle.repo_object.specs.Objects.{is_object_name}
-use Rattle.repo_object.specs.Publication.{Listed}
+use Rattle.repo_object.specs.Publication.{RecordSays, is_indexed, count_listed}
+use Rattle.repo_object.specs.Publication.RecordSays.{Lists, WithdrawsNumber}
 
--- The places of the fields of a record.
+-- The places of the fields of records of every kind. What one kind has is critical in another, and so one table reads
+-- them all.
 abbrev pub record_table : List (Place RecordField)
 record_table =
-    once types.Name field.Name
+    once record_types.Withdraws field.Withdraws
+    ∷ once types.Name field.Name
     ∷ once record_types.SegmentCount field.SegmentCount
     ∷ repeated record_types.Digest field.Digest
+    ∷ repeated record_types.IndexDigest field.IndexDigest
     ∷ []
+
+-- The places of the fields of an index packet.
+abbrev pub index_table : List (Place RecordField)
+index_table = repeated record_types.Digest field.Digest ∷ []
 
 -- How many octets a digest has.
 abbrev pub digest_len : ℕ
@@ -39,6 +43,7 @@ abbrev pub that_passes : {A : Type 0} → (A → Bool) → Option A → Option A
 that_passes test None = None
 that_passes test (Some x) = if test x then Some x else None
 
+-- A name, where it was read.
 abbrev pub read_name : Result (List Component) NameFault → Option (List Component)
 read_name (Ok name) = Some name
 read_name (Err fault) = None
@@ -47,104 +52,94 @@ read_name (Err fault) = None
 abbrev pub object_name_in : Item → Option (List Component)
 object_name_in e = that_passes is_object_name (read_name (name_of e.value_start e.value))
 
--- The number of segments that an element's value is: 0 to 200.
+-- The number of segments that an element's value is: 0 to 20,000.
 abbrev pub segment_count_in : Item → Option ℕ
 segment_count_in e = that_passes (λ n. nat_le n segment_limit) (number_of e.value)
 
--- The digest that a field is: a Digest of 32 octets.
-abbrev pub digest_in : RecordField × Item → Option (List ℕ)
-digest_in (field.Digest, e) = if length e.value == digest_len then Some e.value else None
-digest_in (field.Name, e) = None
-digest_in (field.SegmentCount, e) = None
+-- The number of a publication that an element's value is: 1 to 65,535.
+abbrev pub number_in : Item → Option ℕ
+number_in e = that_passes (λ n. nat_le 1 n && nat_le n number_limit) (number_of e.value)
+
+-- Whether a field lists the digest of an index packet, or that of a segment.
+abbrev pub lists_index : RecordField → Option Bool
+lists_index field.Withdraws = None
+lists_index field.Name = None
+lists_index field.SegmentCount = None
+lists_index field.Digest = Some false
+lists_index field.IndexDigest = Some true
+
+-- The kind is known, and is this one.
+abbrev pub is_kind : Bool → Option Bool → Bool
+is_kind indexes None = false
+is_kind true (Some kind) = kind
+is_kind false (Some true) = false
+is_kind false (Some false) = true
+
+-- The digest of that kind that a field is, of 32 octets.
+abbrev pub digest_in : Bool → RecordField × Item → Option (List ℕ)
+digest_in indexes (field, e) =
+    if is_kind indexes (lists_index field) && length e.value == digest_len then Some e.value else None
 
 -- The digests that fields are, where each is one and nothing ends them but the end.
-unfoldable pub digests_among : List (RecordField × Item) → Option FieldFault → Option (List (List ℕ))
-digests_among [] None = Some []
-digests_among [] (Some fault) = None
-digests_among (first ∷ fields) fault =
+unfoldable pub digests_among : Bool → List (RecordField × Item) → Option FieldFault → Option (List (List ℕ))
+digests_among indexes [] None = Some []
+digests_among indexes [] (Some fault) = None
+digests_among indexes (first ∷ fields) fault =
     option_and_then
-    (λ digest. option_map (λ digests. digest ∷ digests) (digests_among fields fault))
-    (digest_in first)
+    (λ digest. option_map (λ digests. digest ∷ digests) (digests_among indexes fields fault))
+    (digest_in indexes first)
 
 -- The same, where there are so many.
-abbrev pub counted_digests : ℕ → Listing (RecordField × Item) FieldFault → Option (List (List ℕ))
-counted_digests count fields =
-    that_passes (λ digests. length digests == count) (digests_among fields.items fields.fault)
+abbrev pub counted_digests : Bool → ℕ → Listing (RecordField × Item) FieldFault → Option (List (List ℕ))
+counted_digests indexes count fields =
+    that_passes (λ digests. length digests == count) (digests_among indexes fields.items fields.fault)
 
-abbrev pub listed_record : List Component → List (List ℕ) → Listed
-listed_record name digests = record { name = name; digests = digests }
+-- The digests that the record of so many segments lists.
+abbrev pub listed_digests : ℕ → List (RecordField × Item) → Option FieldFault → Option (List (List ℕ))
+listed_digests segments items fault =
+    counted_digests (is_indexed segments) (count_listed segments) (record { items = items; fault = fault })
 
--- What the fields of a record list: a Name, a SegmentCount, and as many Digests as that says.
-abbrev pub listing_among : List (RecordField × Item) → Option FieldFault → Option Listed
-listing_among ((field.Name, n) ∷ (field.SegmentCount, c) ∷ digests) fault =
+-- What a record says that begins with Withdraws: nothing else follows.
+abbrev pub withdrawal_among : Item → List (RecordField × Item) → Option FieldFault → Option RecordSays
+withdrawal_among w [] None = option_map WithdrawsNumber (number_in w)
+withdrawal_among w [] (Some fault) = None
+withdrawal_among w (field ∷ fields) fault = None
+
+-- A record that lists this.
+abbrev pub listed_record : List Component → ℕ → List (List ℕ) → RecordSays
+listed_record name segments digests = Lists (record { name = name; segments = segments; digests = digests })
+
+-- What a record says that begins with a Name and a SegmentCount: the digests follow that the number asks for.
+abbrev pub listing_among : Item → Item → List (RecordField × Item) → Option FieldFault → Option RecordSays
+listing_among n c digests fault =
     option_and_then (λ name.
-    option_and_then (λ count.
-    option_map (listed_record name) (counted_digests count (record { items = digests; fault = fault })))
+    option_and_then (λ segments. option_map (listed_record name segments) (listed_digests segments digests fault))
     (segment_count_in c))
     (object_name_in n)
-listing_among _ fault = None
+
+-- What a record says that begins with a Name: a SegmentCount follows.
+abbrev pub counted_among : Item → List (RecordField × Item) → Option FieldFault → Option RecordSays
+counted_among n ((field.SegmentCount, c) ∷ digests) fault = listing_among n c digests fault
+counted_among n _ fault = None
+
+-- What the fields of a record say.
+abbrev pub said_among : List (RecordField × Item) → Option FieldFault → Option RecordSays
+said_among ((field.Withdraws, w) ∷ fields) fault = withdrawal_among w fields fault
+said_among ((field.Name, n) ∷ fields) fault = counted_among n fields fault
+said_among _ fault = None
 
 -- The fields of a content by the order table of records.
 abbrev pub record_fields : List ℕ → Listing (RecordField × Item) FieldFault
 record_fields content = fields record_table (elements 0 content)
 
--- What the content of a record lists, or None where it is no record's.
-abbrev pub listing_of : List ℕ → Option Listed
-listing_of content = listing_among (record_fields content).items (record_fields content).fault
+-- What the content of a record says, or None where it is no record's.
+abbrev pub record_of : List ℕ → Option RecordSays
+record_of content = said_among (record_fields content).items (record_fields content).fault
 
--- ---- what a reader of a record has still to read
+-- The fields of a content by the order table of index packets.
+abbrev pub index_fields : List ℕ → Listing (RecordField × Item) FieldFault
+index_fields content = fields index_table (elements 0 content)
 
-abbrev pub digests_to_come : DigestReader → Option (List (List ℕ))
-digests_to_come reader = counted_digests reader.left reader.fields
-
--- The same, where they are all there.
-abbrev pub digests_left : DigestReader → List (List ℕ)
-digests_left reader = unwrap_or (digests_to_come reader) []
-
--- How many octets the element of a digest has: a type, a length, and the digest.
-abbrev pub digest_element_len : ℕ
-digest_element_len = 34
-
--- Octets that hold the digests of a reader have them one after another, where there are no more
--- octets than the elements of so many digests have.
-abbrev pub IsRow : List ℕ → DigestReader → Type 0
-IsRow octets reader =
-    length octets ≡ digest_element_len * reader.left → (i : ℕ) → i < reader.left
-    → slice_get (digests_left reader) i ≡ Some (take digest_len (drop (digest_element_len * i + 2) octets))
-
-abbrev pub listing_to_come : RecordReader → Option Listed
-listing_to_come reader = option_map (listed_record reader.name) (digests_to_come reader.digests)
-
--- ---- the same in the words of the format
-
-abbrev pub IsDigest : List ℕ → Type 0
-IsDigest digest = length digest ≡ digest_len
-
--- What every listing is within that was read.
-pub record IsListing (l : Listed) : Type 0 where
-  pub name : IsName l.name
-  pub named : IsTrue (is_object_name l.name)
-  pub few : length l.digests ≤ segment_limit
-  pub digests : All IsDigest l.digests
-
--- A record's name and digests were read, and are within the limits, and these octets hold the digests.
-pub record RecordIsRead (name : List Component) (digests : DigestReader) (octets : List ℕ) : Type 0 where
-  pub all : IsSome (digests_to_come digests)
-  pub within : IsListing (listed_record name (digests_left digests))
-  pub row : IsRow octets digests
-
--- A content has the fields of a record that lists this: a Name, a SegmentCount, then Digests.
-pub record Lists (content : List ℕ) (l : Listed) : Type 0 where
-  pub name : Item
-  pub count : Item
-  pub digests : List Item
-  pub fields : record_fields content ≡ record {
-    items = (field.Name, name) ∷ (field.SegmentCount, count) ∷ map (λ d. (field.Digest, d)) digests;
-    fault = None;
-  }
-  pub names : name_of name.value_start name.value ≡ Ok l.name
-  pub named : IsTrue (is_object_name l.name)
-  pub counts : number_of count.value ≡ Some (length l.digests)
-  pub few : length l.digests ≤ segment_limit
-  pub values : map (λ (d : Item). d.value) digests ≡ l.digests
-  pub are : All IsDigest l.digests
+-- The digests of segments that the content of an index packet lists, where there are so many.
+abbrev pub index_of : List ℕ → ℕ → Option (List (List ℕ))
+index_of content count = counted_digests false count (index_fields content)

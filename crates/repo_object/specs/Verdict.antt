@@ -1,6 +1,8 @@
 -- Whether octets pass for a wanted part, and else the first reason why not.
-use Rattle.std.specs.Prelude.{◌≡◌, ℕ, ◌&&◌, ◌||◌, not, Bool, true, false, IsSome, IfSome, List, [], ◌++◌, Option, Some}
-use Rattle.std.specs.Prelude.{None, is_some, unwrap_or, slice_get, Result, Ok, Err, IsOk, ◌==◌, if◌then◌else◌}
+use Rattle.std.specs.Prelude.{◌≡◌, ℕ, ◌&&◌, ◌||◌, not, Bool, true, false, IsTrue, IsSome, IfSome, List, [], ◌++◌}
+use Rattle.std.specs.Prelude.{Option, Some, None, is_some, nat_lt, unwrap_or, slice_get, Result, Ok, Err, IsOk, ◌==◌}
+use Rattle.std.specs.Prelude.{if◌then◌else◌}
+use Rattle.std.specs.Option.{option_and_then}
 use Rattle.std.specs.Str.{bytes_eq}
 use Rattle.sha2.specs.Sha256.{sha256}
 use Rattle.ndn_tlv.specs.Types as types
@@ -16,8 +18,9 @@ use Rattle.repo_object.specs.declared.part_refusal.PartRefusal.{PartRefusal}
 use Rattle.repo_object.specs.declared.part_refusal.PartRefusal.TheVariants.{Packet, UnsignedOctets, OtherName}
 use Rattle.repo_object.specs.declared.part_refusal.PartRefusal.TheVariants.{OtherDigest, UnknownKey, BadSignature}
 use Rattle.repo_object.specs.declared.part_refusal.PartRefusal.TheVariants.{BadRecord}
-use Rattle.repo_object.specs.Publication.{Listed}
-use Rattle.repo_object.specs.Records.{listing_of}
+use Rattle.repo_object.specs.Publication.{RecordSays}
+use Rattle.repo_object.specs.Publication.RecordSays.{Lists, WithdrawsNumber}
+use Rattle.repo_object.specs.Records.{record_of, index_of}
 use Rattle.repo_object.specs.Wants.{WantedPart}
 
 -- The packet has no octets but those that are signed, and the signature behind them.
@@ -47,9 +50,22 @@ names_key key_name d =
 abbrev pub is_signed_by : List ℕ → Data → Bool
 is_signed_by key d = bytes_eq (hmac key d.signed) d.signature
 
--- A record's content is a record.
-abbrev pub lists_if_record : ℕ → Data → Bool
-lists_if_record part d = not (part == 0) || is_some (listing_of d.content)
+-- The record of a publication of this number may say it: a withdrawal is of an earlier number.
+abbrev pub may_say : ℕ → Option RecordSays → Bool
+may_say seq None = false
+may_say seq (Some (Lists l)) = true
+may_say seq (Some (WithdrawsNumber withdrawn)) = nat_lt withdrawn seq
+
+-- A content lists as many digests as it has to, where that is known.
+abbrev pub lists_as_many : Option ℕ → List ℕ → Bool
+lists_as_many None content = true
+lists_as_many (Some count) content = is_some (index_of content count)
+
+-- A record's content is a record's that its publication may have, and an index packet's lists as many digests as it has
+-- to.
+abbrev pub is_well_said : WantedPart → Data → Bool
+is_well_said want d =
+    (not (want.part.part == 0) || may_say want.part.seq (record_of d.content)) && lists_as_many want.lists d.content
 
 -- The packet, where it passes for the want under the publisher's key of that name, or the first
 -- reason why not.
@@ -60,9 +76,10 @@ packet_verdict want key_name key octets d =
     else if not (has_digest want.digest octets) then Err OtherDigest
     else if not (names_key key_name d) then Err UnknownKey
     else if not (is_signed_by key d) then Err BadSignature
-    else if not (lists_if_record want.part.part d) then Err BadRecord
+    else if not (is_well_said want d) then Err BadRecord
     else Ok d
 
+-- A packet, where it was read.
 abbrev pub read_packet : Result Data PacketFault → Result Data PartRefusal
 read_packet (Ok d) = Ok d
 read_packet (Err fault) = Err (Packet fault)
@@ -83,7 +100,8 @@ pub record Passes (want : WantedPart) (key_name key octets : List ℕ) (d : Data
   pub located : d.locator ≡ Some locator
   pub key_named : encoding locator ≡ key_name
   pub signature : d.signature ≡ hmac key d.signed
-  pub listing : want.part.part ≡ 0 → IsSome (listing_of d.content)
+  pub said : want.part.part ≡ 0 → IsTrue (may_say want.part.seq (record_of d.content))
+  pub listing : IfSome want.lists (λ count. IsSome (index_of d.content count))
 
 -- ---- what a check gives
 
@@ -98,13 +116,15 @@ pub record CheckedPart : Type 0 where
 abbrev pub IsChecked : CheckedPart → Type 0
 IsChecked c = IsOk (part_verdict c.want c.key_name c.key c.octets)
 
--- The key of a number in the ring, and so that of the want's publisher.
+-- The key of a number in the ring.
 abbrev pub key_at : List NamedKey → ℕ → NamedKey
 key_at ring number = unwrap_or (slice_get ring number) (pair [] [])
 
+-- The key of a want's publisher.
 abbrev pub publisher_key : List NamedKey → WantedPart → NamedKey
 publisher_key ring want = key_at ring want.part.publisher
 
+-- A part that passed for its want, under the key that the ring has at its publisher's number.
 abbrev pub checked_part : WantedPart → List NamedKey → List ℕ → CheckedPart
 checked_part want ring octets =
     record {
@@ -119,6 +139,7 @@ abbrev pub ring_verdict : WantedPart → List NamedKey → List ℕ → Result D
 ring_verdict want ring octets =
     part_verdict want (publisher_key ring want).name (publisher_key ring want).key octets
 
+-- The content of a packet, where it was read.
 abbrev pub content_within : Result Data PacketFault → Option (List ℕ)
 content_within (Ok d) = Some d.content
 content_within (Err fault) = None
@@ -127,10 +148,10 @@ content_within (Err fault) = None
 abbrev pub content_in : List ℕ → Option (List ℕ)
 content_in octets = content_within (data_of octets)
 
-abbrev pub listing_within : Result Data PacketFault → Option Listed
-listing_within (Ok d) = listing_of d.content
-listing_within (Err fault) = None
+-- What the record that the octets are says.
+abbrev pub said_in : List ℕ → Option RecordSays
+said_in octets = option_and_then record_of (content_in octets)
 
--- What the record that the octets are lists.
-abbrev pub listing_in : List ℕ → Option Listed
-listing_in octets = listing_within (data_of octets)
+-- The digests that the index packet that the octets are lists, where there are so many.
+abbrev pub index_in : List ℕ → ℕ → Option (List (List ℕ))
+index_in octets count = option_and_then (λ content. index_of content count) (content_in octets)

@@ -52,7 +52,7 @@ pub fn check_part<'p>(
         (λ refusal. ring_verdict want.now ring.now octets.now ≡ Err refusal) }
     ensures checked { IfOk result (λ checked. checked ≡ checked_part want.now ring.now octets.now) }
 {
-    want.expected().check(octets, ring)?;
+    want.check(octets, ring)?;
     let publisher = want.part().publisher;
     Ok(Checked {
         want,
@@ -71,12 +71,12 @@ impl<'p> Checked<'p> {
         self.octets
     }
 
-    /// The packet's digest, where the want tells it, as of segments: the check compared it.
+    /// The packet's digest, where the want tells it: the check compared it.
     pub fn digest(&self) -> Option<&'p [u8; 32]>
         ensures same { option_map (λ digest. digest.now) result ≡ self.now.want.digest }
         ensures digest { IfSome result (λ digest. digest.now ≡ sha256 self.now.octets) }
     {
-        self.want.expected().digest()
+        self.want.digest()
     }
 
     pub fn part(&self) -> Part

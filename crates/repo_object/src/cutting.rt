@@ -12,7 +12,7 @@ use thiserror::Error;
 /// Why a content was not cut.
 #[derive(Clone, Copy, Debug, PartialEq, Eq, Error)]
 pub enum CutFault {
-    /// It would make so many segments, which is above 200.
+    /// It would make so many segments, which is above 20,000.
     #[error("the content makes {segments} segments")]
     TooMany { segments: usize },
     #[error("out of memory")]

@@ -1,32 +1,44 @@
-ghost use Rattle.std.specs.Prelude.{◌≡◌, ◌≢◌, ◌+◌, ◌≤◌, ◌<◌, ◌^◌, ◌↔◌, ◌-◌, ℕ, false, List, Some, Ok, IsOk, length};
-ghost use Rattle.std.specs.Prelude.{slice_get};
+ghost use Rattle.std.specs.Prelude.{◌≡◌, ◌≢◌, ◌+◌, ◌-◌, ◌<◌, ◌≤◌, ◌^◌, ◌↔◌, ℕ, false, List, Some, Ok, IsOk, length};
+ghost use Rattle.std.specs.Prelude.{map};
+ghost use Rattle.std.specs.Prelude.{slice_get, IsTrue, IsSome, IfSome, None};
 ghost use Rattle.std.specs.List.{All};
 ghost use Rattle.sha2.specs.Sha256.{sha256};
-ghost use Rattle.ndn_tlv.specs.Elements.{IsOctets};
+ghost use Rattle.ndn_tlv.specs.Elements.{IsOctets, Item, elements};
+ghost use Rattle.ndn_tlv.specs.OrderTable.{fields};
 ghost use Rattle.ndn_name.specs.Names.{Component, IsName, encoding, full_name};
 ghost use Rattle.ndn_packet.specs.Outer.{packet_limit};
 ghost use Rattle.ndn_data.specs.Data.{Data, Satisfies};
 ghost use Rattle.ndn_interest.specs.Interest.{interest_of};
 ghost use Rattle.ndn_interest.specs.WrittenInterest.{read_plain};
 ghost use Rattle.repo_plan.specs.declared.part.Part.{Part};
-ghost use Rattle.repo_object.specs.Objects.{NamedContents, IsObject, Publisher, IsPublisher, IsShortName, key_name};
-ghost use Rattle.repo_object.specs.Objects.{record_name, segment_name};
-ghost use Rattle.repo_object.specs.Publication.{Listed, packets, packet_at, published_listing, record_packet};
+ghost use Rattle.repo_plan.specs.declared.shape.Shape.{Shape};
+ghost use Rattle.repo_plan.specs.Parts.{most_listed, index_packets, parts_behind};
 ghost use Rattle.repo_object.specs.Limits.{node_name_limit, object_name_limit, segment_limit, content_limit};
+ghost use Rattle.repo_object.specs.Objects.{NamedContents, Post, IsObject, IsPost, Publisher, IsPublisher};
+ghost use Rattle.repo_object.specs.Objects.{IsShortName, key_name, record_name, segment_name, shape_in};
+ghost use Rattle.repo_object.specs.Objects.Post.{Offers};
+ghost use Rattle.repo_object.specs.Publication.{Listed, RecordSays, published_segments, published_listing, listed_by};
+ghost use Rattle.repo_object.specs.Publication.{published_record, record_packet, packets, packet_at};
+ghost use Rattle.repo_object.specs.Publication.{shape_said};
 ghost use Rattle.repo_object.specs.Published.{AreClear};
-ghost use Rattle.repo_object.specs.Records.{listing_of, IsListing, Lists};
-ghost use Rattle.repo_object.specs.Wants.{WantedPart, asked_name, want_record, want_segment};
-ghost use Rattle.repo_object.specs.Verdict.{part_verdict, Passes, content_in, listing_in};
+ghost use Rattle.repo_object.specs.declared.record_fields.RecordField.{RecordField};
+ghost use Rattle.repo_object.specs.Records.{record_fields, record_of, index_of};
+ghost use Rattle.repo_object.specs.KindTables.{Kind, kind_table, is_of_kind};
+ghost use Rattle.repo_object.specs.Formats.{IsListing, IsSaid, HasSaid, HasIndex};
+ghost use Rattle.repo_object.specs.WorkedContents.{RecordsAreReadSo, IndexPacketsAreReadSo};
+ghost use Rattle.repo_object.specs.Wants.{WantedPart, asked_name, want_record, want_index, want_segment, listed_in};
+ghost use Rattle.repo_object.specs.Verdict.{part_verdict, Passes, may_say, content_in, said_in, index_in};
 ghost use Rattle.repo_object.specs.Cuts.{pieces, AreCut};
 
 use crate::names::NODE_NAME_LIMIT;
-use crate::object::{CONTENT_LIMIT, OBJECT_NAME_LIMIT, SEGMENT_LIMIT};
+use crate::object::{CONTENT_LIMIT, MOST_LISTED, OBJECT_NAME_LIMIT, SEGMENT_LIMIT};
 
 /// The limits are those of the definitions.
 pub fn limits_are_the_definitions()
     ensures node_name { NODE_NAME_LIMIT ≡ node_name_limit }
     ensures object_name { OBJECT_NAME_LIMIT ≡ object_name_limit }
     ensures segments { SEGMENT_LIMIT ≡ segment_limit }
+    ensures listed { MOST_LISTED ≡ most_listed }
     ensures content { CONTENT_LIMIT ≡ content_limit }
 {}
 
@@ -36,49 +48,80 @@ pub fn cut_pieces_are_the_content()
     ensures { (size : ℕ) (content : List ℕ) → 0 < size → AreCut size content (pieces size content) }
 {}
 
-/// A content lists what its fields say: a Name, a SegmentCount, and as many Digests, within the limits.
-pub fn listings_are_of_records()
-    ensures fields { (content : List ℕ) (l : Listed) → (listing_of content ≡ Some l) ↔ Lists content l }
-    ensures within { (content : List ℕ) (l : Listed) → IsOctets content → length content < 2 ^ 64
-        → listing_of content ≡ Some l → IsListing l }
+/// A record says what its fields say: a Name, a SegmentCount and as many digests as that asks for, or Withdraws alone,
+/// within the limits. An index packet lists Digests alone, and is read as that of as many as there are.
+pub fn records_are_what_their_fields_say()
+    ensures fields { (content : List ℕ) (says : RecordSays) → (record_of content ≡ Some says) ↔ HasSaid content says }
+    ensures within { (content : List ℕ) (says : RecordSays) → IsOctets content → length content < 2 ^ 64
+        → record_of content ≡ Some says → IsSaid says }
+    ensures index { (content : List ℕ) (count : ℕ) (digests : List (List ℕ))
+        → (index_of content count ≡ Some digests) ↔ (HasIndex content digests × (length digests ≡ count)) }
 {}
 
-/// Octets pass for a want as a packet exactly where they pass every check.
+/// Fields of one kind of record, which no fault ends, are read by the table of all kinds exactly where the order table
+/// of that kind alone reads them.
+pub fn each_kind_has_its_own_table()
+    ensures { (kind : Kind) (content : List ℕ) (items : List (RecordField × Item))
+        → All (λ x. IsTrue (is_of_kind kind x.0)) items
+        → (record_fields content ≡ record { items = items; fault = None })
+        ↔ (fields (kind_table kind) (elements 0 content) ≡ record { items = items; fault = None }) }
+{}
+
+/// Small records of each kind are read so, and contents that are none.
+pub fn records_are_read_so()
+    ensures { RecordsAreReadSo }
+{}
+
+/// Small index packets are read so.
+pub fn index_packets_are_read_so()
+    ensures { IndexPacketsAreReadSo }
+{}
+
+/// Octets pass for a want as a packet exactly where they pass every check. A record that passes says what it may, and
+/// an index packet lists as many digests as it has to.
 pub fn passing_is_every_check()
-    ensures { (want : WantedPart) (key_name key octets : List ℕ) (d : Data)
+    ensures checks { (want : WantedPart) (key_name key octets : List ℕ) (d : Data)
         → (part_verdict want key_name key octets ≡ Ok d) ↔ Passes want key_name key octets d }
+    ensures said { (want : WantedPart) (key_name key octets : List ℕ) → IsOk (part_verdict want key_name key octets)
+        → want.part.part ≡ 0 → IsTrue (may_say want.part.seq (said_in octets)) }
+    ensures lists { (want : WantedPart) (key_name key octets : List ℕ) → IsOk (part_verdict want key_name key octets)
+        → IfSome want.lists (λ count. IsSome (index_in octets count)) }
 {}
 
-/// A publication has a record and a packet for each segment, of which none has more than 8,800 octets.
+/// A publication has a packet for each part, and none has more octets than a packet may have.
 pub fn packets_fit()
-    ensures count { (publisher : Publisher) (seq : ℕ) (object : NamedContents)
-        → length (packets publisher seq object) ≡ length object.contents + 1 }
-    ensures short { (publisher : Publisher) (seq : ℕ) (object : NamedContents)
-        → IsPublisher publisher → IsObject object → seq < 2 ^ 16
-        → All (λ packet. length packet ≤ packet_limit) (packets publisher seq object) }
-    ensures parts { (publisher : Publisher) (seq x : ℕ) (object : NamedContents) (octets : List ℕ)
-        → IsPublisher publisher → IsObject object → seq < 2 ^ 16
-        → packet_at publisher seq object x ≡ Some octets → length octets ≤ packet_limit }
+    ensures count { (publisher : Publisher) (seq : ℕ) (post : Post)
+        → length (packets publisher seq post) ≡ parts_behind (shape_in post) + 1 }
+    ensures short { (publisher : Publisher) (seq : ℕ) (post : Post)
+        → IsPublisher publisher → IsPost seq post → seq < 2 ^ 16
+        → All (λ packet. length packet ≤ packet_limit) (packets publisher seq post) }
+    ensures parts { (publisher : Publisher) (seq x : ℕ) (post : Post) (octets : List ℕ)
+        → IsPublisher publisher → IsPost seq post → seq < 2 ^ 16
+        → packet_at publisher seq post x ≡ Some octets → length octets ≤ packet_limit }
 {}
 
-/// The record of a publication is read as the listing that was written.
-pub fn records_are_read_back()
-    ensures { (publisher : Publisher) (seq : ℕ) (object : NamedContents)
-        → IsPublisher publisher → IsObject object → seq < 2 ^ 16
-        → listing_in (record_packet publisher seq (published_listing publisher object))
-        ≡ Some (published_listing publisher object) }
-{}
-
-/// The packet of a segment has that segment's content.
-pub fn segments_are_read_back()
-    ensures { (publisher : Publisher) (seq i : ℕ) (object : NamedContents) (octets : List ℕ)
+/// The record of a publication says what was written, and with that the publication's shape; an index packet lists the
+/// digests of its segments, and the packet of a segment has that segment's content.
+pub fn packets_are_read_back()
+    ensures records { (publisher : Publisher) (seq : ℕ) (post : Post)
+        → IsPublisher publisher → IsPost seq post → seq < 2 ^ 16
+        → said_in (record_packet publisher seq (published_record publisher seq post))
+        ≡ Some (published_record publisher seq post) }
+    ensures shapes { (publisher : Publisher) (seq : ℕ) (post : Post)
+        → shape_said (published_record publisher seq post) ≡ shape_in post }
+    ensures indexes { (publisher : Publisher) (seq k : ℕ) (object : NamedContents) (octets : List ℕ)
+        → IsPublisher publisher → IsObject object → seq < 2 ^ 16 → k < index_packets (length object.contents)
+        → packet_at publisher seq (Offers object) (k + 1) ≡ Some octets
+        → index_in octets (listed_in (length object.contents) k)
+        ≡ Some (map sha256 (listed_by (published_segments publisher object) k)) }
+    ensures segments { (publisher : Publisher) (seq i : ℕ) (object : NamedContents) (octets : List ℕ)
         → IsPublisher publisher → IsObject object
-        → packet_at publisher seq object (i + 1) ≡ Some octets
+        → packet_at publisher seq (Offers object) (index_packets (length object.contents) + i + 1) ≡ Some octets
         → content_in octets ≡ slice_get object.contents i }
 {}
 
-/// In a group, records with the same name are of the same node and number, segments with the same name
-/// have the same place in objects of the same name, and no segment has a record's name.
+/// In a group, records with the same name are of the same node and number. Packets that are numbered under a name have
+/// the same name where their numbers and those names are the same, and no record's name.
 pub fn names_tell_parts_apart()
     ensures records { (node other group : List Component) (seq second : ℕ)
         → seq < 2 ^ 16 → second < 2 ^ 16
@@ -92,38 +135,58 @@ pub fn names_tell_parts_apart()
 
 /// Each packet of a publication passes for the want of its part, under its publisher's key.
 pub fn packets_pass_for_their_wants()
-    ensures records { (publisher : Publisher) (part : Part) (object : NamedContents) (octets : List ℕ)
-        → IsPublisher publisher → IsObject object → part.seq < 2 ^ 16 → part.part ≡ 0
-        → packet_at publisher part.seq object 0 ≡ Some octets
+    ensures records { (publisher : Publisher) (part : Part) (post : Post) (octets : List ℕ)
+        → IsPublisher publisher → IsPost part.seq post → part.seq < 2 ^ 16 → part.part ≡ 0
+        → packet_at publisher part.seq post 0 ≡ Some octets
         → IsOk (part_verdict (want_record part publisher.node publisher.group)
         (encoding (key_name publisher.node)) publisher.key octets) }
+    ensures indexes { (publisher : Publisher) (part : Part) (object : NamedContents) (octets : List ℕ)
+        → IsPublisher publisher → IsObject object → part.seq < 2 ^ 16
+        → 0 < part.part → part.part ≤ index_packets (length object.contents)
+        → packet_at publisher part.seq (Offers object) part.part ≡ Some octets
+        → IsOk (part_verdict
+        (want_index part (published_listing publisher part.seq object) publisher.node publisher.group)
+        (encoding (key_name publisher.node)) publisher.key octets) }
     ensures segments { (publisher : Publisher) (part : Part) (object : NamedContents) (octets : List ℕ)
-        → IsPublisher publisher → IsObject object → 0 < part.part
-        → packet_at publisher part.seq object part.part ≡ Some octets
-        → IsOk (part_verdict (want_segment part (published_listing publisher object))
+        → IsPublisher publisher → IsObject object → index_packets (length object.contents) < part.part
+        → packet_at publisher part.seq (Offers object) part.part ≡ Some octets
+        → IsOk (part_verdict (want_segment part (shape_in (Offers object)) object.name (sha256 octets))
         (encoding (key_name publisher.node)) publisher.key octets) }
 {}
 
-/// Of the packets of a group's publications, none passes for the want of a record but that of the same
-/// node and number. None passes for the want of a segment but such as have the segment's name and digest:
-/// where those tell packets apart, it is the segment's.
+/// Of the packets of a group's publications, none passes for the want of a record but that of the same node and number.
+/// None passes for the want of a part behind a record but such as have its name and digest: where those tell packets
+/// apart, it is the part's.
 pub fn packets_that_pass_are_the_parts()
-    ensures records { (own other : Publisher) (part : Part) (theirs : NamedContents) (seq x : ℕ)
+    ensures records { (own other : Publisher) (part : Part) (theirs : Post) (seq x : ℕ)
         (key_name key octets : List ℕ)
-        → IsPublisher own → IsPublisher other → IsObject theirs → own.group ≡ other.group
+        → IsPublisher own → IsPublisher other → IsPost seq theirs → own.group ≡ other.group
         → part.seq < 2 ^ 16 → seq < 2 ^ 16
         → packet_at other seq theirs x ≡ Some octets
         → IsOk (part_verdict (want_record part own.node own.group) key_name key octets)
         → (x ≡ 0) × (own.node ≡ other.node) × (part.seq ≡ seq) }
-    ensures segments { (own other : Publisher) (part : Part) (object theirs : NamedContents)
+    ensures indexes { (own other : Publisher) (part : Part) (object : NamedContents) (theirs : Post)
         (seq x : ℕ) (key_name key packet octets : List ℕ)
-        → IsPublisher own → IsObject object → IsPublisher other → IsObject theirs
-        → AreClear (record { publisher = own; object = object })
-        (record { publisher = other; object = theirs })
-        → 0 < part.part → seq < 2 ^ 16
-        → packet_at own part.seq object part.part ≡ Some packet
+        → IsPublisher own → IsObject object → IsPublisher other → IsPost seq theirs
+        → AreClear (record { publisher = own; seq = part.seq; post = Offers object })
+        (record { publisher = other; seq = seq; post = theirs })
+        → part.seq < 2 ^ 16 → seq < 2 ^ 16
+        → 0 < part.part → part.part ≤ index_packets (length object.contents)
+        → packet_at own part.seq (Offers object) part.part ≡ Some packet
         → packet_at other seq theirs x ≡ Some octets
-        → IsOk (part_verdict (want_segment part (published_listing own object)) key_name key octets)
+        → IsOk (part_verdict (want_index part (published_listing own part.seq object) own.node own.group)
+        key_name key octets)
+        → octets ≡ packet }
+    ensures segments { (own other : Publisher) (part : Part) (object : NamedContents) (theirs : Post)
+        (seq x : ℕ) (key_name key packet octets : List ℕ)
+        → IsPublisher own → IsObject object → IsPublisher other → IsPost seq theirs
+        → AreClear (record { publisher = own; seq = part.seq; post = Offers object })
+        (record { publisher = other; seq = seq; post = theirs })
+        → seq < 2 ^ 16 → index_packets (length object.contents) < part.part
+        → packet_at own part.seq (Offers object) part.part ≡ Some packet
+        → packet_at other seq theirs x ≡ Some octets
+        → IsOk (part_verdict (want_segment part (shape_in (Offers object)) object.name (sha256 packet))
+        key_name key octets)
         → octets ≡ packet }
 {}
 
@@ -135,15 +198,21 @@ pub fn passing_packets_are_asked_for()
         → Satisfies (asked_name want.name want.digest) false (sha256 octets) d }
 {}
 
-/// The Interest of a want is read as a plain one of the record's name or the segment's full name.
+/// The Interest of a want is read as a plain one of the record's name, or of the full name of the index packet or the
+/// segment.
 pub fn wants_are_plain_interests()
     ensures records { (part : Part) (node group : List Component)
         → IsShortName node → IsShortName group → part.seq < 2 ^ 16
         → interest_of (want_record part node group).interest
         ≡ Ok (read_plain (record_name node group part.seq) false) }
-    ensures segments { (part : Part) (l : Listed) (digest : List ℕ)
-        → IsListing l → slice_get l.digests (part.part - 1) ≡ Some digest
-        → length digest ≡ 32 → IsOctets digest
-        → interest_of (want_segment part l).interest
-        ≡ Ok (read_plain (full_name (segment_name l.name (part.part - 1)) digest) false) }
+    ensures indexes { (part : Part) (l : Listed) (digest : List ℕ) (node group : List Component)
+        → IsShortName node → IsShortName group → part.seq < 2 ^ 16 → part.part < 2 ^ 16
+        → slice_get l.digests (part.part - 1) ≡ Some digest → length digest ≡ 32 → IsOctets digest
+        → interest_of (want_index part l node group).interest
+        ≡ Ok (read_plain
+        (full_name (segment_name (record_name node group part.seq) (part.part - 1)) digest) false) }
+    ensures segments { (part : Part) (shape : Shape) (l : Listed) (digest : List ℕ)
+        → IsListing l → part.part < 2 ^ 16 → length digest ≡ 32 → IsOctets digest
+        → interest_of (want_segment part shape l.name digest).interest
+        ≡ Ok (read_plain (full_name (segment_name l.name (part.part - shape.index - 1)) digest) false) }
 {}

@@ -1,18 +1,21 @@
-//! Objects of a repository group as packets: cutting a content into segments, a publication's packets,
-//! records and what they list, the wants of parts, and whether octets pass for a want.
+//! Publications of a repository group as packets: cutting a content into segments, the packets of objects and
+//! withdrawals, records and index packets and what they say, the wants of parts, and whether octets pass for a want.
 #![tactic(auto)]
 
 mod checked;
+mod contents;
 mod cutting;
 mod digested;
-mod expected;
+mod digests_view;
 mod job;
 mod laws;
-mod listing;
+mod listing_view;
+mod name_parts;
 mod names;
 mod object;
 mod packets;
 mod part_refusal;
+mod record;
 mod record_fault;
 mod record_fields;
 mod record_types;
@@ -23,19 +26,23 @@ mod want;
 pub use checked::{Checked, check_part};
 pub use cutting::{CutFault, cut};
 pub use digested::Digested;
-pub use expected::{Expected, expect_record};
+pub use digests_view::DigestsView;
 pub use job::Job;
 pub use laws::{
-    cut_pieces_are_the_content, limits_are_the_definitions, listings_are_of_records,
-    names_tell_parts_apart, packets_fit, packets_pass_for_their_wants,
-    packets_that_pass_are_the_parts, passing_is_every_check, passing_packets_are_asked_for,
-    records_are_read_back, segments_are_read_back, wants_are_plain_interests,
+    cut_pieces_are_the_content, each_kind_has_its_own_table, index_packets_are_read_so,
+    limits_are_the_definitions, names_tell_parts_apart, packets_are_read_back, packets_fit,
+    packets_pass_for_their_wants, packets_that_pass_are_the_parts, passing_is_every_check,
+    passing_packets_are_asked_for, records_are_read_so, records_are_what_their_fields_say,
+    wants_are_plain_interests,
 };
-pub use listing::{Listing, is_record, read_record};
+pub use listing_view::ListingView;
 pub use names::{NODE_NAME_LIMIT, key_name};
-pub use object::{CONTENT_LIMIT, OBJECT_NAME_LIMIT, Object, SEGMENT_LIMIT, is_object_name};
-pub use packets::{digested_packets_of, packet_of, packets_of};
+pub use object::{
+    CONTENT_LIMIT, MOST_LISTED, OBJECT_NAME_LIMIT, Object, SEGMENT_LIMIT, is_object_name,
+};
+pub use packets::{digested_packets_of, packet_of, packets_of, record_packet, withdrawal_packet};
 pub use part_refusal::PartRefusal;
+pub use record::{Listing, Record, is_record, read_index, read_record};
 pub use record_fault::RecordFault;
 pub use record_view::RecordView;
-pub use want::{Want, want_record, want_segment};
+pub use want::{Want, want_index, want_record, want_segment};

@@ -1,9 +1,9 @@
 ghost use Rattle.std.specs.Prelude.{◌≡◌, ◌+◌, ◌≤◌, ◌++◌, length, IfOk, OnOk};
-ghost use Rattle.ndn_name.specs.Names.{encoding, full_name};
-ghost use Rattle.repo_object.specs.Limits.{node_name_limit, object_name_limit};
+ghost use Rattle.ndn_name.specs.Names.{encoding};
+ghost use Rattle.repo_object.specs.Limits.{node_name_limit};
 ghost use Rattle.repo_object.specs.Objects.{key_name, record_name, segment_name};
 
-use ndn_name::{NAME_LIMIT, Name, NameFault, NameView, full_name};
+use ndn_name::{NAME_LIMIT, Name, NameFault, NameView};
 use ndn_tlv::{Reader, types};
 use std::alloc::{AllocError, Global};
 
@@ -34,23 +34,14 @@ pub(crate) fn record_name(node: &Name, group: &Name, seq: u16) -> Result<Name, A
     Ok(name)
 }
 
-// The name of a segment, made of its object's name.
-pub(crate) fn segment_name(mut object: Name, i: u8) -> Result<Name, AllocError>
-    requires { length (encoding object) ≤ object_name_limit }
-    ensures { IfOk result (λ name. name ≡ segment_name object i) }
+// The name of a segment, made of its object's name, or of an index packet, made of its record's name.
+pub(crate) fn segment_name(mut name: Name, i: u16) -> Result<Name, AllocError>
+    requires { length (encoding name) ≤ 404 }
+    ensures { IfOk result (λ numbered. numbered ≡ segment_name name i) }
 {
-    object
-        .push_number(types::SEGMENT_NAME_COMPONENT, u64::from(i))
+    name.push_number(types::SEGMENT_NAME_COMPONENT, u64::from(i))
         .map_err(only_memory)?;
-    Ok(object)
-}
-
-// The full name of a packet of this name and digest.
-pub(crate) fn asked_name(alloc: Global, name: &Name, digest: &[u8; 32]) -> Result<Name, AllocError>
-    requires { length (encoding name.now) ≤ 900 }
-    ensures { IfOk result (λ full. full ≡ full_name name.now digest.now) }
-{
-    full_name(alloc, name, digest).map_err(only_memory)
+    Ok(name)
 }
 
 // The name of a view, with octets of its own.
@@ -75,7 +66,7 @@ fn append(name: &mut Name, more: &Name) -> Result<(), AllocError>
 }
 
 // Want of memory, which is all that a name within the limit can meet.
-pub(crate) fn only_memory(fault: NameFault) -> AllocError
+fn only_memory(fault: NameFault) -> AllocError
     requires { fault ≡ NameFault.NoMemory }
 {
     AllocError

@@ -14,15 +14,18 @@ use std::marker::Model;
 pub const OBJECT_NAME_LIMIT: usize = 400;
 
 /// How many segments an object may have.
-pub const SEGMENT_LIMIT: usize = 200;
+pub const SEGMENT_LIMIT: usize = 20_000;
+
+/// How many segments a record or an index packet lists at most.
+pub const MOST_LISTED: usize = 200;
 
 /// How many octets the content of a segment may have.
 pub const CONTENT_LIMIT: usize = 8_000;
 
 /// A named object: the contents of its segments, in order.
 ///
-/// Its name has 1 to 400 octets of value and no component that is a digest, and it has at most 200
-/// contents of 1 to 8,000 octets.
+/// Its name has 1 to 400 octets of value and no component that is a digest, and it has at most 20,000 contents of 1 to
+/// 8,000 octets.
 #[derive(Debug, Drop)]
 pub struct Object {
     name: Name,
@@ -92,6 +95,8 @@ impl Object {
     /// The contents of the segments, in order.
     pub fn contents(&self) -> &[Vec<u8>]
         ensures same { map (λ c. c.items) result.now ≡ self.now.contents }
+        ensures contents { All (λ c. IsContent c.items) result.now }
+        ensures few { length result.now ≤ segment_limit }
         ensures within { IsObject self.now }
     {
         &self.contents

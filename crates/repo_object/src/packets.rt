@@ -1,27 +1,30 @@
-ghost use Rattle.std.specs.Prelude.{◌≡◌, ◌≤◌, ◌<◌, ◌∷◌, length, map, option_map, IfOk, None};
+ghost use Rattle.std.specs.Prelude.{◌≡◌, ◌+◌, ◌-◌, ◌*◌, ◌≤◌, ◌<◌, [], ◌∷◌, ◌++◌, length, map};
+ghost use Rattle.std.specs.Prelude.{option_map, slice_get, IfOk, None, if◌then◌else◌};
+ghost use Rattle.std.specs.List.{All};
 ghost use Rattle.sha2.specs.Sha256.{sha256};
 ghost use Rattle.ndn_name.specs.Names.{encoding};
 ghost use Rattle.ndn_packet.specs.Outer.{packet_limit};
 ghost use Rattle.ndn_data.specs.WrittenData.{written_data};
+ghost use Rattle.repo_plan.specs.Parts.{most_listed, index_packets, shape_of_segments};
 ghost use Rattle.repo_object.specs.Limits.{node_name_limit, object_name_limit, segment_limit, content_limit};
-ghost use Rattle.repo_object.specs.Objects.{publisher};
-ghost use Rattle.repo_object.specs.Publication.{record_content, record_packet, packets, packet_at, segment_packet};
-ghost use Rattle.repo_object.specs.Publication.{segment_packets};
+ghost use Rattle.repo_object.specs.Objects.{publisher, IsContent};
+ghost use Rattle.repo_object.specs.Objects.Post.{Offers, Withdraws};
+ghost use Rattle.repo_object.specs.Publication.{packets, packet_at, record_packet, record_content, index_content};
+ghost use Rattle.repo_object.specs.Publication.{index_contents, segment_packet, segment_packets_from, packets_under};
+ghost use Rattle.repo_object.specs.Publication.{listed_by, is_indexed, count_listed};
 ghost use Rattle.repo_object.specs.Records.{listed_record};
 
+use crate::contents::{index_content, listing_content, withdrawal_content};
 use crate::digested::Digested;
-use crate::listing::Listing;
 use crate::names::{key_name, record_name, segment_name};
-use crate::object::Object;
-use crate::record_types;
+use crate::object::{MOST_LISTED, Object};
 use ndn_data::write_signed;
 use ndn_name::{Name, PacketWriteFault};
-use ndn_packet::{DIGEST_ELEMENT_LEN, element_len};
-use ndn_tlv::{Writer, types};
+use repo_plan::Shape;
 use std::alloc::{AllocError, Global};
 
-/// The packets of an object as the publication of that number by a node of a group, signed with the
-/// node's key: the record, then the segments in order.
+/// The packets of an object as the publication of that number by a node of a group, signed with the node's key: the
+/// record, the index packets, and the segments, each kind in order.
 pub fn packets_of(
     alloc: Global,
     object: &Object,
@@ -33,19 +36,18 @@ pub fn packets_of(
     requires node { length (encoding node.now) ≤ node_name_limit }
     requires group { length (encoding group.now) ≤ node_name_limit }
     ensures { IfOk result (λ made. map (λ packet. packet.items) made.items
-        ≡ packets (publisher node.now group.now key.now) seq object.now) }
+        ≡ packets (publisher node.now group.now key.now) seq (Offers object.now)) }
 {
-    let (record, segments) = record_and_segments(alloc, object, seq, node, group, key)?;
-    let mut packets = Vec::with_capacity(alloc, segments.len() + 1)?;
-    packets.push(record)?;
-    for segment in segments {
-        let (octets, _) = segment.into_parts();
+    let made = digested_packets_of(alloc, object, seq, node, group, key)?;
+    let mut packets = Vec::with_capacity(alloc, made.len())?;
+    for packet in made {
+        let (octets, _) = packet.into_parts();
         packets.push(octets)?;
     }
     Ok(packets)
 }
 
-/// The same, each with its digest: a segment's is the one that the record lists.
+/// The same, each with its digest: those that are listed are the ones that the record and the index packets list.
 pub fn digested_packets_of(
     alloc: Global,
     object: &Object,
@@ -57,21 +59,25 @@ pub fn digested_packets_of(
     requires node { length (encoding node.now) ≤ node_name_limit }
     requires group { length (encoding group.now) ≤ node_name_limit }
     ensures { IfOk result (λ made. made.items
-        ≡ packets (publisher node.now group.now key.now) seq object.now) }
+        ≡ packets (publisher node.now group.now key.now) seq (Offers object.now)) }
 {
-    let (record, mut packets) = record_and_segments(alloc, object, seq, node, group, key)?;
-    packets.insert(0, Digested::new(record, None))?;
+    let (record, mut indexes, mut segments) = made(alloc, object, seq, node, group, key)?;
+    let mut packets = Vec::with_capacity(alloc, 1 + indexes.len() + segments.len())?;
+    packets.push(Digested::new(record, None))?;
+    packets.append(&mut indexes)?;
+    packets.append(&mut segments)?;
     Ok(packets)
 }
 
 /// The packet of one part of such a publication, counted from 0, or `None` where it has no such part.
 ///
-/// A segment's packet is made alone. For the record's all others are made too.
+/// A segment's packet is made alone, and an index packet with the segments that it lists. For the record's all others
+/// are made too.
 pub fn packet_of(
     alloc: Global,
     object: &Object,
     seq: u16,
-    part: u8,
+    part: u16,
     node: &Name,
     group: &Name,
     key: &[u8],
@@ -79,84 +85,104 @@ pub fn packet_of(
     requires node { length (encoding node.now) ≤ node_name_limit }
     requires group { length (encoding group.now) ≤ node_name_limit }
     ensures { IfOk result (λ packet. option_map (λ p. p.items) packet
-        ≡ packet_at (publisher node.now group.now key.now) seq object.now part) }
+        ≡ packet_at (publisher node.now group.now key.now) seq (Offers object.now) part) }
 {
-    if part == 0 {
-        let (record, _) = record_and_segments(alloc, object, seq, node, group, key)?;
+    let Some(behind) = part.checked_sub(1) else {
+        let (record, _, _) = made(alloc, object, seq, node, group, key)?;
         return Ok(Some(record));
-    }
-    let i = part - 1;
-    let contents = object.contents();
-    let Some(content) = contents.get(usize::from(i)) else {
-        return Ok(None);
     };
-    let last = contents.len() as u64 - 1;
+    let shape = Shape::of(object.contents().len() as u16);
     let key_name = key_name(node)?;
-    let packet = segment_packet(alloc, object.name(), last, i, content, &key_name, key)?;
-    Ok(Some(packet))
+    let Some(i) = behind.checked_sub(shape.index) else {
+        let name = record_name(node, group, seq)?;
+        let packet = index_alone(alloc, object, &name, shape, behind, &key_name, key)?;
+        return Ok(Some(packet));
+    };
+    segment_alone(alloc, object, i, &key_name, key)
 }
 
-// The record of a publication, and the packets of its segments, with room for the record.
-fn record_and_segments(
+/// The packet of the record of an object's publication, where the digests that it lists are at hand: those of the index
+/// packets, or of the segments' packets where there are none. No other packet is made.
+pub fn record_packet(
+    alloc: Global,
+    object: &Object,
+    digests: &[[u8; 32]],
+    seq: u16,
+    node: &Name,
+    group: &Name,
+    key: &[u8],
+) -> Result<Vec<u8>, AllocError>
+    requires count { length digests.now ≡ count_listed (length object.now.contents) }
+    requires node { length (encoding node.now) ≤ node_name_limit }
+    requires group { length (encoding group.now) ≤ node_name_limit }
+    ensures { IfOk result (λ packet. packet.items ≡ record_packet (publisher node.now group.now key.now) seq
+        (listed_record object.now.name (length object.now.contents) digests.now)) }
+{
+    let key_name = key_name(node)?;
+    let name = record_name(node, group, seq)?;
+    let count = object.contents().len() as u16;
+    listing_packet(alloc, &name, object.name(), count, digests, &key_name, key)
+}
+
+/// The packet of the record by which a node of a group withdraws, with its publication of number `seq`, what it
+/// published under an earlier number, signed with the node's key. It is the only packet of the publication.
+pub fn withdrawal_packet(
+    alloc: Global,
+    withdrawn: u16,
+    seq: u16,
+    node: &Name,
+    group: &Name,
+    key: &[u8],
+) -> Result<Vec<u8>, AllocError>
+    requires some { 0 < withdrawn }
+    requires earlier { withdrawn < seq }
+    requires node { length (encoding node.now) ≤ node_name_limit }
+    requires group { length (encoding group.now) ≤ node_name_limit }
+    ensures { IfOk result (λ packet. packet.items ∷ []
+        ≡ packets (publisher node.now group.now key.now) seq (Withdraws withdrawn)) }
+{
+    let content = withdrawal_content(alloc, withdrawn)?;
+    let name = record_name(node, group, seq)?;
+    let key_name = key_name(node)?;
+    write_packet(alloc, &name, None, &content, &key_name, key)
+}
+
+// All packets of an object's publication: the record, the index packets and the segments.
+fn made(
     alloc: Global,
     object: &Object,
     seq: u16,
     node: &Name,
     group: &Name,
     key: &[u8],
-) -> Result<(Vec<u8>, Vec<Digested>), AllocError>
+) -> Result<(Vec<u8>, Vec<Digested>, Vec<Digested>), AllocError>
     requires node { length (encoding node.now) ≤ node_name_limit }
     requires group { length (encoding group.now) ≤ node_name_limit }
-    ensures { IfOk result (λ made. made.0.items ∷ made.1.items
-        ≡ packets (publisher node.now group.now key.now) seq object.now) }
+    ensures { IfOk result (λ made. made.0.items ∷ (made.1.items ++ made.2.items)
+        ≡ packets (publisher node.now group.now key.now) seq (Offers object.now)) }
 {
     let key_name = key_name(node)?;
-    let segments = segment_packets(alloc, object, &key_name, key)?;
-    let digests = digests_of(alloc, &segments)?;
     let name = record_name(node, group, seq)?;
-    let record = write_record(alloc, &name, object.name(), &digests, &key_name, key)?;
-    Ok((record, segments))
-}
-
-// The packets of an object's segments, with room for the record.
-fn segment_packets(
-    alloc: Global,
-    object: &Object,
-    key_name: &Name,
-    key: &[u8],
-) -> Result<Vec<Digested>, AllocError>
-    requires { length (encoding key_name.now) ≤ 205 }
-    ensures { IfOk result (λ made. made.items ≡ segment_packets key_name.now key.now object.now) }
-{
     let contents = object.contents();
-    let last = contents.len().saturating_sub(1) as u64;
-    let mut packets = Vec::with_capacity(alloc, contents.len() + 1)?;
-    for (i, content) in contents.iter().enumerate() {
-        let packet = segment_packet(alloc, object.name(), last, i as u8, content, key_name, key)?;
-        packets.push(Digested::new(packet, None))?;
-    }
-    Ok(packets)
+    let count = contents.len() as u16;
+    let last = count.saturating_sub(1);
+    let segments = segments_from(alloc, object.name(), last, 0, contents, &key_name, key)?;
+    let indexes = index_packets(alloc, &name, &segments, &key_name, key)?;
+    let digests = digests_of(alloc, listed(&segments, &indexes))?;
+    let record = listing_packet(alloc, &name, object.name(), count, &digests, &key_name, key)?;
+    Ok((record, indexes, segments))
 }
 
-// The packet of segment `i` of an object of this name, whose last segment has number `last`.
-fn segment_packet(
-    alloc: Global,
-    name: &Name,
-    last: u64,
-    i: u8,
-    content: &[u8],
-    key_name: &Name,
-    key: &[u8],
-) -> Result<Vec<u8>, AllocError>
-    requires name { length (encoding name.now) ≤ object_name_limit }
-    requires last { last < segment_limit }
-    requires content { length content.now ≤ content_limit }
-    requires key_name { length (encoding key_name.now) ≤ 205 }
-    ensures { IfOk result (λ packet. packet.items
-        ≡ segment_packet key_name.now key.now name.now last i content.now) }
+// Those that the record lists: the index packets where there are some, and else the segments.
+fn listed<'m>(segments: &'m [Digested], indexes: &'m [Digested]) -> &'m [Digested]
+    requires { length indexes.now ≡ index_packets (length segments.now) }
+    ensures same { result.now ≡ (if is_indexed (length segments.now) then indexes.now else segments.now) }
+    ensures count { length result.now ≡ count_listed (length segments.now) }
 {
-    let name = segment_name(name.clone()?, i)?;
-    write_packet(alloc, &name, Some(last), content, key_name, key)
+    if indexes.is_empty() {
+        return segments;
+    }
+    indexes
 }
 
 // The digests of packets.
@@ -170,41 +196,180 @@ fn digests_of(alloc: Global, packets: &[Digested]) -> Result<Vec<[u8; 32]>, Allo
     Ok(digests)
 }
 
-// The packet of a record of this name that lists an object of that name and these digests.
-fn write_record(
+// The packets of the segments from number `first` on, which have these contents, of an object of this name whose last
+// segment has number `last`.
+fn segments_from(
+    alloc: Global,
+    name: &Name,
+    last: u16,
+    first: u16,
+    contents: &[Vec<u8>],
+    key_name: &Name,
+    key: &[u8],
+) -> Result<Vec<Digested>, AllocError>
+    requires name { length (encoding name.now) ≤ object_name_limit }
+    requires last { last < segment_limit }
+    requires numbers { first + length contents.now ≤ segment_limit }
+    requires contents { All (λ c. IsContent c.items) contents.now }
+    requires key_name { length (encoding key_name.now) ≤ 205 }
+    ensures made { IfOk result (λ made. made.items ≡ segment_packets_from key_name.now key.now name.now last first
+        (map (λ c. c.items) contents.now)) }
+    ensures count { IfOk result (λ made. length made.items ≡ length contents.now) }
+{
+    let mut packets = Vec::with_capacity(alloc, contents.len())?;
+    for (i, content) in contents.iter().enumerate() {
+        let number = first + i as u16;
+        let packet = numbered_packet(alloc, name, last, number, content, key_name, key)?;
+        packets.push(Digested::new(packet, None))?;
+    }
+    Ok(packets)
+}
+
+// The index packets of segments with these packets, under this record's name.
+fn index_packets(
+    alloc: Global,
+    name: &Name,
+    segments: &[Digested],
+    key_name: &Name,
+    key: &[u8],
+) -> Result<Vec<Digested>, AllocError>
+    requires name { length (encoding name.now) ≤ 404 }
+    requires few { length segments.now ≤ segment_limit }
+    requires key_name { length (encoding key_name.now) ≤ 205 }
+    ensures made { IfOk result (λ made. made.items
+        ≡ packets_under key_name.now key.now name.now (index_contents segments.now)) }
+    ensures count { IfOk result (λ made. length made.items ≡ index_packets (length segments.now)) }
+{
+    let count = Shape::of(segments.len() as u16).index;
+    let last = count.saturating_sub(1);
+    let mut packets = Vec::with_capacity(alloc, usize::from(count))?;
+    for k in 0..count {
+        let packet = index_packet(alloc, name, last, k, listed_by(segments, k), key_name, key)?;
+        packets.push(Digested::new(packet, None))?;
+    }
+    Ok(packets)
+}
+
+// Index packet `k` of an object's publication, which is made of the segments that it lists alone.
+fn index_alone(
+    alloc: Global,
+    object: &Object,
+    name: &Name,
+    shape: Shape,
+    k: u16,
+    key_name: &Name,
+    key: &[u8],
+) -> Result<Vec<u8>, AllocError>
+    requires name { length (encoding name.now) ≤ 404 }
+    requires shape { shape ≡ shape_of_segments (length object.now.contents) }
+    requires index { k < shape.index }
+    requires key_name { length (encoding key_name.now) ≤ 205 }
+    ensures { IfOk result (λ packet. packet.items ≡ segment_packet key_name.now key.now name.now (shape.index - 1) k
+        (index_content (map sha256 (listed_by (packets_under key_name.now key.now object.now.name object.now.contents)
+        k)))) }
+{
+    let contents = listed_by(object.contents(), k);
+    let first = k * MOST_LISTED as u16;
+    let last = shape.segments - 1;
+    let segments = segments_from(alloc, object.name(), last, first, contents, key_name, key)?;
+    index_packet(alloc, name, shape.index - 1, k, &segments, key_name, key)
+}
+
+// The packet of segment `i` of an object, or `None` where it has no such segment.
+fn segment_alone(
+    alloc: Global,
+    object: &Object,
+    i: u16,
+    key_name: &Name,
+    key: &[u8],
+) -> Result<Option<Vec<u8>>, AllocError>
+    requires { length (encoding key_name.now) ≤ 205 }
+    ensures { IfOk result (λ packet. option_map (λ p. p.items) packet
+        ≡ slice_get (packets_under key_name.now key.now object.now.name object.now.contents) i) }
+{
+    let contents = object.contents();
+    let Some(content) = contents.get(usize::from(i)) else {
+        return Ok(None);
+    };
+    let last = contents.len() as u16 - 1;
+    let packet = numbered_packet(alloc, object.name(), last, i, content, key_name, key)?;
+    Ok(Some(packet))
+}
+
+// What index packet `k` lists of all.
+fn listed_by<T>(all: &[T], k: u16) -> &[T]
+    requires { k * most_listed ≤ length all.now }
+    ensures same { result.now ≡ listed_by all.now k }
+    ensures few { length result.now ≤ most_listed }
+{
+    let (_, others) = all.split_at(usize::from(k) * MOST_LISTED);
+    let (listed, _) = others.split_at(others.len().min(MOST_LISTED));
+    listed
+}
+
+// The packet of index packet `k` under a record's name, which lists these packets. The last has number `last`.
+fn index_packet(
+    alloc: Global,
+    name: &Name,
+    last: u16,
+    k: u16,
+    listed: &[Digested],
+    key_name: &Name,
+    key: &[u8],
+) -> Result<Vec<u8>, AllocError>
+    requires name { length (encoding name.now) ≤ 404 }
+    requires last { last < segment_limit }
+    requires number { k < segment_limit }
+    requires few { length listed.now ≤ most_listed }
+    requires key_name { length (encoding key_name.now) ≤ 205 }
+    ensures { IfOk result (λ packet. packet.items
+        ≡ segment_packet key_name.now key.now name.now last k (index_content (map sha256 listed.now))) }
+{
+    let digests = digests_of(alloc, listed)?;
+    let content = index_content(alloc, &digests)?;
+    numbered_packet(alloc, name, last, k, &content, key_name, key)
+}
+
+// The packet of that number under a name, under which the last has number `last`.
+fn numbered_packet(
+    alloc: Global,
+    name: &Name,
+    last: u16,
+    i: u16,
+    content: &[u8],
+    key_name: &Name,
+    key: &[u8],
+) -> Result<Vec<u8>, AllocError>
+    requires name { length (encoding name.now) ≤ 404 }
+    requires content { length content.now ≤ content_limit }
+    requires key_name { length (encoding key_name.now) ≤ 205 }
+    ensures { IfOk result (λ packet. packet.items
+        ≡ segment_packet key_name.now key.now name.now last i content.now) }
+{
+    let name = segment_name(name.clone()?, i)?;
+    write_packet(alloc, &name, Some(u64::from(last)), content, key_name, key)
+}
+
+// The packet of a record of this name that lists these digests, of an object of that name and of so many segments.
+fn listing_packet(
     alloc: Global,
     name: &Name,
     object: &Name,
+    segments: u16,
     digests: &[[u8; 32]],
     key_name: &Name,
     key: &[u8],
 ) -> Result<Vec<u8>, AllocError>
     requires name { length (encoding name.now) ≤ 404 }
     requires object { length (encoding object.now) ≤ object_name_limit }
-    requires few { length digests.now ≤ segment_limit }
+    requires few { segments ≤ segment_limit }
+    requires count { length digests.now ≡ count_listed segments }
     requires key_name { length (encoding key_name.now) ≤ 205 }
     ensures { IfOk result (λ packet. packet.items ≡ written_data name.now None
-        (record_content (listed_record object.now digests.now)) key_name.now key.now) }
+        (record_content (listed_record object.now segments digests.now)) key_name.now key.now) }
 {
-    let content = record_content(alloc, object, digests)?;
+    let content = listing_content(alloc, object, segments, digests)?;
     write_packet(alloc, name, None, &content, key_name, key)
-}
-
-// The content of a record that lists an object of this name and these digests.
-fn record_content(alloc: Global, name: &Name, digests: &[[u8; 32]]) -> Result<Vec<u8>, AllocError>
-    requires { length digests.now ≤ segment_limit }
-    ensures { IfOk result
-        (λ content. content.items ≡ record_content (listed_record name.now digests.now)) }
-{
-    let octets = name.octets();
-    let room = element_len(types::NAME, octets.len()) + DIGEST_ELEMENT_LEN * (1 + digests.len());
-    let mut writer = Writer::with_capacity(alloc, room)?;
-    writer.put(types::NAME, octets)?;
-    writer.put_number(record_types::SEGMENT_COUNT, digests.len() as u64)?;
-    for digest in digests {
-        writer.put(record_types::DIGEST, digest)?;
-    }
-    Ok(writer.finish())
 }
 
 // A packet that is within the limit of octets.

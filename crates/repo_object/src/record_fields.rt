@@ -1,25 +1,34 @@
 ghost use Rattle.std.specs.Prelude.{◌≡◌, ◌+◌, ◌^◌, ◌<◌, ◌≤◌, [], ◌∷◌, length, option_map, slice_get, IsSome, is_some};
 ghost use Rattle.std.specs.Prelude.{MatchOption, IfSome, IfOk, IfErr};
 ghost use Rattle.ndn_tlv.specs.Elements.{item};
-ghost use Rattle.ndn_name.specs.Names.{encoding};
-ghost use Rattle.repo_object.specs.Limits.{object_name_limit, segment_limit};
-ghost use Rattle.repo_object.specs.Records.{listing_of, digest_in, object_name_in, segment_count_in, digests_to_come};
-ghost use Rattle.repo_object.specs.Records.{digests_left, IsRow, listing_to_come};
+ghost use Rattle.repo_object.specs.Limits.{segment_limit};
+ghost use Rattle.repo_object.specs.Publication.{count_listed};
+ghost use Rattle.repo_object.specs.Records.{record_of, index_of, withdrawal_among, counted_among, digest_in};
+ghost use Rattle.repo_object.specs.Records.{number_in, object_name_in, segment_count_in};
+ghost use Rattle.repo_object.specs.Readers.{said_to_come, digests_to_come, digests_left, IsRow, HasItsRow, BeginsWith};
 
 use crate::object::{SEGMENT_LIMIT, is_object_name};
 use crate::record_fault::RecordFault;
 use crate::record_types;
 use ndn_name::NameView;
 use ndn_tlv::{Element, FieldReader, Place, Reader, read_number, types};
+use repo_plan::Shape;
 
 #[derive(Clone, Copy, Debug)]
 pub(crate) enum RecordField {
+    Withdraws,
     Name,
     SegmentCount,
     Digest,
+    IndexDigest,
 }
 
-const RECORD: [Place<RecordField>; 3] = [
+const RECORD: [Place<RecordField>; 5] = [
+    Place {
+        typ: record_types::WITHDRAWS,
+        field: RecordField::Withdraws,
+        repeats: false,
+    },
     Place {
         typ: types::NAME,
         field: RecordField::Name,
@@ -35,64 +44,131 @@ const RECORD: [Place<RecordField>; 3] = [
         field: RecordField::Digest,
         repeats: true,
     },
+    Place {
+        typ: record_types::INDEX_DIGEST,
+        field: RecordField::IndexDigest,
+        repeats: true,
+    },
 ];
 
-// The digests that a record still has, as many as it counts.
+const INDEX: [Place<RecordField>; 1] = [Place {
+    typ: record_types::DIGEST,
+    field: RecordField::Digest,
+    repeats: true,
+}];
+
+// The digests that a record or an index packet still has, as many as it counts.
 #[derive(Debug, Drop)]
 pub(crate) struct DigestReader<'p> {
     fields: FieldReader<'p, RecordField>,
+    // Whether they are of index packets.
+    indexes: bool,
     // How many there have to be.
-    left: usize,
+    left: u16,
 }
 
-// A record whose name and number of segments were read.
+// A record that was read up to its digests.
 #[derive(Drop)]
-pub(crate) struct RecordReader<'p> {
-    pub(crate) name: NameView<'p>,
-    pub(crate) digests: DigestReader<'p>,
-    // What follows the number of segments: a row of digests, where nothing else stands there.
-    pub(crate) row: &'p [u8],
+pub(crate) enum RecordReader<'p> {
+    Withdraws(u16),
+    Lists {
+        name: NameView<'p>,
+        segments: u16,
+        digests: DigestReader<'p>,
+        // What follows the number of segments: a row of digests, where nothing else stands there.
+        row: &'p [u8],
+    },
 }
 
 impl<'p> RecordReader<'p> {
     // The record that a content begins as.
     pub(crate) fn new(content: &'p [u8]) -> Option<RecordReader<'p>>
         ensures read { MatchOption result
-            (listing_of content.now ≡ None)
-            (λ reader. listing_of content.now ≡ listing_to_come reader) }
-        ensures short { IfSome result (λ reader. length (encoding reader.name) ≤ object_name_limit) }
-        ensures row { IfSome result (λ reader. IsSome (digests_to_come reader.digests)
-            → IsRow reader.row.now reader.digests) }
+            (record_of content.now ≡ None)
+            (λ reader. record_of content.now ≡ said_to_come reader) }
+        ensures row { IfSome result HasItsRow }
     {
         let mut fields = FieldReader::new(Reader::new(content, 0), &RECORD);
         let Ok(Some(first)) = fields.next() else {
             return None;
         };
-        let (RecordField::Name, name) = first else {
-            return None;
-        };
-        let Ok(Some(second)) = fields.next() else {
-            return None;
-        };
-        let (RecordField::SegmentCount, count) = second else {
-            return None;
-        };
-        let name = object_name_in(name)?;
-        let left = segment_count_in(count)?;
-        let (_, row) = content.split_at(count.end);
-        Some(RecordReader {
-            name,
-            digests: DigestReader { fields, left },
-            row,
-        })
+        let (field, element) = first;
+        match field {
+            RecordField::Withdraws => withdrawal(fields, element),
+            RecordField::Name => listing(content, fields, element),
+            _ => None,
+        }
     }
+}
+
+// A record that begins with Withdraws.
+fn withdrawal<'p>(
+    mut fields: FieldReader<'p, RecordField>,
+    number: Element<'p>,
+) -> Option<RecordReader<'p>>
+    ensures read { MatchOption result
+        (withdrawal_among (item number.entry) fields.entry.items fields.entry.fault ≡ None)
+        (λ reader. withdrawal_among (item number.entry) fields.entry.items fields.entry.fault ≡ said_to_come reader) }
+    ensures row { IfSome result HasItsRow }
+{
+    let withdrawn = number_in(number)?;
+    match fields.next() {
+        Ok(None) => Some(RecordReader::Withdraws(withdrawn)),
+        _ => None,
+    }
+}
+
+// A record of this content that begins with a Name.
+fn listing<'p>(
+    content: &'p [u8],
+    mut fields: FieldReader<'p, RecordField>,
+    name: Element<'p>,
+) -> Option<RecordReader<'p>>
+    requires name { name.value_start + length name.value.now < 2 ^ 64 }
+    requires fields { BeginsWith content.now (RecordField.Name, item name) fields }
+    ensures read { MatchOption result
+        (counted_among (item name.entry) fields.entry.items fields.entry.fault ≡ None)
+        (λ reader. counted_among (item name.entry) fields.entry.items fields.entry.fault ≡ said_to_come reader) }
+    ensures row { IfSome result HasItsRow }
+{
+    let Ok(Some(second)) = fields.next() else {
+        return None;
+    };
+    let (RecordField::SegmentCount, count) = second else {
+        return None;
+    };
+    let name = object_name_in(name)?;
+    let segments = segment_count_in(count)?;
+    let shape = Shape::of(segments);
+    let (_, row) = content.split_at(count.end);
+    Some(RecordReader::Lists {
+        name,
+        segments,
+        digests: DigestReader {
+            fields,
+            indexes: shape.index != 0,
+            left: count_listed(segments),
+        },
+        row,
+    })
+}
+
+// How many digests the record of so many segments lists.
+fn count_listed(segments: u16) -> u16
+    requires { segments ≤ segment_limit }
+    ensures { result ≡ count_listed segments }
+{
+    let shape = Shape::of(segments);
+    if shape.index == 0 {
+        return segments;
+    }
+    shape.index
 }
 
 // The object's name that an element's value is.
 fn object_name_in(element: Element<'_>) -> Option<NameView<'_>>
     requires { element.value_start + length element.value.now < 2 ^ 64 }
-    ensures read { result ≡ object_name_in (item element.entry) }
-    ensures short { IfSome result (λ name. length (encoding name) ≤ object_name_limit) }
+    ensures { result ≡ object_name_in (item element.entry) }
 {
     let name = NameView::read(element.value, element.value_start).ok()?;
     if !is_object_name(&name) {
@@ -102,7 +178,7 @@ fn object_name_in(element: Element<'_>) -> Option<NameView<'_>>
 }
 
 // The number of segments that an element's value is.
-fn segment_count_in(element: Element<'_>) -> Option<usize>
+fn segment_count_in(element: Element<'_>) -> Option<u16>
     ensures few { IfSome result (λ n. n ≤ segment_limit) }
     ensures read { result ≡ segment_count_in (item element.entry) }
 {
@@ -110,22 +186,47 @@ fn segment_count_in(element: Element<'_>) -> Option<usize>
     if count > SEGMENT_LIMIT as u64 {
         return None;
     }
-    Some(count as usize)
+    Some(count as u16)
+}
+
+// The number of a publication that an element's value is.
+fn number_in(element: Element<'_>) -> Option<u16>
+    ensures { result ≡ number_in (item element.entry) }
+{
+    let number = read_number(element.value)?;
+    if number == 0 || number > u64::from(u16::MAX) {
+        return None;
+    }
+    Some(number as u16)
 }
 
 impl<'p> DigestReader<'p> {
+    // The digests of an index packet of this content that lists so many.
+    pub(crate) fn of_index(content: &'p [u8], count: u16) -> DigestReader<'p>
+        ensures read { digests_to_come result ≡ index_of content.now count }
+        ensures row { IsSome (digests_to_come result) → IsRow content.now result }
+    {
+        let fields = FieldReader::new(Reader::new(content, 0), &INDEX);
+        DigestReader {
+            fields,
+            indexes: false,
+            left: count,
+        }
+    }
+
     // Another reader of the same digests.
     pub(crate) fn copy(&self) -> DigestReader<'p>
         ensures { result ≡ self.now }
     {
         DigestReader {
             fields: self.fields.copy(),
+            indexes: self.indexes,
             left: self.left,
         }
     }
 
     // How many there have to be.
-    pub(crate) fn left(&self) -> usize
+    pub(crate) fn left(&self) -> u16
         ensures { result ≡ self.now.left }
     {
         self.left
@@ -152,7 +253,7 @@ impl<'p> DigestReader<'p> {
             };
         };
         let (field, element) = field;
-        let Some(digest) = digest_in(field, element) else {
+        let Some(digest) = digest_in(self.indexes, field, element) else {
             return Err(RecordFault::BadRecord);
         };
         let Some(left) = self.left.checked_sub(1) else {
@@ -191,14 +292,19 @@ impl<'p> DigestReader<'p> {
     }
 }
 
-// The digest that a field is.
-fn digest_in(field: RecordField, element: Element<'_>) -> Option<&[u8; 32]>
+// The digest of that kind that a field is.
+fn digest_in(indexes: bool, field: RecordField, element: Element<'_>) -> Option<&[u8; 32]>
     ensures { MatchOption result
-        (digest_in (field, item element.entry) ≡ None)
-        (λ digest. digest_in (field, item element.entry) ≡ Some digest.now) }
+        (digest_in indexes (field, item element.entry) ≡ None)
+        (λ digest. digest_in indexes (field, item element.entry) ≡ Some digest.now) }
 {
-    match field {
-        RecordField::Digest => <&[u8; 32]>::try_from(element.value).ok(),
-        RecordField::Name | RecordField::SegmentCount => None,
+    let indexed = match field {
+        RecordField::Digest => false,
+        RecordField::IndexDigest => true,
+        _ => return None,
+    };
+    if indexed != indexes {
+        return None;
     }
+    <&[u8; 32]>::try_from(element.value).ok()
 }

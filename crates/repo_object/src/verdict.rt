@@ -1,19 +1,22 @@
-ghost use Rattle.std.specs.Prelude.{◌≡◌, ◌<◌, length, MatchResult, Ok, Err};
+ghost use Rattle.std.specs.Prelude.{◌≡◌, ◌<◌, ◌==◌, ◌||◌, not, length, MatchResult, Ok, Err};
 ghost use Rattle.ndn_data.specs.Data.{data_seen};
-ghost use Rattle.repo_object.specs.Verdict.{is_all_signed, locates, names_key, is_signed_by, lists_if_record};
-ghost use Rattle.repo_object.specs.Verdict.{packet_verdict, key_at};
+ghost use Rattle.repo_object.specs.Records.{record_of};
+ghost use Rattle.repo_object.specs.Verdict.{is_all_signed, locates, names_key, is_signed_by, may_say};
+ghost use Rattle.repo_object.specs.Verdict.{lists_as_many, is_well_said, packet_verdict, key_at};
 
-use crate::expected::Expected;
-use crate::listing::is_record;
 use crate::part_refusal::PartRefusal;
+use crate::record::is_index;
+use crate::record_view::RecordView;
+use crate::want::Want;
 use ndn_data::DataView;
 use ndn_name::NameView;
 use ndn_packet::SIGNATURE_HMAC_WITH_SHA256;
 use ndn_sign::KeyRing;
+use repo_plan::Part;
 
 // Whether octets that are this packet are what is expected, under the key that the ring has at that number.
 pub(crate) fn judge(
-    expected: &Expected,
+    want: &Want,
     ring: &KeyRing,
     number: u32,
     octets: &[u8],
@@ -21,20 +24,20 @@ pub(crate) fn judge(
 ) -> Result<(), PartRefusal>
     requires { number < length ring.now }
     ensures { MatchResult result
-        (λ _. packet_verdict expected.now (key_at ring.now number).name (key_at ring.now number).key octets.now
+        (λ _. packet_verdict want.now (key_at ring.now number).name (key_at ring.now number).key octets.now
         (data_seen view.now)
         ≡ Ok (data_seen view.now))
-        (λ refusal. packet_verdict expected.now (key_at ring.now number).name (key_at ring.now number).key octets.now
+        (λ refusal. packet_verdict want.now (key_at ring.now number).name (key_at ring.now number).key octets.now
         (data_seen view.now)
         ≡ Err refusal) }
 {
     if !is_all_signed(view) {
         return Err(PartRefusal::UnsignedOctets);
     }
-    if !expected.has_name(view) {
+    if !want.has_name(view) {
         return Err(PartRefusal::OtherName);
     }
-    if !expected.has_digest(octets) {
+    if !want.has_digest(octets) {
         return Err(PartRefusal::OtherDigest);
     }
     if !names_key(ring.name(number), view) {
@@ -43,7 +46,7 @@ pub(crate) fn judge(
     if !is_signed_by(ring, number, view) {
         return Err(PartRefusal::BadSignature);
     }
-    if !lists_if_record(expected, view) {
+    if !is_well_said(want, view) {
         return Err(PartRefusal::BadRecord);
     }
     Ok(())
@@ -80,9 +83,34 @@ fn is_signed_by(ring: &KeyRing, number: u32, view: &DataView<'_>) -> bool
     ring.check_mac(number, view.signed_portion(), &[], view.signature)
 }
 
-// Whether the content is a record, where a record is expected.
-fn lists_if_record(expected: &Expected, view: &DataView<'_>) -> bool
-    ensures { result ≡ lists_if_record expected.now.part.part (data_seen view.now) }
+// Whether a record's content is one that the publication may have, and an index packet's lists as many digests as it
+// has to.
+fn is_well_said(want: &Want, view: &DataView<'_>) -> bool
+    ensures { result ≡ is_well_said want.now (data_seen view.now) }
 {
-    expected.part().part != 0 || is_record(view.content)
+    may_say(want.part(), view.content) && lists_as_many(want.lists(), view.content)
+}
+
+// Whether the content is a record's that the publication may have, where it has to be one.
+fn may_say(part: Part, content: &[u8]) -> bool
+    ensures { result ≡ (not (part.part == 0) || may_say part.seq (record_of content.now)) }
+{
+    if part.part != 0 {
+        return true;
+    }
+    match RecordView::read(content) {
+        Some(RecordView::Lists(_)) => true,
+        Some(RecordView::Withdraws { seq }) => seq < part.seq,
+        None => false,
+    }
+}
+
+// Whether the content lists as many digests as it has to, where that is known.
+fn lists_as_many(count: Option<u16>, content: &[u8]) -> bool
+    ensures { result ≡ lists_as_many count content.now }
+{
+    match count {
+        Some(count) => is_index(content, count),
+        None => true,
+    }
 }

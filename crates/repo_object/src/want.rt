@@ -1,31 +1,62 @@
-ghost use Rattle.std.specs.Prelude.{◌≡◌, ◌≤◌, ◌<◌, length, IfOk};
-ghost use Rattle.ndn_name.specs.Names.{encoding};
+ghost use Rattle.std.specs.Prelude.{◌≡◌, ◌-◌, ◌<◌, ◌≤◌, ◌++◌, length, option_map, IsOk, IfOk, OnOk, MatchResult};
+ghost use Rattle.std.specs.Prelude.{IfSome, Some, Err};
+ghost use Rattle.ndn_name.specs.Names.{encoding, components};
+ghost use Rattle.ndn_data.specs.Data.{data_seen};
 ghost use Rattle.repo_object.specs.Limits.{node_name_limit, object_name_limit};
-ghost use Rattle.repo_object.specs.Wants.{want_record, want_segment};
+ghost use Rattle.repo_object.specs.Objects.{record_name, segment_name};
+ghost use Rattle.repo_object.specs.Publication.{Listed};
+ghost use Rattle.repo_object.specs.Publication.RecordSays.{Lists};
+ghost use Rattle.repo_object.specs.Said.{owned_record, ListsIndex};
+ghost use Rattle.repo_object.specs.NameParts.{spelled, IsSpelled};
+ghost use Rattle.repo_object.specs.Wants.{wanted_part, want_record, want_index, want_segment, listed_in};
+ghost use Rattle.repo_object.specs.Wants.{interest_front};
+ghost use Rattle.repo_object.specs.Wants.{digest_component};
+ghost use Rattle.repo_object.specs.Verdict.{data_has_name, has_digest, ring_verdict};
 
-use crate::expected::{Expected, expect_record, expect_segment};
-use crate::listing::Listing;
-use ndn_name::Name;
-use repo_plan::Part;
+use crate::name_parts::NameParts;
+use crate::object::MOST_LISTED;
+use crate::part_refusal::PartRefusal;
+use crate::record::Record;
+use crate::verdict::judge;
+use ndn_data::DataView;
+use ndn_name::{Name, NameView};
+use ndn_packet::{DIGEST_ELEMENT_LEN, element_len};
+use ndn_sign::{KeyRing, digest as digest_of};
+use ndn_tlv::{Writer, types};
+use repo_plan::{Part, Shape};
 use std::alloc::{AllocError, Global};
 use std::marker::Model;
 
-/// A part that is wanted: the packet that is expected for it, and the Interest that asks for that.
+/// A part that is wanted: the Interest that asks for its packet, and in that the name of the packet and, for every part
+/// but a record, its digest.
 #[derive(Debug, Drop)]
 pub struct Want {
-    expected: Expected,
+    part: Part,
+    // How many digests the packet lists, if it is an index packet.
+    lists: Option<u16>,
     interest: Vec<u8>,
+    // Where the octets of the packet's name begin and end in the Interest.
+    name_start: usize,
+    name_end: usize,
+    // Whether the packet's digest ends the Interest.
+    has_digest: bool,
 }
 
 impl Model for Want {
-    ghost use Rattle.std.specs.Prelude.{◌≡◌};
-    ghost use Rattle.repo_object.specs.Wants.{WantedPart};
+    ghost use Rattle.ndn_name.specs.Names.{components};
+    ghost use Rattle.repo_object.specs.Wants.{WantedPart, WantIsWritten, name_between, digest_behind};
 
     ghost Value = { WantedPart };
 
-    ghost view = { λ w. w.expected };
+    ghost view = { λ w. record {
+      part = w.part;
+      name = components (name_between w.interest.items w.name_start w.name_end);
+      digest = digest_behind w.interest.items w.name_end w.has_digest;
+      lists = w.lists;
+      interest = w.interest.items;
+    } };
 
-    ghost invariant = { λ w. w.interest.items ≡ w.expected.interest };
+    ghost invariant = { λ w. WantIsWritten w.interest.items w.name_start w.name_end w.has_digest };
 }
 
 /// The want of the record of a publication of that node in that group.
@@ -35,43 +66,145 @@ pub fn want_record(alloc: Global, part: Part, node: &Name, group: &Name) -> Resu
     requires group { length (encoding group.now) ≤ node_name_limit }
     ensures { IfOk result (λ want. want ≡ want_record part node.now group.now) }
 {
-    Want::new(alloc, expect_record(part, node, group)?)
+    let name = NameParts {
+        first: node.octets(),
+        second: group.octets(),
+        seq: Some(part.seq),
+        segment: None,
+    };
+    Want::written(alloc, part, None, &name, None)
 }
 
-/// The want of a segment that a record lists.
-pub fn want_segment(alloc: Global, part: Part, listing: &Listing) -> Result<Want, AllocError>
-    requires segment { 0 < part.part }
-    requires listed { part.part ≤ length listing.now.digests }
-    requires name { length (encoding listing.now.name) ≤ object_name_limit }
-    ensures { IfOk result (λ want. want ≡ want_segment part listing.now) }
+/// The want of an index packet that a record lists, of a publication of that node in that group.
+pub fn want_index(
+    alloc: Global,
+    part: Part,
+    of: &Record,
+    node: &Name,
+    group: &Name,
+) -> Result<Want, AllocError>
+    requires listed { ListsIndex part.part of.now }
+    requires node { length (encoding node.now) ≤ node_name_limit }
+    requires group { length (encoding group.now) ≤ node_name_limit }
+    ensures { (l : Listed) → owned_record of.now ≡ Lists l
+        → IfOk result (λ want. want ≡ want_index part l node.now group.now) }
 {
-    let digest = &listing.digests[usize::from(part.part - 1)];
-    Want::new(
-        alloc,
-        expect_segment(alloc, part, &listing.name.view(), digest)?,
-    )
+    let Record::Indexed {
+        segments,
+        digests,
+        ..
+    } = of
+    else {
+        unreachable!()
+    };
+    let digest = &digests[usize::from(part.part - 1)];
+    Want::of_index(alloc, part, *segments, digest, node, group)
+}
+
+/// The want of a segment of an object of this name, whose publication has this shape. Its record or one of its index
+/// packets lists the digest.
+pub fn want_segment(
+    alloc: Global,
+    part: Part,
+    shape: Shape,
+    name: &Name,
+    digest: &[u8; 32],
+) -> Result<Want, AllocError>
+    requires segment { shape.index < part.part }
+    requires name { length (encoding name.now) ≤ object_name_limit }
+    ensures { IfOk result (λ want. want ≡ want_segment part shape name.now digest.now) }
+{
+    Want::of_segment(alloc, part, shape, &name.view(), digest)
 }
 
 impl Want {
-    /// The want of the packet that is expected.
-    pub fn new(alloc: Global, expected: Expected) -> Result<Want, AllocError>
-        ensures { IfOk result (λ want. want ≡ expected) }
+    // The want of an index packet of this digest, of a publication of so many segments.
+    pub(crate) fn of_index(
+        alloc: Global,
+        part: Part,
+        segments: u16,
+        digest: &[u8; 32],
+        node: &Name,
+        group: &Name,
+    ) -> Result<Want, AllocError>
+        requires index { 0 < part.part }
+        requires node { length (encoding node.now) ≤ node_name_limit }
+        requires group { length (encoding group.now) ≤ node_name_limit }
+        ensures { IfOk result (λ want. want ≡ wanted_part part
+            (segment_name (record_name node.now group.now part.seq) (part.part - 1)) (Some digest.now)
+            (Some (listed_in segments (part.part - 1)))) }
     {
-        let interest = expected.interest(alloc)?;
-        Ok(Want { expected, interest })
+        let k = part.part - 1;
+        let name = NameParts {
+            first: node.octets(),
+            second: group.octets(),
+            seq: Some(part.seq),
+            segment: Some(k),
+        };
+        Want::written(
+            alloc,
+            part,
+            Some(listed_in(segments, k)),
+            &name,
+            Some(digest),
+        )
+    }
+
+    // The want of a segment of this digest.
+    pub(crate) fn of_segment(
+        alloc: Global,
+        part: Part,
+        shape: Shape,
+        name: &NameView<'_>,
+        digest: &[u8; 32],
+    ) -> Result<Want, AllocError>
+        requires segment { shape.index < part.part }
+        requires name { length (encoding name.now) ≤ object_name_limit }
+        ensures { IfOk result (λ want. want ≡ want_segment part shape name.now digest.now) }
+    {
+        let name = NameParts {
+            first: name.octets(),
+            second: &[],
+            seq: None,
+            segment: Some(part.part - shape.index - 1),
+        };
+        Want::written(alloc, part, None, &name, Some(digest))
+    }
+
+    // The want of a packet of this name and digest.
+    fn written(
+        alloc: Global,
+        part: Part,
+        lists: Option<u16>,
+        name: &NameParts<'_>,
+        digest: Option<&[u8; 32]>,
+    ) -> Result<Want, AllocError>
+        requires name { IsSpelled (spelled name.now) }
+        requires short { length (spelled name.now) ≤ 900 }
+        requires digest { IfSome digest (λ d. length d.now ≡ 32) }
+        ensures { IfOk result (λ want. want
+            ≡ wanted_part part (components (spelled name.now)) (option_map (λ d. d.now) digest.entry) lists) }
+    {
+        let asked = name.len() + digest_len(digest);
+        let mut writer = begun(alloc, asked)?;
+        let name_start = writer.octets().len();
+        name.put(&mut writer)?;
+        let name_end = writer.octets().len();
+        put_digest(&mut writer, digest)?;
+        Ok(Want {
+            part,
+            lists,
+            interest: writer.finish(),
+            name_start,
+            name_end,
+            has_digest: digest.is_some(),
+        })
     }
 
     pub fn part(&self) -> Part
         ensures { result ≡ self.now.part }
     {
-        self.expected.part()
-    }
-
-    /// The packet that is expected.
-    pub(crate) fn expected(&self) -> &Expected
-        ensures { result.now ≡ self.now }
-    {
-        &self.expected
+        self.part
     }
 
     /// The octets of the Interest that asks for the part.
@@ -80,4 +213,100 @@ impl Want {
     {
         &self.interest
     }
+
+    /// The packet's digest, where it is known: of every part but a record it is.
+    pub fn digest(&self) -> Option<&[u8; 32]>
+        ensures { option_map (λ digest. digest.now) result ≡ self.now.digest }
+    {
+        if !self.has_digest {
+            return None;
+        }
+        let (_, digest) = self.interest.split_at(self.name_end + 2);
+        digest.first_chunk()
+    }
+
+    // How many digests the packet has to list, if it is an index packet.
+    pub(crate) fn lists(&self) -> Option<u16>
+        ensures { result ≡ self.now.lists }
+    {
+        self.lists
+    }
+
+    /// Whether the octets are the packet that is wanted, under the key that the ring has at its publisher's number, or
+    /// the first reason why not. It takes no memory.
+    pub fn check(&self, octets: &[u8], ring: &KeyRing) -> Result<(), PartRefusal>
+        requires { self.now.part.publisher < length ring.now }
+        ensures { MatchResult result
+            (λ _. IsOk (ring_verdict self.now ring.now octets.now))
+            (λ refusal. ring_verdict self.now ring.now octets.now ≡ Err refusal) }
+    {
+        let data = DataView::read(octets)?;
+        judge(self, ring, self.part.publisher, octets, &data)
+    }
+
+    // Whether the packet has the wanted name.
+    pub(crate) fn has_name(&self, view: &DataView<'_>) -> bool
+        ensures { result ≡ data_has_name self.now.name (data_seen view.now) }
+    {
+        let (front, _) = self.interest.split_at(self.name_end);
+        let (_, name) = front.split_at(self.name_start);
+        view.name.octets() == name
+    }
+
+    // Whether the octets have the wanted digest, where one is known.
+    pub(crate) fn has_digest(&self, octets: &[u8]) -> bool
+        ensures { result ≡ has_digest self.now.digest octets.now }
+    {
+        match self.digest() {
+            Some(digest) => digest_of(octets) == *digest,
+            None => true,
+        }
+    }
+}
+
+// The type of the component that is a packet's digest, as an element's.
+const DIGEST_COMPONENT: u32 = types::IMPLICIT_SHA256_DIGEST_COMPONENT as u32;
+
+// The beginning of an Interest that asks for a name of so many octets, with room for the whole.
+fn begun(alloc: Global, asked: usize) -> Result<Writer, AllocError>
+    requires { asked ≤ 1000 }
+    ensures { IfOk result (λ writer. writer ≡ interest_front asked) }
+{
+    let body = element_len(types::NAME, asked);
+    let mut writer = Writer::with_capacity(alloc, element_len(types::INTEREST, body))?;
+    writer.put_head(types::INTEREST, body)?;
+    writer.put_head(types::NAME, asked)?;
+    Ok(writer)
+}
+
+// How many octets the component of a digest has, where there is one.
+fn digest_len(digest: Option<&[u8; 32]>) -> usize
+    requires { IfSome digest (λ d. length d.now ≡ 32) }
+    ensures exact { result ≡ length (digest_component (option_map (λ d. d.now) digest.entry)) }
+    ensures small { result ≤ DIGEST_ELEMENT_LEN }
+{
+    match digest {
+        Some(_) => DIGEST_ELEMENT_LEN,
+        None => 0,
+    }
+}
+
+// Appends that component, where there is one.
+fn put_digest(writer: &mut Writer, digest: Option<&[u8; 32]>) -> Result<(), AllocError>
+    ensures { OnOk result (writer.new
+        ≡ writer.old ++ digest_component (option_map (λ d. d.now) digest.entry)) }
+{
+    match digest {
+        Some(digest) => writer.put(DIGEST_COMPONENT, digest),
+        None => Ok(()),
+    }
+}
+
+// How many of so many segments index packet `k` lists, counted from 0.
+pub(crate) fn listed_in(segments: u16, k: u16) -> u16
+    ensures { result ≡ listed_in segments k }
+{
+    let before = u32::from(k) * MOST_LISTED as u32;
+    let left = u32::from(segments).saturating_sub(before);
+    left.min(MOST_LISTED as u32) as u16
 }

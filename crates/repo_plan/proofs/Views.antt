@@ -3,7 +3,7 @@ use Rattle.std.proofs.Common.{◌≡◌, ◌⊎◌, inl, inr, ℕ, ◌+◌, ◌�
 use Rattle.std.proofs.Common.{◌∷◌, map, Option, Some, None, refl, sym, ap, ◌∙◌, subst, arith}
 use Rattle.std.proofs.lemmas.Bool.{true≢false, and_parts, or_left, or_right, or_cases, false_from_ne_true, leb-true}
 use Rattle.std.proofs.lemmas.Bool.{le-leb}
-use Rattle.std.specs.Prelude.{nat_le, is_some, ◌==◌}
+use Rattle.std.specs.Prelude.{nat_le, is_some, IfSome, ◌==◌}
 use Rattle.std.specs.List.{filter, list_all}
 use Rattle.std.specs.Ordering.{nat_cmp, eq_by_cmp}
 use Rattle.repo_plan.specs.declared.part.Part.{Part}
@@ -11,7 +11,7 @@ use Rattle.repo_plan.specs.declared.plan.Plan.TheInside.{Inside}
 use Rattle.sorted_lists.specs.SortedList.{keys, Rises, contains, insert_key, value_of, in_order}
 use Rattle.sorted_lists.specs.Range.{numbers_from}
 use Rattle.repo_plan.specs.Parts.{Pair, Shape, pair_cmp, part_cmp, part_of, pair_of, parts_of}
-use Rattle.repo_plan.specs.Parts.{parts_told}
+use Rattle.repo_plan.specs.Parts.{IsShape, parts_behind, parts_told}
 use Rattle.repo_plan.specs.Plan.{holds, hides, shape_of, is_done, is_complete, is_in, with_shape}
 use Rattle.repo_plan.specs.Sound.{PlanIsSound, CanBeHeld}
 use Rattle.sorted_lists.specs.Runs.{Run, RunsState, Number, IsRuns, has, has_number, number_cmp}
@@ -34,6 +34,15 @@ and_true : (a b : Bool) → b ≡ true → (a && b) ≡ a
 and_true true b h = h
 and_true false b h = refl
 
+-- what a record tells that is held
+abbrev pub shape_or : Option Shape → Shape
+shape_or None = record { index = 0; segments = 0 }
+shape_or (Some n) = n
+
+pub behind_or : (o : Option Shape) → parts_told o ≡ parts_behind (shape_or o)
+behind_or None = refl
+behind_or (Some n) = refl
+
 module _ (p : Inside) (i : IsPlan p) where
   pub holds_is : (t : Part)
       → holds (holdings p) t
@@ -41,12 +50,13 @@ module _ (p : Inside) (i : IsPlan p) where
   holds_is t = held_has p.done.runs p.held.runs (shapes_of p) i.sound.in_order.shapes t
 
   -- of a part that is told of
-  pub held_told : (t : Part) (n : Shape) → shape_of (holdings p) (pair_of t) ≡ Some n → t.part ≤ n
+  pub held_told : (t : Part) (n : Shape) → shape_of (holdings p) (pair_of t) ≡ Some n → t.part ≤ parts_behind n
       → holds (holdings p) t ≡ (has_number nat_cmp p.done (pair_of t) || has_number pair_cmp p.held (number_of t))
   held_told t n e l =
       holds_is t
       ∙ ap (λ (o : Option Shape). is_noted p.done.runs p.held.runs (number_of t) && tells o t) e
-      ∙ and_true (is_noted p.done.runs p.held.runs (number_of t)) (nat_le t.part n) (le-leb t.part n l)
+      ∙ and_true (is_noted p.done.runs p.held.runs (number_of t)) (nat_le t.part (parts_behind n))
+      (le-leb t.part (parts_behind n) l)
 
   pub hides_is : (q : Pair)
       → hides (holdings p) q ≡ (not (is_some (shape_of (holdings p) q)) && has_number nat_cmp p.done q)
@@ -88,9 +98,9 @@ module _ (p : Inside) (i : IsPlan p) where
   -- ---- one more part is held
 
   module _ (t : Part) (can : CanBeHeld (holdings p) t) (fresh : holds (holdings p) t ≡ false) (segments : Option Shape)
-      (told : is_some segments ≡ (t.part == 0)) where
+      (told : is_some segments ≡ (t.part == 0)) (sized : IfSome segments IsShape) where
     sound_more : PlanIsSound (with_part t segments (holdings p))
-    sound_more = sound_part (holdings p) t i.sound can fresh segments told
+    sound_more = sound_part (holdings p) t i.sound can fresh segments told sized
 
     there : holds (with_part t segments (holdings p)) t ≡ true
     there =
@@ -99,20 +109,20 @@ module _ (p : Inside) (i : IsPlan p) where
 
     -- its record is held from now on
     pub told_more : shape_of (with_part t segments (holdings p)) (pair_of t)
-        ≡ Some (parts_told (shape_of (with_part t segments (holdings p)) (pair_of t)))
+        ≡ Some (shape_or (shape_of (with_part t segments (holdings p)) (pair_of t)))
     told_more =
         go (shape_of (with_part t segments (holdings p)) (pair_of t))
         (sound_more.shapes (pair_of t) ∙ (sound_more.held t there).with_record) where
-          go : (o : Option Shape) → is_some o ≡ true → o ≡ Some (parts_told o)
+          go : (o : Option Shape) → is_some o ≡ true → o ≡ Some (shape_or o)
           go None h = absurd (true≢false (sym h))
           go (Some n) h = refl
 
-    module _ (done : RunsState ℕ) (held : RunsState Pair) (n : ℕ)
+    module _ (done : RunsState ℕ) (held : RunsState Pair) (n : Shape)
         (shape : shape_of (with_part t segments (holdings p)) (pair_of t) ≡ Some n)
-        (noted : (q : Number Pair) → (q.0 ≡ pair_of t → q.1 ≤ n)
+        (noted : (q : Number Pair) → (q.0 ≡ pair_of t → q.1 ≤ parts_behind n)
         → is_noted done.runs held.runs q
         ≡ (eq_by_cmp (number_cmp pair_cmp) q (number_of t) || is_noted p.done.runs p.held.runs q)) where
-      counts_it : t.part ≤ n
+      counts_it : t.part ≤ parts_behind n
       counts_it =
           let asked =
           (and_parts (Rattle.repo_plan.specs.Plan.knows (with_part t segments (holdings p)) (pair_of t)) _
@@ -122,7 +132,7 @@ module _ (p : Inside) (i : IsPlan p) where
           asked in
           omega (arith, within, ap parts_told shape)
 
-      some_same : (a b : ℕ) → Some a ≡ Some b → a ≡ b
+      some_same : (a b : Shape) → Some a ≡ Some b → a ≡ b
       some_same a b h = cc
 
       -- what was told before is told still
@@ -139,14 +149,14 @@ module _ (p : Inside) (i : IsPlan p) where
           ≡ (eq_by_cmp part_cmp u t
           || (is_noted p.done.runs p.held.runs (number_of u) && tells (shape_of (holdings p) (pair_of u)) u))
       is_held u = go (eq_by_cmp pair_cmp (pair_of u) (pair_of t)) refl where
-        here : pair_of u ≡ pair_of t → (b : Bool) → nat_le u.part n ≡ b
+        here : pair_of u ≡ pair_of t → (b : Bool) → nat_le u.part (parts_behind n) ≡ b
             → (is_noted done.runs held.runs (number_of u) && b)
             ≡ (eq_by_cmp part_cmp u t
             || (is_noted p.done.runs p.held.runs (number_of u)
             && tells (shape_of (holdings p) (pair_of u)) u))
         here s true l =
             and_one (is_noted done.runs held.runs (number_of u))
-            ∙ noted (number_of u) (λ _. leb-true u.part n l)
+            ∙ noted (number_of u) (λ _. leb-true u.part (parts_behind n) l)
             ∙ (λ j.
             sym (same_part u t) j || known (is_noted p.done.runs p.held.runs (number_of u)) refl j) where
               and_one : (b : Bool) → (b && true) ≡ b
@@ -155,7 +165,7 @@ module _ (p : Inside) (i : IsPlan p) where
 
               counts : (o : Option Shape) → shape_of (holdings p) (pair_of u) ≡ o → is_some o ≡ true → tells o u ≡ true
               counts None e h = absurd (true≢false (sym h))
-              counts (Some m) e h = ap (nat_le u.part) (told_before u s m e) ∙ l
+              counts (Some m) e h = ap (λ (z : Shape). nat_le u.part (parts_behind z)) (told_before u s m e) ∙ l
 
               known : (b : Bool) → is_noted p.done.runs p.held.runs (number_of u) ≡ b
                   → b ≡ (b && tells (shape_of (holdings p) (pair_of u)) u)
@@ -177,12 +187,13 @@ module _ (p : Inside) (i : IsPlan p) where
               apart =
                   false_from_ne_true (eq_by_cmp part_cmp u t)
                   (λ e. true≢false
-                  (sym (le-leb u.part n (subst (λ (w : Part). w.part ≤ n) (sym (eq_same exact_parts u t e)) counts_it))
+                  (sym (le-leb u.part (parts_behind n)
+                  (subst (λ (w : Part). w.part ≤ parts_behind n) (sym (eq_same exact_parts u t e)) counts_it))
                   ∙ l))
 
               past : (o : Option Shape) → shape_of (holdings p) (pair_of u) ≡ o → tells o u ≡ false
               past None e = refl
-              past (Some m) e = ap (nat_le u.part) (told_before u s m e) ∙ l
+              past (Some m) e = ap (λ (z : Shape). nat_le u.part (parts_behind z)) (told_before u s m e) ∙ l
 
         go : (b : Bool) → eq_by_cmp pair_cmp (pair_of u) (pair_of t) ≡ b
             → (is_noted done.runs held.runs (number_of u)
@@ -194,7 +205,7 @@ module _ (p : Inside) (i : IsPlan p) where
             let s : pair_of u ≡ pair_of t = eq_same exact_pairs (pair_of u) (pair_of t) e in
             ap (λ (o : Option Shape). is_noted done.runs held.runs (number_of u) && tells o u)
             (ap (shape_of (with_part t segments (holdings p))) s ∙ shape)
-            ∙ here s (nat_le u.part n) refl
+            ∙ here s (nat_le u.part (parts_behind n)) refl
         go false e =
             let apart : eq_by_cmp part_cmp u t ≡ false =
             false_from_ne_true (eq_by_cmp part_cmp u t)
@@ -231,18 +242,19 @@ module _ (p : Inside) (i : IsPlan p) where
       all_over f g [] h = refl
       all_over f g (x ∷ xs) h = λ j. h x (inl refl) j && all_over f g xs (λ y k. h y (inr k)) j
 
-      pub complete_more : are_noted done.runs held.runs (pair_of t) n
+      pub complete_more : are_noted done.runs held.runs (pair_of t) (parts_behind n)
           ≡ is_complete (with_part t segments (holdings p)) (pair_of t)
       complete_more =
           all_over (λ x. is_noted done.runs held.runs (pair_of t, x))
-          (holds (with_part t segments (holdings p))) (numbers_from 0 (n + 1)) (λ x k.
-          let within : x ≤ n = omega (arith, (from_numbers 0 (n + 1) x k).1) in
+          (holds (with_part t segments (holdings p))) (numbers_from 0 (parts_behind n + 1)) (λ x k.
+          let within : x ≤ parts_behind n = omega (arith, (from_numbers 0 (parts_behind n + 1) x k).1) in
           let u = part_of (pair_of t) x in
           sym ((λ j. contains part_cmp (sym held_more j) u)
           ∙ held_has done.runs held.runs (with_shape (pair_of t) segments (shapes_of p))
           sound_more.in_order.shapes u
           ∙ ap (λ (o : Option Shape). is_noted done.runs held.runs (pair_of t, x) && tells o u) shape
-          ∙ and_true (is_noted done.runs held.runs (pair_of t, x)) (nat_le x n) (le-leb x n within)))
+          ∙ and_true (is_noted done.runs held.runs (pair_of t, x)) (nat_le x (parts_behind n))
+          (le-leb x (parts_behind n) within)))
           ∙ ap (λ (o : Option Shape).
           list_all (holds (with_part t segments (holdings p))) (parts_of (pair_of t) (parts_told o))) (sym shape)
 

@@ -5,10 +5,13 @@
 mod laws;
 mod part;
 mod plan;
+mod shape;
 
 pub use laws::{
     calls_keep_plans_sound, claims_are_wanted_once, least_unclaimed_parts_are_claimed,
-    listed_parts_are_wanted_once, released_parts_can_be_claimed, wanted_parts_are_listed,
+    listed_parts_are_wanted_once, parts_are_listed_in_turn, released_parts_can_be_claimed,
+    wanted_parts_are_listed,
 };
 pub use part::Part;
 pub use plan::{FetcherBusy, FetcherIdle, Plan};
+pub use shape::Shape;

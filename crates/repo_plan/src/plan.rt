@@ -1,7 +1,7 @@
-ghost use Rattle.std.specs.Prelude.{◌≡◌, ◌+◌, ◌<◌, ◌==◌, false, true, not, length, is_some, IfOk, OnOk, OnErr};
+ghost use Rattle.std.specs.Prelude.{◌≡◌, ◌+◌, ◌<◌, ◌==◌, false, true, not, length, is_some, IfSome, IfOk, OnOk, OnErr};
 ghost use Rattle.repo_plan.specs.Plan.{opening, holds, hides, is_asked, is_claimed, claims_part_in, shape_of};
 ghost use Rattle.repo_plan.specs.Plan.{attempts_of, is_complete, run_ends, raises, holds_too, hides_too, with_attempts};
-ghost use Rattle.repo_plan.specs.Parts.{pair_of};
+ghost use Rattle.repo_plan.specs.Parts.{IsShape, pair_of};
 ghost use Rattle.repo_plan.specs.Sound.{PlanIsSound};
 
 mod claims;
@@ -10,6 +10,7 @@ mod wanted;
 mod whole;
 
 use crate::part::Part;
+use crate::shape::Shape;
 pub use claims::{FetcherBusy, FetcherIdle};
 use sorted_lists::{Runs, table};
 use std::alloc::{AllocError, Global};
@@ -18,8 +19,9 @@ use std::marker::Model;
 
 /// What a member knows of, holds, hides and claims.
 ///
-/// A part is wanted where its publication's number is known, it is a record or is counted by the held record, it is not
-/// held, and its publication is not hidden. Sixteen fetchers, numbered from 1, claim wanted parts, each at most one.
+/// A part is wanted where its publication's number is known, it is a record or is counted by the held record and listed
+/// by a part that is held, it is not held, and its publication is not hidden. Sixteen fetchers, numbered from 1, claim
+/// wanted parts, each at most one.
 #[derive(Debug, Drop)]
 pub struct Plan {
     known: Vec<u16>,
@@ -29,7 +31,7 @@ pub struct Plan {
     // By publication, the numbers of the held parts of those that are not done.
     held: Runs<(u32, u16)>,
     // What each held record tells. A publication that is done and has no entry is hidden.
-    shapes: HashMap<(u32, u16), u8>,
+    shapes: HashMap<(u32, u16), Shape>,
     claims: [Option<Part>; 16],
     attempts: HashMap<Part, u32>,
     // There is room for so many more in each of the four.
@@ -73,20 +75,21 @@ impl Plan {
         *last = seq.max(*last);
     }
 
-    /// The part is held from now on, and no more wanted. `segments` is what a record says of its publication.
+    /// The part is held from now on, and no more wanted. `shape` is what a record says of its publication.
     ///
     /// The answer is `false` where the part was held already.
-    pub fn hold(&mut self, part: Part, segments: Option<u8>) -> Result<bool, AllocError>
-        requires segments { is_some segments ≡ (part.part == 0) }
+    pub fn hold(&mut self, part: Part, shape: Option<Shape>) -> Result<bool, AllocError>
+        requires shape { is_some shape ≡ (part.part == 0) }
+        requires sized { IfSome shape IsShape }
         requires asked { is_asked self.old part ≡ true }
         requires not_hidden { hides self.old (pair_of part) ≡ false }
         requires not_claimed { is_claimed self.old part ≡ false }
         ensures fresh { IfOk result (λ fresh. fresh ≡ not (holds self.old part)) }
-        ensures ok { OnOk result (self.new ≡ holds_too part segments self.old) }
+        ensures ok { OnOk result (self.new ≡ holds_too part shape self.old) }
         ensures err { OnErr result (self.new ≡ self.old) }
     {
         self.reserve_one_more()?;
-        Ok(self.hold_reserved(part, segments))
+        Ok(self.hold_reserved(part, shape))
     }
 
     /// Whether the part is held.
@@ -97,27 +100,27 @@ impl Plan {
         ensures sound { PlanIsSound self.now }
     {
         let publication = (part.publisher, part.seq);
-        match self.segments(part.publisher, part.seq) {
-            Some(segments) if part.part <= segments => {
-                self.done.contains(publication)
-                    || self.held.contains((publication, u16::from(part.part)))
+        match self.shape(part.publisher, part.seq) {
+            Some(shape) if u32::from(part.part) <= shape.parts_behind() => {
+                self.done.contains(publication) || self.held.contains((publication, part.part))
             }
             _ => false,
         }
     }
 
-    /// How many segments the held record of a publication counts, or `None` where its record is not held.
-    pub fn segments(&self, publisher: u32, seq: u16) -> Option<u8>
-        ensures { result ≡ shape_of self.now (publisher, seq) }
+    /// What the held record of a publication tells of its parts, or `None` where its record is not held.
+    pub fn shape(&self, publisher: u32, seq: u16) -> Option<Shape>
+        ensures shape { result ≡ shape_of self.now (publisher, seq) }
+        ensures sized { IfSome result IsShape }
     {
         table::value_of(&self.shapes, (publisher, seq))
     }
 
-    /// Whether the record of a publication and every segment that it counts are held.
+    /// Whether the record of a publication and every other part of it are held.
     pub fn complete(&self, publisher: u32, seq: u16) -> bool
         ensures { result ≡ is_complete self.now (publisher, seq) }
     {
-        self.segments(publisher, seq).is_some() && self.done.contains((publisher, seq))
+        self.shape(publisher, seq).is_some() && self.done.contains((publisher, seq))
     }
 
     /// How many runs there are, over all publishers, of numbers that follow one another and whose publications are

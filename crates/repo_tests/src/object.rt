@@ -7,11 +7,11 @@ mod hostile;
 use crate::worked::{FULL_ASKED, RECORD, RECORD_ASKED, RECORD_DIGEST, SEGMENT};
 use contents::CONTENTS;
 use hostile::{FOR_THE_RECORD, FOR_THE_SEGMENT};
-use ndn_data::DataView;
+use ndn_data::{DataView, write_signed};
 use ndn_name::Name;
 use ndn_sign::{KeyRing, digest};
 use repo_object::*;
-use repo_plan::Part;
+use repo_plan::{Part, Shape};
 use std::process::Abort;
 use std::str;
 use std::test::*;
@@ -61,17 +61,19 @@ fn record_want(rt: &(impl Abort + AllocGlobal), seq: u16, node: &Name, group: &N
     want_record(rt.alloc(), part, node, group).expect(rt, "memory")
 }
 
-fn segment_want(rt: &(impl Abort + AllocGlobal), seq: u16, part: u8, listing: &Listing) -> Want
-    ensures { result.part.publisher ≡ 0 }
+// The want of a segment of that shape's part, of the object of this name and with this digest.
+fn segment_want(
+    rt: &(impl Abort + AllocGlobal),
+    part: Part,
+    shape: Shape,
+    name: &Name,
+    digest: &[u8; 32],
+) -> Want
+    ensures { result.part.publisher ≡ part.publisher }
 {
-    let part = Part {
-        publisher: 0,
-        seq,
-        part,
-    };
-    assert!(rt; 0 < part.part && usize::from(part.part) <= listing.digests.len());
-    assert!(rt; listing.name.octets().len() <= OBJECT_NAME_LIMIT);
-    want_segment(rt.alloc(), part, listing).expect(rt, "memory")
+    assert!(rt; shape.index < part.part);
+    assert!(rt; name.octets().len() <= OBJECT_NAME_LIMIT);
+    want_segment(rt.alloc(), part, shape, name, digest).expect(rt, "memory")
 }
 
 // The octets that are written as digits.
@@ -139,7 +141,7 @@ fn is_written_alone(rt: &(impl Abort + AllocGlobal), object: &Object, node: &Nam
 {
     let alone = [Some(RECORD.as_slice()), Some(SEGMENT.as_slice()), None];
     for (part, packet) in alone.into_iter().enumerate() {
-        let made = packet_of(rt.alloc(), object, 1, part as u8, node, group, KEY);
+        let made = packet_of(rt.alloc(), object, 1, part as u16, node, group, KEY);
         assert!(rt; made.expect(rt, "memory").as_deref() == packet, "{part}");
     }
 }
@@ -172,7 +174,13 @@ fn worked_segment_is_checked(rt: HostRuntime) {
     let alice = short_name(&rt, "/alice");
     let ring = ring_of(&rt, &alice, KEY);
     let listing = listing_of(&rt, &RECORD);
-    let want = segment_want(&rt, 1, 1, &listing);
+    let part = Part {
+        publisher: 0,
+        seq: 1,
+        part: 1,
+    };
+    let digest = listing.digests.first().expect(&rt, "a digest");
+    let want = segment_want(&rt, part, Shape::of(1), &listing.name, digest);
     assert!(rt; want.interest() == FULL_ASKED.as_slice());
     check_all(&rt, &want, &ring, FOR_THE_SEGMENT);
 }
@@ -180,7 +188,10 @@ fn worked_segment_is_checked(rt: HostRuntime) {
 // What a record lists.
 fn listing_of(rt: &(impl Abort + AllocGlobal), record: &[u8]) -> Listing {
     let content = DataView::read(record).expect(rt, "a packet").content;
-    read_record(rt.alloc(), content).expect(rt, "a record")
+    let Record::Lists(listing) = read_record(rt.alloc(), content).expect(rt, "a record") else {
+        panic!(rt; "a listing");
+    };
+    listing
 }
 
 #[test]
@@ -202,12 +213,21 @@ fn is_read(rt: &(impl Abort + AllocGlobal), row: &str) {
 // How many segments a content lists where it is a record's.
 fn segments_in(rt: &(impl Abort + AllocGlobal), content: &[u8]) -> Option<usize> {
     let segments = match read_record(rt.alloc(), content) {
-        Ok(listing) => Some(listing.digests.len()),
+        Ok(read) => Some(segments_of(&read)),
         Err(RecordFault::BadRecord) => None,
         Err(RecordFault::NoMemory) => panic!(rt; "memory"),
     };
     assert!(rt; is_record(content) == segments.is_some());
     segments
+}
+
+// How many segments a record counts.
+fn segments_of(read: &Record) -> usize {
+    match read {
+        Record::Lists(listing) => listing.digests.len(),
+        Record::Indexed { segments, .. } => usize::from(*segments),
+        Record::Withdraws { .. } => 0,
+    }
 }
 
 // A value that may go to another thread and be let go there.
@@ -257,12 +277,194 @@ fn segments_pass(
     requires some { 0 < length ring.now }
 {
     let listing = listing_of(rt, record);
-    let mut part = 0u8;
+    let mut part = 0u16;
     for segment in segments {
-        assert!(rt; listing.digests.get(usize::from(part)) == Some(&digest(segment)));
+        let own = digest(segment);
+        assert!(rt; listing.digests.get(usize::from(part)) == Some(&own));
         part = part.saturating_add(1);
-        let want = segment_want(rt, 65_535, part, &listing);
+        let part = Part {
+            publisher: 0,
+            seq: 65_535,
+            part,
+        };
+        let want = segment_want(rt, part, Shape::of(200), &listing.name, &own);
         let checked = check_part(&want, segment, ring).expect(rt, "a segment");
-        assert!(rt; checked.part().part == part && checked.octets() == segment.as_slice());
+        assert!(rt; checked.part().part == part.part && checked.octets() == segment.as_slice());
     }
+}
+
+#[test]
+fn worked_withdrawal_is_written(rt: HostRuntime) {
+    let alice = short_name(&rt, "/alice");
+    let group = short_name(&rt, "/g");
+    let packet = withdrawal_packet(rt.alloc(), 1, 2, &alice, &group, KEY).expect(&rt, "memory");
+    assert!(rt; packet.len() == 77);
+    let content = DataView::read(&packet).expect(&rt, "a packet").content;
+    assert!(rt; content == [0x85, 1, 1].as_slice());
+    let ring = ring_of(&rt, &alice, KEY);
+    let want = record_want(&rt, 2, &alice, &group);
+    assert!(rt; check_part(&want, &packet, &ring).is_ok());
+    let read = read_record(rt.alloc(), content).expect(&rt, "a record");
+    let Record::Withdraws { seq } = read else {
+        panic!(rt; "a withdrawal");
+    };
+    assert!(rt; seq == 1);
+}
+
+#[test]
+fn withdrawals_are_of_earlier_numbers(rt: HostRuntime) {
+    let alice = short_name(&rt, "/alice");
+    let ring = ring_of(&rt, &alice, KEY);
+    let keyed = key_name(&alice).expect(&rt, "memory");
+    let group = short_name(&rt, "/g");
+    let want = record_want(&rt, 2, &alice, &group);
+    let name = short_name(&rt, "/alice/g/seq=2");
+    for (number, passes) in [(0, false), (1, true), (2, false), (3, false)] {
+        let content = [0x85, 1, number];
+        let packet = write_signed(rt.alloc(), &name, None, &content, &keyed, KEY).expect(
+            &rt, "memory",
+        );
+        let refusal = check_part(&want, &packet, &ring).err();
+        let wanted = if passes {
+            None
+        } else {
+            Some(PartRefusal::BadRecord)
+        };
+        assert!(rt; refusal == wanted, "{number}");
+        assert!(rt; is_record(&content) == (number != 0), "{number}");
+    }
+}
+
+#[test]
+fn large_objects_are_listed_by_index_packets(rt: HostRuntime) {
+    let alice = short_name(&rt, "/alice");
+    let name = short_name(&rt, "/big");
+    let object = object(&rt, &name, &[b'A'; 201], 1);
+    let packets = packets_of(rt.alloc(), &object, 1, &alice, &alice, KEY).expect(&rt, "memory");
+    assert!(rt; packets.len() == 204);
+    for (part, packet) in packets.iter().enumerate() {
+        let made = packet_of(rt.alloc(), &object, 1, part as u16, &alice, &alice, KEY);
+        assert!(rt;
+            made.expect(&rt, "memory").as_deref() == Some(packet.as_slice()),
+            "{part}"
+        );
+    }
+    let ring = ring_of(&rt, &alice, KEY);
+    large_passes(&rt, &packets, &alice, &name, &ring);
+}
+
+fn large_passes(
+    rt: &(impl Abort + AllocGlobal),
+    packets: &[Vec<u8>],
+    node: &Name,
+    name: &Name,
+    ring: &KeyRing,
+)
+    requires some { 0 < length ring.now }
+    requires node { length (encoding node.now) ≤ 200 }
+{
+    let record = packet_at(rt, packets, 0);
+    let want = record_want(rt, 1, node, node);
+    assert!(rt; check_part(&want, record, ring).is_ok());
+    let content = DataView::read(record).expect(rt, "a packet").content;
+    let read = read_record(rt.alloc(), content).expect(rt, "a record");
+    let first = index_want(rt, 1, &read, node);
+    lists(rt, &first, packets, 200, ring);
+    let second = index_want(rt, 2, &read, node);
+    lists(rt, &second, packets, 1, ring);
+    segments_of_large_pass(rt, packets, name, ring);
+}
+
+fn packet_at<'p>(rt: &impl Abort, packets: &'p [Vec<u8>], part: u16) -> &'p [u8] {
+    packets
+        .get(usize::from(part))
+        .expect(rt, "a packet")
+        .as_slice()
+}
+
+// The want of an index packet that the record lists.
+fn index_want(rt: &(impl Abort + AllocGlobal), part: u16, read: &Record, node: &Name) -> Want
+    requires { length (encoding node.now) ≤ 200 }
+    ensures { result.part.publisher ≡ 0 }
+{
+    let Record::Indexed {
+        segments,
+        digests,
+        ..
+    } = read
+    else {
+        panic!(rt; "index packets");
+    };
+    let segments = *segments;
+    assert!(rt; 200 < segments && segments <= 20_000);
+    assert!(rt; digests.len() == usize::from(Shape::of(segments).index));
+    assert!(rt; 0 < part && usize::from(part) <= digests.len());
+    let part = Part {
+        publisher: 0,
+        seq: 1,
+        part,
+    };
+    let want = want_index(rt.alloc(), part, read, node, node).expect(rt, "memory");
+    assert!(rt; want.part() == part);
+    want
+}
+
+// Sees that an index packet passes, and lists so many digests and no more.
+fn lists(
+    rt: &(impl Abort + AllocGlobal),
+    want: &Want,
+    packets: &[Vec<u8>],
+    count: u16,
+    ring: &KeyRing,
+)
+    requires { want.now.part.publisher < length ring.now }
+{
+    let packet = packet_at(rt, packets, want.part().part);
+    assert!(rt; check_part(want, packet, ring).is_ok());
+    assert!(rt; want.digest() == Some(&digest(packet)));
+    let content = DataView::read(packet).expect(rt, "a packet").content;
+    let digests = read_index(rt.alloc(), content, count).expect(rt, "an index packet");
+    assert!(rt; digests.len() == usize::from(count));
+    let first = usize::from(want.part().part.saturating_sub(1)).saturating_mul(200);
+    for (listed, packet) in digests
+        .iter()
+        .zip(packets.iter().skip(first.saturating_add(3)))
+    {
+        assert!(rt; *listed == digest(packet));
+    }
+    let more = count.saturating_add(1);
+    assert!(rt; read_index(rt.alloc(), content, more).err() == Some(RecordFault::BadRecord));
+}
+
+fn segments_of_large_pass(
+    rt: &(impl Abort + AllocGlobal),
+    packets: &[Vec<u8>],
+    name: &Name,
+    ring: &KeyRing,
+)
+    requires some { 0 < length ring.now }
+{
+    let mut part = 2u16;
+    for packet in packets.iter().skip(3) {
+        part = part.saturating_add(1);
+        let part = Part {
+            publisher: 0,
+            seq: 1,
+            part,
+        };
+        let want = segment_want(rt, part, Shape::of(201), name, &digest(packet));
+        assert!(rt; check_part(&want, packet, ring).is_ok());
+    }
+    assert!(rt; part == 203);
+}
+
+#[test]
+fn the_largest_object_is_published(rt: HostRuntime) {
+    let alice = short_name(&rt, "/alice");
+    let name = short_name(&rt, "/big");
+    let octets = [b'A'; 20_001];
+    assert!(rt; cut(rt.alloc(), &octets, 1).err() == Some(CutFault::TooMany { segments: 20_001 }));
+    let object = object(&rt, &name, &octets[..20_000], 1);
+    let packets = packets_of(rt.alloc(), &object, 1, &alice, &alice, KEY).expect(&rt, "memory");
+    assert!(rt; packets.len() == 20_101);
 }

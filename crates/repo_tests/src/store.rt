@@ -7,7 +7,7 @@ use std::alloc::Global;
 use std::process::Abort;
 use std::test::*;
 
-fn part(publisher: u32, seq: u16, part: u8) -> Part {
+fn part(publisher: u32, seq: u16, part: u16) -> Part {
     Part {
         publisher,
         seq,

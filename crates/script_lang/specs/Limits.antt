@@ -17,11 +17,33 @@ line_octets = 32768
 abbrev pub members_limit : ℕ
 members_limit = 16
 
+-- Mirrors of a group.
+abbrev pub mirrors_limit : ℕ
+mirrors_limit = 4
+
+-- Segments of a publication.
+abbrev pub segments_limit : ℕ
+segments_limit = 20000
+
+-- Segments that a record or an index packet lists.
+abbrev pub listed_limit : ℕ
+listed_limit = 200
+
+-- The number of the last part of a publication of so many segments: the record is part 0, and the index packets stand
+-- in front of the segments.
+abbrev pub last_part : ℕ
+last_part = 20100
+
+-- Blocks of an insertion.
+abbrev pub blocks_limit : ℕ
+blocks_limit = 200
+
 -- Octets of the contents of all `publish` and `block` lines.
 abbrev pub contents_limit : ℕ
 contents_limit = 67108864
 
--- Parts: one and the segments for each `publish` line, one for each `insert`, `order` and `block` line.
+-- Parts: one, the index packets and the segments for each `publish` line, one for each `withdraw`, `insert`, `order`
+-- and `block` line.
 abbrev pub parts_limit : ℕ
 parts_limit = 100000
 

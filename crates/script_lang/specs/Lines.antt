@@ -6,13 +6,14 @@ use Rattle.std.specs.Prelude.{Result, Ok, Err, nat_le, nat_lt, ◌==◌, if◌th
 use Rattle.std.specs.List.{list_all, slice_split, find}
 use Rattle.std.specs.Str.{bytes_eq}
 use Rattle.script_lang.specs.declared.verb.Verb.{Verb}
-use Rattle.script_lang.specs.declared.verb.Verb.TheVariants.{Group, Member, Client, Publish, Deliver, Sync, Advance}
-use Rattle.script_lang.specs.declared.verb.Verb.TheVariants.{Fire, Restart, Vector, Catalogue, Claim, Lose, Answer}
-use Rattle.script_lang.specs.declared.verb.Verb.TheVariants.{Fetch, Settle, Dump, Hear, Order, Ask, Feed, Insert, Block}
-use Rattle.script_lang.specs.declared.verb.Verb.TheVariants.{Status, Delete, Summary, Traffic}
+use Rattle.script_lang.specs.declared.verb.Verb.TheVariants.{Group, Member, Client, Mirror, Publish, Withdraw}
+use Rattle.script_lang.specs.declared.verb.Verb.TheVariants.{Deliver, Sync, Advance, Fire, Restart, Vector, Catalogue}
+use Rattle.script_lang.specs.declared.verb.Verb.TheVariants.{Claim, Lose, Answer, Fetch, Settle, Dump, Hear, Order, Ask}
+use Rattle.script_lang.specs.declared.verb.Verb.TheVariants.{Feed, Insert, Block, Status, Delete, Watch, Told, Mdeliver}
+use Rattle.script_lang.specs.declared.verb.Verb.TheVariants.{Mfetch, Mcatalogue, Summary, Traffic}
 use Rattle.script_lang.specs.declared.line_fault.LineFault.{LineFault}
 use Rattle.script_lang.specs.declared.line_fault.LineFault.TheVariants.{Syntax, Limit, NoMemory}
-use Rattle.script_lang.specs.Limits.{line_octets}
+use Rattle.script_lang.specs.Limits.{line_octets, segments_limit, blocks_limit}
 use Rattle.script_lang.specs.Kinds.{Kind, Value, Number, Octets, word_of}
 use Rattle.script_lang.specs.Forms.{Stated, form, said}
 
@@ -43,15 +44,17 @@ values_of (kind ∷ kinds) (word ∷ words) = word_then (word_of kind word) (val
 
 -- ---- the line
 
--- What is asked of the values together: a publication has at most 200 segments, an insertion at most
+-- What is asked of the values together: a publication has at most 20,000 segments, an insertion at most
 -- 200 blocks, and of the others nothing is asked.
 abbrev pub are_within : Verb → List Value → Bool
 are_within Group values = true
 are_within Member values = true
 are_within Client values = true
+are_within Mirror values = true
 are_within Publish (m ∷ name ∷ Number size ∷ Octets content ∷ []) =
-    nat_le (length content) (200 * size)
+    nat_le (length content) (segments_limit * size)
 are_within Publish _ = false
+are_within Withdraw values = true
 are_within Deliver values = true
 are_within Sync values = true
 are_within Advance values = true
@@ -70,11 +73,16 @@ are_within Order values = true
 are_within Ask values = true
 are_within Feed values = true
 are_within Insert (m ∷ client ∷ name ∷ Number first ∷ Number last ∷ []) =
-    nat_le first last && nat_lt (last - first) 200
+    nat_le first last && nat_lt (last - first) blocks_limit
 are_within Insert _ = false
 are_within Block values = true
 are_within Status values = true
 are_within Delete values = true
+are_within Watch values = true
+are_within Told values = true
+are_within Mdeliver values = true
+are_within Mfetch values = true
+are_within Mcatalogue values = true
 are_within Summary values = true
 are_within Traffic values = true
 
@@ -90,9 +98,9 @@ verb_named (first ∷ others) word = if bytes_eq first.0 word then Some first.1 
 
 abbrev pub verbs : List Verb
 verbs =
-    Group ∷ Member ∷ Client ∷ Publish ∷ Deliver ∷ Sync ∷ Advance ∷ Fire ∷ Restart ∷ Vector
-    ∷ Catalogue ∷ Claim ∷ Lose ∷ Answer ∷ Fetch ∷ Settle ∷ Dump ∷ Hear ∷ Order ∷ Ask ∷ Feed
-    ∷ Insert ∷ Block ∷ Status ∷ Delete ∷ Summary ∷ Traffic ∷ []
+    Group ∷ Member ∷ Client ∷ Mirror ∷ Publish ∷ Withdraw ∷ Deliver ∷ Sync ∷ Advance ∷ Fire ∷ Restart
+    ∷ Vector ∷ Catalogue ∷ Claim ∷ Lose ∷ Answer ∷ Fetch ∷ Settle ∷ Dump ∷ Hear ∷ Order ∷ Ask ∷ Feed
+    ∷ Insert ∷ Block ∷ Status ∷ Delete ∷ Watch ∷ Told ∷ Mdeliver ∷ Mfetch ∷ Mcatalogue ∷ Summary ∷ Traffic ∷ []
 
 abbrev pub first_words : List (List ℕ × Verb)
 first_words = map (λ verb. ((form verb).word, verb)) verbs

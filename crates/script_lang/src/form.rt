@@ -1,11 +1,14 @@
 ghost use Rattle.std.specs.Prelude.{◌≡◌};
 ghost use Rattle.script_lang.specs.Reading.{Gives, ReadsForm, left_of};
-ghost use Rattle.script_lang.specs.declared.verb.Verb.TheVariants.{Block, Dump, Fetch, Insert, Publish};
+ghost use Rattle.script_lang.specs.declared.verb.Verb.TheVariants.{Block, Dump, Fetch, Insert, Mfetch, Publish};
 ghost use Rattle.script_lang.specs.Forms.{form, stated};
 ghost use Rattle.script_lang.specs.Lines.{are_within, stated_of};
 
 use crate::cursor::Cursor;
-use crate::limits::{ANY, BLOCK, CONTENT, INJECTION, KEY, NODE_NAME, OBJECT_NAME};
+use crate::limits::{
+    ANY, BLOCK, BLOCKS, CONTENT, INJECTION, KEY, LAST_PART, NODE_NAME, NUMBERS, OBJECT_NAME,
+    SEGMENTS,
+};
 use crate::line::Line;
 use crate::line_fault::LineFault;
 use crate::verb::Verb;
@@ -31,19 +34,28 @@ fn values_in(alloc: Global, verb: Verb, words: &mut Cursor<'_>) -> Result<Line, 
 {
     match verb {
         Verb::Group => Ok(Line::Group {
-            name: words.name(alloc, NODE_NAME)?,
+            name: words.name(alloc, 1, NODE_NAME)?,
         }),
         Verb::Member => Ok(Line::Member {
             label: words.label(alloc)?,
-            name: words.name(alloc, NODE_NAME)?,
+            name: words.name(alloc, 1, NODE_NAME)?,
             key: words.hex(alloc, KEY)?,
         }),
         Verb::Client => Ok(Line::Client {
             label: words.label(alloc)?,
-            name: words.name(alloc, NODE_NAME)?,
+            name: words.name(alloc, 1, NODE_NAME)?,
             key: words.hex(alloc, KEY)?,
         }),
+        Verb::Mirror => Ok(Line::Mirror {
+            label: words.label(alloc)?,
+            p: words.publisher(alloc)?,
+            name: words.name(alloc, 0, OBJECT_NAME)?,
+        }),
         Verb::Publish => publication(alloc, words),
+        Verb::Withdraw => Ok(Line::Withdraw {
+            m: words.label(alloc)?,
+            s: words.small(1, NUMBERS)?,
+        }),
         Verb::Deliver => Ok(Line::Deliver {
             k: words.small(1, u32::MAX)?,
             m: words.label(alloc)?,
@@ -111,7 +123,24 @@ fn values_in(alloc: Global, verb: Verb, words: &mut Cursor<'_>) -> Result<Line, 
         Verb::Delete => Ok(Line::Delete {
             m: words.label(alloc)?,
             client: words.label(alloc)?,
-            name: words.name(alloc, OBJECT_NAME)?,
+            name: words.name(alloc, 1, OBJECT_NAME)?,
+        }),
+        Verb::Watch => Ok(Line::Watch {
+            m: words.label(alloc)?,
+            p: words.publisher(alloc)?,
+            name: words.name(alloc, 0, OBJECT_NAME)?,
+        }),
+        Verb::Told => Ok(Line::Told {
+            m: words.label(alloc)?,
+            w: words.small(1, u32::MAX)?,
+        }),
+        Verb::Mdeliver => Ok(Line::Mdeliver {
+            k: words.small(1, u32::MAX)?,
+            l: words.label(alloc)?,
+        }),
+        Verb::Mfetch => mirror_fetch(alloc, words),
+        Verb::Mcatalogue => Ok(Line::Mcatalogue {
+            l: words.label(alloc)?,
         }),
         Verb::Summary => Ok(Line::Summary),
         Verb::Traffic => Ok(Line::Traffic),
@@ -124,7 +153,7 @@ fn publication(alloc: Global, words: &mut Cursor<'_>) -> Result<Line, LineFault>
 {
     Ok(Line::Publish {
         m: words.label(alloc)?,
-        name: words.name(alloc, OBJECT_NAME)?,
+        name: words.name(alloc, 1, OBJECT_NAME)?,
         size: words.small(1, BLOCK as u32)?,
         content: words.content(alloc, 0, CONTENT)?,
     })
@@ -142,6 +171,18 @@ fn fetch(alloc: Global, words: &mut Cursor<'_>) -> Result<Line, LineFault>
     })
 }
 
+// A fetch by a mirror.
+fn mirror_fetch(alloc: Global, words: &mut Cursor<'_>) -> Result<Line, LineFault>
+    ensures { ReadsForm Mfetch words.old words.new result }
+{
+    Ok(Line::Mfetch {
+        l: words.label(alloc)?,
+        workers: words.small(1, 16)?,
+        tries: words.small(1, 16)?,
+        loss: words.small(0, 1_000)?,
+    })
+}
+
 // A dump of a part.
 fn dump(alloc: Global, words: &mut Cursor<'_>) -> Result<Line, LineFault>
     ensures { ReadsForm Dump words.old words.new result }
@@ -149,8 +190,8 @@ fn dump(alloc: Global, words: &mut Cursor<'_>) -> Result<Line, LineFault>
     Ok(Line::Dump {
         m: words.label(alloc)?,
         p: words.label(alloc)?,
-        s: words.small(1, 65_535)?,
-        x: words.small(0, 200)?,
+        s: words.small(1, NUMBERS)?,
+        x: words.small(0, LAST_PART)?,
     })
 }
 
@@ -161,7 +202,7 @@ fn insertion(alloc: Global, words: &mut Cursor<'_>) -> Result<Line, LineFault>
     Ok(Line::Insert {
         m: words.label(alloc)?,
         client: words.label(alloc)?,
-        name: words.name(alloc, OBJECT_NAME)?,
+        name: words.name(alloc, 1, OBJECT_NAME)?,
         first: words.number(0, ANY)?,
         last: words.number(0, ANY)?,
     })
@@ -179,13 +220,13 @@ fn block(alloc: Global, words: &mut Cursor<'_>) -> Result<Line, LineFault>
     })
 }
 
-// A publication has at most 200 segments, an insertion at most 200 blocks.
+// A publication has at most 20,000 segments, an insertion at most 200 blocks.
 fn are_within(line: &Line) -> bool
     ensures { result ≡ are_within (stated line.now).verb (stated line.now).values }
 {
     match line {
-        Line::Publish { size, content, .. } => content.len() as u64 <= 200 * u64::from(*size),
-        Line::Insert { first, last, .. } => first <= last && *last - *first < 200,
+        Line::Publish { size, content, .. } => content.len() as u64 <= SEGMENTS * u64::from(*size),
+        Line::Insert { first, last, .. } => first <= last && *last - *first < BLOCKS,
         _ => true,
     }
 }

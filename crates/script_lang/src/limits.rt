@@ -10,11 +10,14 @@ pub const LINE_LIMIT: usize = 32_768;
 /// How many members there may be, and how many clients.
 pub const MEMBERS_LIMIT: usize = 16;
 
+/// How many mirrors there may be.
+pub const MIRRORS_LIMIT: usize = 4;
+
 /// How many octets the contents of all `publish` and `block` lines may have together.
 pub const CONTENTS_LIMIT: u64 = 67_108_864;
 
-/// How many parts may be counted over a script: one and its segments for each `publish` line, one for
-/// each `insert`, `order` and `block` line.
+/// How many parts may be counted over a script: one, its index packets and its segments for each `publish`
+/// line, one for each `withdraw`, `insert`, `order` and `block` line.
 pub const PARTS_LIMIT: u64 = 100_000;
 
 /// How many `settle` lines a script may have.
@@ -32,7 +35,20 @@ pub(crate) const INJECTION: u64 = 9_000;
 
 pub(crate) const BLOCK: u64 = 8_000;
 
-pub(crate) const CONTENT: u64 = 1_600_000;
+pub(crate) const CONTENT: u64 = 16_000_000;
+
+// How many segments a publication may have, how many of them a record or an index packet lists, and how many
+// blocks an insertion may have.
+pub(crate) const SEGMENTS: u64 = 20_000;
+
+pub(crate) const LISTED: u64 = 200;
+
+pub(crate) const BLOCKS: u64 = 200;
+
+// The greatest number of a publication, and of a part of one: 20,000 segments stand behind 100 index packets.
+pub(crate) const NUMBERS: u32 = 65_535;
+
+pub(crate) const LAST_PART: u32 = 20_100;
 
 // The greatest number that a word is.
 pub(crate) const ANY: u64 = 999_999_999_999_999_999;

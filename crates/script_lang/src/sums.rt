@@ -1,8 +1,9 @@
-ghost use Rattle.std.specs.Prelude.{◌≡◌, ◌<◌, ◌≤◌, ◌^◌, IfNone, IfSome, true, false};
+ghost use Rattle.std.specs.Prelude.{◌≡◌, ◌<◌, ◌≤◌, ◌+◌, ◌^◌, IfNone, IfSome, true, false};
 ghost use Rattle.script_lang.specs.Forms.{stated};
-ghost use Rattle.script_lang.specs.Checking.{adds, are_within_limits, segments, line_totals, with_totals};
+ghost use Rattle.script_lang.specs.Checking.{adds, are_within_limits, index_packets, line_totals, publication_parts};
+ghost use Rattle.script_lang.specs.Checking.{segments, with_totals};
 
-use crate::limits::{CONTENTS_LIMIT, PARTS_LIMIT, SETTLES_LIMIT};
+use crate::limits::{CONTENTS_LIMIT, LISTED, PARTS_LIMIT, SETTLES_LIMIT};
 use crate::line::Line;
 
 // Totals over lines: octets of contents, parts, settles.
@@ -28,13 +29,13 @@ impl Sums {
     pub(crate) fn of_line(line: &Line) -> Sums
         ensures adds { line_totals result ≡ adds (stated line.now).verb (stated line.now).values }
         ensures contents { result.contents < 2 ^ 63 }
-        ensures parts { result.parts ≤ 2 ^ 63 }
+        ensures parts { result.parts < 2 ^ 63 + 2 ^ 62 }
         ensures settles { result.settles ≤ 1 }
     {
         match line {
             Line::Publish { size, content, .. } => Sums {
                 contents: content.len() as u64,
-                parts: 1 + segments(content.len() as u64, *size),
+                parts: publication_parts(segments(content.len() as u64, *size)),
                 settles: 0,
             },
             Line::Block { content, .. } => Sums {
@@ -42,7 +43,7 @@ impl Sums {
                 parts: 1,
                 settles: 0,
             },
-            Line::Insert { .. } | Line::Order { .. } => Sums {
+            Line::Withdraw { .. } | Line::Insert { .. } | Line::Order { .. } => Sums {
                 parts: 1,
                 ..Sums::none()
             },
@@ -58,7 +59,7 @@ impl Sums {
     pub(crate) fn with(self, added: Sums) -> Option<Sums>
         requires within { are_within_limits (line_totals self) ≡ true }
         requires contents { added.contents < 2 ^ 63 }
-        requires parts { added.parts ≤ 2 ^ 63 }
+        requires parts { added.parts < 2 ^ 63 + 2 ^ 62 }
         requires settles { added.settles ≤ 1 }
         ensures some { IfSome result
             (λ sums. line_totals sums ≡ with_totals (line_totals self) (line_totals added)) }
@@ -98,4 +99,24 @@ fn segments(len: u64, size: u32) -> u64
     }
     let size = u64::from(size);
     (len + size - 1) / size
+}
+
+// The parts of a publication of so many segments: its record, the index packets and the segments.
+fn publication_parts(count: u64) -> u64
+    requires { count < 2 ^ 63 }
+    ensures count { result ≡ publication_parts count }
+    ensures small { result < 2 ^ 63 + 2 ^ 62 }
+{
+    1 + index_packets(count) + count
+}
+
+// How many index packets list so many segments: none where the record lists them itself.
+fn index_packets(count: u64) -> u64
+    ensures { result ≡ index_packets count }
+{
+    if count <= LISTED {
+        0
+    } else {
+        count.div_ceil(LISTED)
+    }
 }

@@ -1,5 +1,5 @@
-ghost use Rattle.script_report.specs.Texts.{publish_text, deliver_steady_text, deliver_suppressed_text, sync_text};
-ghost use Rattle.script_report.specs.Texts.{advance_text, fire_early_text, fire_quiet_text, fire_sent_text};
+ghost use Rattle.script_report.specs.Texts.{publish_text, withdraw_text, deliver_steady_text, deliver_suppressed_text};
+ghost use Rattle.script_report.specs.Texts.{sync_text, advance_text, fire_early_text, fire_quiet_text, fire_sent_text};
 ghost use Rattle.script_report.specs.Texts.{restart_text};
 ghost use Rattle.script_report.specs.Pieces.{Appends};
 
@@ -25,6 +25,31 @@ pub fn put_publish(
             Number(seq),
             Word("segments"),
             Number(segments),
+            Word("sync"),
+            Number(sync),
+        ],
+    )
+}
+
+/// A member withdrew its object of the number `withdrawn` under its number `seq`, and its sync Interest is the
+/// `sync`th that was sent.
+pub fn put_withdraw(
+    out: &mut Vec<u8>,
+    m: &str,
+    seq: u64,
+    withdrawn: u64,
+    sync: u64,
+) -> Result<(), AllocError>
+    ensures { Appends (withdraw_text m.now seq withdrawn sync) out.old.items out.new.items result }
+{
+    put_line(
+        out,
+        "withdraw",
+        &[
+            Word(m),
+            Number(seq),
+            Word("of"),
+            Number(withdrawn),
             Word("sync"),
             Number(sync),
         ],

@@ -2,6 +2,7 @@
 ghost use Rattle.std.specs.Prelude.{◌≡◌, ◌⊎◌, ◌+◌, ◌<◌, ◌≤◌, None, Some, IsTrue, IfOk, IfErr, OnOk, OnErr, length, map};
 ghost use Rattle.std.specs.List.{All};
 ghost use Rattle.repo_object.specs.Objects.{is_object_name, IsContent};
+ghost use Rattle.repo_object.specs.Objects.Post.{Offers};
 ghost use Rattle.repo_object.specs.Cuts.{pieces};
 ghost use Rattle.group_model.specs.Events.{Event};
 ghost use Rattle.group_model.specs.Steps.{after_publish, next_seq_at, next_sync};
@@ -9,13 +10,14 @@ ghost use Rattle.group_model.specs.Refusals.{Refusal, refusal};
 ghost use Rattle.bench_world.specs.Worlds.{world_of, drawing};
 ghost use Rattle.bench_world.specs.EventValues.{EventValue};
 ghost use Rattle.bench_world.specs.Runs.{IsStep};
+ghost use Rattle.bench_world.specs.Withdrawing.{withdraw_fault};
 
 use super::World;
 use crate::event::{Happened, StepFault};
 use crate::numbers::numbers;
 use bench_net::Draws;
 use ndn_name::Name;
-use repo_member::PublishRefusal;
+use repo_member::{PublishRefusal, WithdrawRefusal};
 use repo_object::cut;
 
 impl World {
@@ -31,7 +33,7 @@ impl World {
         requires there { m < length self.old.members }
         requires name { IsTrue (is_object_name name.now) }
         requires size { (1 ≤ size) × (size ≤ 8000) }
-        requires segments { length (pieces size content.now) ≤ 200 }
+        requires segments { length (pieces size content.now) ≤ 20000 }
         requires few { self.old.steps < 100000 }
         ensures { IsStep (drawing (D.draw draws.now)) (EventValue.Publish m name.now size content.now)
             self.old result self.new }
@@ -64,11 +66,11 @@ impl World {
     ) -> Result<(u16, u32), PublishRefusal>
         requires there { m < length self.old.members }
         requires name { IsTrue (is_object_name name.now) }
-        requires segments { length contents.now ≤ 200 }
+        requires segments { length contents.now ≤ 20000 }
         requires contents { All (λ c. IsContent c.items) contents.now }
         requires few { self.old.steps < 100000 }
         ensures ok { OnOk result (world_of self.new ≡ after_publish (drawing (D.draw draws.now)) (world_of self.old) m
-            (record { name = name.now; contents = map (λ c. c.items) contents.now })) }
+            (Offers (record { name = name.now; contents = map (λ c. c.items) contents.now }))) }
         ensures taken { OnOk result (refusal (drawing (D.draw draws.now)) (world_of self.old) (Event.Publish m
             (record { name = name.now; contents = map (λ c. c.items) contents.now })) ≡ None) }
         ensures seq { IfOk result (λ r. r.0 ≡ next_seq_at (world_of self.old) m) }
@@ -92,5 +94,48 @@ impl World {
         let k = self.sent.add_reserved(m, vector, published.sync);
         self.steps += 1;
         Ok((published.seq, k))
+    }
+
+    /// A member withdraws its object of the number `s` by a publication under its next number, and its sync Interest is
+    /// sent.
+    pub(crate) fn withdraw<D: Draws>(
+        &mut self,
+        m: u32,
+        s: u32,
+        draws: &D,
+    ) -> Result<Happened, StepFault>
+        requires there { m < length self.old.members }
+        requires small { s < 65536 }
+        requires few { self.old.steps < 100000 }
+        ensures { IsStep (drawing (D.draw draws.now)) (EventValue.Withdraw m s) self.old result self.new }
+    {
+        self.sent.reserve(1)?;
+        let member = &mut self.members[m as usize];
+        let mut vector = numbers(self.alloc, member.vector())?;
+        let draw = draws.draw(m, member.next_draw());
+        let published = match member.withdraw(&self.group, s as u16, self.moment, draw) {
+            Ok(published) => published,
+            Err(refusal) => return Err(fault_of(refusal)),
+        };
+        vector[m as usize] = published.seq;
+        let k = self.sent.add_reserved(m, vector, published.sync);
+        self.steps += 1;
+        Ok(Happened::Withdraw {
+            m,
+            seq: u64::from(published.seq),
+            withdrawn: u64::from(s),
+            sync: u64::from(k),
+        })
+    }
+}
+
+// Why a withdrawal is not carried out.
+fn fault_of(refusal: WithdrawRefusal) -> StepFault
+    ensures { result ≡ withdraw_fault refusal }
+{
+    match refusal {
+        WithdrawRefusal::NoSuchNumber { .. } => StepFault::Refused { number: 14 },
+        WithdrawRefusal::NumbersSpent { .. } => StepFault::Refused { number: 8 },
+        WithdrawRefusal::NoMemory => StepFault::NoMemory,
     }
 }

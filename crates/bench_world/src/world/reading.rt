@@ -84,14 +84,14 @@ impl World {
     /// Which octets the packet of a part has, if the member holds it.
     pub(crate) fn dump(&mut self, m: u32, p: u32, s: u32, x: u32) -> Result<Happened, StepFault>
         requires there { m < length self.old.members }
-        requires small { (s < 65536) × (x < 256) }
+        requires small { (s < 65536) × (x < 65536) }
         requires few { self.old.steps < 100000 }
         ensures { IsStep (keyed self.old.keys) (EventValue.Dump m p s x) self.old result self.new }
     {
         let part = Part {
             publisher: p,
             seq: s as u16,
-            part: x as u8,
+            part: x as u16,
         };
         let happened = dumped(self.alloc, m, &self.members[m as usize], part)?;
         self.count();

@@ -1,76 +1,34 @@
 // Parts that are held from now on, in the plan, in the store and in the catalogue.
-ghost use Rattle.std.specs.Prelude.{◌≡◌, ◌-◌, ◌<◌, ◌≤◌, ◌==◌, true, false, is_some, None, IsSome, IsOk, IfSome, IfOk};
-ghost use Rattle.sha2.specs.Sha256.{sha256};
+ghost use Rattle.std.specs.Prelude.{◌≡◌, ◌+◌, ◌-◌, ◌<◌, ◌≤◌, ◌==◌, true, false, is_some, IsOk, IfSome};
+ghost use Rattle.std.specs.List.{All};
 ghost use Rattle.ndn_data.specs.Data.{data_of};
-ghost use Rattle.repo_plan.specs.Parts.{pair_of};
+ghost use Rattle.repo_plan.specs.Parts.{IsShape, pair_of};
 ghost use Rattle.repo_plan.specs.Plan.{holds, hides, is_asked, is_claimed, holds_too, uses_room};
 ghost use Rattle.repo_store.specs.StoreList.{with_packet};
-ghost use Rattle.repo_object.specs.Verdict.{listing_in};
-ghost use Rattle.repo_holdings.specs.Gaining.{AreTied, AreKept, HaveRoom, IsArrival, KeepsOthers, told_shape};
+ghost use Rattle.repo_holdings.specs.StoredParents.{lists_at, ListsAsMany};
+ghost use Rattle.repo_holdings.specs.Listed.{entry_at, alone_catalogue};
+ghost use Rattle.repo_holdings.specs.Contents.{IsDigestIn};
+ghost use Rattle.repo_holdings.specs.Noted.{AreNotes};
+ghost use Rattle.repo_holdings.specs.Gaining.{AreTied, IsArrival, KeepsOthers, told_shape};
+ghost use Rattle.repo_holdings.specs.Changing.{changed, change_by};
 ghost use Rattle.repo_holdings.specs.HoldingsState.{held_plan, AreInOrder};
-ghost use Rattle.repo_holdings.specs.StoredRecords.{IsListedIn};
 
 use super::Holdings;
-use super::stored_record::StoredRecord;
-use crate::listing::{list_if_whole, owned_name};
-use ndn_name::Name;
-use repo_catalog::Catalogue;
-use repo_object::{Digested, RecordView};
-use repo_plan::{Part, Plan};
+use crate::changes::{Change, change_told};
+use crate::contents::ContentsDigest;
+use crate::notes::Notes;
+use crate::told::Arrival;
+use repo_object::Digested;
+use repo_plan::{Part, Plan, Shape};
 use repo_store::Store;
-use std::alloc::{AllocError, Global};
-
-/// A packet that came for a part, what it lists if it is a record, and the name of its object.
-#[derive(Drop)]
-pub struct Arrival {
-    pub packet: Digested,
-    pub segments: Option<u8>,
-    pub name: Name,
-}
 
 impl Holdings {
-    /// The packet that came for a part and passed for it, with its digest, if that is known. `stored` lists the part,
-    /// if it is a segment.
-    pub fn arrived(
-        &self,
-        alloc: Global,
-        part: Part,
-        stored: Option<&StoredRecord<'_>>,
-        octets: &[u8],
-        digest: Option<&[u8; 32]>,
-    ) -> Result<Arrival, AllocError>
-        requires data { IsOk (data_of octets.now) }
-        requires digest { IfSome digest (λ digest. digest.now ≡ sha256 octets.now) }
-        requires record_part { part.part ≡ 0 → IsSome (listing_in octets.now) }
-        requires listed { IfSome stored (λ r. IsListedIn self.now.store part r.now) }
-        requires none { stored ≡ None → part.part ≡ 0 }
-        ensures octets { IfOk result (λ arrival. arrival.packet ≡ octets.now) }
-        ensures arrival { IfOk result (λ arrival.
-            IsArrival self.now.store part arrival.packet arrival.segments arrival.name) }
-    {
-        let packet = Digested::new(octets.to_vec(alloc)?, digest);
-        match stored {
-            Some(stored) => Ok(Arrival {
-                packet,
-                segments: None,
-                name: owned_name(alloc, stored.view.name())?,
-            }),
-            None => {
-                let record = RecordView::in_packet(octets);
-                Ok(Arrival {
-                    packet,
-                    segments: Some(record.segments()),
-                    name: owned_name(alloc, record.name())?,
-                })
-            }
-        }
-    }
-
-    /// A part that is wanted is held from now on, with the packet that came for it, where room was made, and its
-    /// publication is catalogued where no part of it is missing any more. It takes no memory.
+    /// A part that is wanted is held from now on, with the packet that came for it, where room was made, and the
+    /// catalogue changes by it: an object is listed where no part of it is missing any more, unless it is withdrawn,
+    /// and what a withdrawal withdraws is removed. It takes no memory.
     pub fn gain(&mut self, part: Part, arrival: Arrival)
         requires room { 0 < self.old.spare }
-        requires arrival { IsArrival self.old.store part arrival.packet arrival.segments arrival.name }
+        requires arrival { IsArrival self.old.store part arrival.packet arrival.told }
         requires asked { is_asked (held_plan self.old) part ≡ true }
         requires not_held { holds (held_plan self.old) part ≡ false }
         requires not_hidden { hides (held_plan self.old) (pair_of part) ≡ false }
@@ -81,77 +39,85 @@ impl Holdings {
         } }
         ensures in_order { AreInOrder self.new }
     {
-        gain_listed(
+        let change = gain_noted(
             &mut self.plan,
             &mut self.store,
-            &mut self.catalogue,
+            &mut self.notes,
             part,
             arrival,
+            &[],
         );
+        change.make(&mut self.catalogue);
         self.spare -= 1;
     }
 }
 
-// A part that is asked for is held from now on, with its packet, where room was made. `segments` is what a record
-// lists.
+// A part that is asked for is held from now on, with its packet, where room was made. `shape` is what a record tells.
 pub(super) fn gain(
     plan: &mut Plan,
     store: &mut Store,
     part: Part,
     packet: Digested,
-    segments: Option<u8>,
+    shape: Option<Shape>,
 )
     requires plan_room { 0 < plan.old.spare }
     requires store_room { 0 < store.old.spare }
     requires tied { AreTied plan.old store.old.packets }
-    requires segments { is_some segments ≡ (part.part == 0) }
-    requires told { segments ≡ told_shape part packet }
+    requires shape { is_some shape ≡ (part.part == 0) }
+    requires told { shape ≡ told_shape part packet }
+    requires sized { IfSome shape IsShape }
+    requires lists { ListsAsMany packet (lists_at store.old.packets part) }
     requires data { IsOk (data_of packet) }
     requires asked { is_asked plan.old part ≡ true }
     requires not_held { holds plan.old part ≡ false }
     requires not_hidden { hides plan.old (pair_of part) ≡ false }
     requires not_claimed { is_claimed plan.old part ≡ false }
-    ensures plan { plan.new ≡ uses_room (holds_too part segments plan.old) }
+    ensures plan { plan.new ≡ uses_room (holds_too part shape plan.old) }
     ensures store { store.new ≡ record {
       packets = with_packet part packet store.old.packets;
       spare = store.old.spare - 1;
     } }
     ensures tied { AreTied plan.new store.new.packets }
 {
-    plan.hold_reserved(part, segments);
+    plan.hold_reserved(part, shape);
     let (octets, digest) = packet.into_parts();
     store.put_reserved_with_digest(part, octets, &digest);
 }
 
-// The same, and the publication is catalogued where no part of it is missing any more.
-fn gain_listed(
+// The same of a packet that came, and what it tells is noted. The answer is what changes in the catalogue. Digests over
+// contents that are told aren't taken again.
+pub(super) fn gain_noted(
     plan: &mut Plan,
     store: &mut Store,
-    catalogue: &mut Catalogue,
+    notes: &mut Notes,
     part: Part,
     arrival: Arrival,
-)
-    requires room { HaveRoom 1 plan.old store.old catalogue.old }
-    requires kept { AreKept plan.old store.old.packets catalogue.old.entries }
-    requires arrival { IsArrival store.old.packets part arrival.packet arrival.segments arrival.name }
+    digests: &[ContentsDigest],
+) -> Change
+    requires plan_room { 0 < plan.old.spare }
+    requires store_room { 0 < store.old.spare }
+    requires notes_room { 0 < notes.old.spare }
+    requires tied { AreTied plan.old store.old.packets }
+    requires noted { AreNotes notes.old store.old.packets }
+    requires arrival { IsArrival store.old.packets part arrival.packet arrival.told }
     requires asked { is_asked plan.old part ≡ true }
     requires not_held { holds plan.old part ≡ false }
     requires not_hidden { hides plan.old (pair_of part) ≡ false }
     requires not_claimed { is_claimed plan.old part ≡ false }
-    ensures plan { plan.new ≡ uses_room (holds_too part arrival.segments plan.old) }
+    requires digests { All (IsDigestIn (with_packet part arrival.packet store.old.packets)) digests.now }
+    ensures plan { plan.new ≡ uses_room (holds_too part (told_shape part arrival.packet) plan.old) }
     ensures others { KeepsOthers plan.old plan.new }
     ensures packets { store.new.packets ≡ with_packet part arrival.packet store.old.packets }
     ensures store_room { store.new.spare ≡ store.old.spare - 1 }
-    ensures catalogue_room { catalogue.old.spare - 1 ≤ catalogue.new.spare }
-    ensures kept { AreKept plan.new store.new.packets catalogue.new.entries }
+    ensures notes_room { notes.old.spare ≤ notes.new.spare + 1 }
+    ensures tied { AreTied plan.new store.new.packets }
+    ensures noted { AreNotes notes.new store.new.packets }
+    ensures change { result ≡ change_by notes.old.withdrawn (pair_of part) arrival.told
+        (entry_at store.new.packets (pair_of part)) }
+    ensures listed { alone_catalogue store.new.packets ≡ changed result (alone_catalogue store.old.packets) }
 {
-    gain(plan, store, part, arrival.packet, arrival.segments);
-    list_if_whole(
-        plan,
-        store,
-        catalogue,
-        part.publisher,
-        part.seq,
-        arrival.name,
-    );
+    let shape = arrival.told.as_ref().map(|told| told.shape());
+    gain(plan, store, part, arrival.packet, shape);
+    let publication = (part.publisher, part.seq);
+    change_told(plan, store, notes, publication, arrival.told, digests)
 }

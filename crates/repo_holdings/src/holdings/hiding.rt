@@ -1,13 +1,15 @@
 ghost use Rattle.std.specs.Prelude.{◌≡◌, ◌+◌, ◌≤◌, false, length, OnOk, OnErr};
 ghost use Rattle.std.specs.List.{All};
-ghost use Rattle.sorted_lists.specs.SortedList.{Rises};
-ghost use Rattle.repo_plan.specs.Parts.{pair_cmp};
+ghost use Rattle.sorted_lists.specs.SortedList.{Rises, contains, value_of};
+ghost use Rattle.repo_plan.specs.Parts.{Pair, pair_cmp};
 ghost use Rattle.repo_plan.specs.Plan.{claims_part_in};
+ghost use Rattle.repo_holdings.specs.Listed.{is_withdrawal};
 ghost use Rattle.repo_holdings.specs.Gaining.{AreKept};
 ghost use Rattle.repo_holdings.specs.HoldingsState.{held_plan, AreInOrder};
 ghost use Rattle.repo_holdings.specs.Hiding.{outside_all, IsHiding, hides_all, plan_hides};
 
 use super::Holdings;
+use crate::notes::Notes;
 use repo_catalog::Catalogue;
 use repo_plan::Plan;
 use repo_store::Store;
@@ -17,10 +19,12 @@ impl Holdings {
     /// These publications, which are in order, are hidden for good: none of their packets is held or listed any more,
     /// and none of their parts is wanted. The room that was made stays.
     ///
-    /// Packets and entries go in one pass, however many publications there are.
+    /// Packets and entries go in one pass, however many publications there are. A withdrawal can't be hidden: what it
+    /// withdraws stays so.
     pub fn hide_all(&mut self, publications: &[(u32, u16)]) -> Result<(), AllocError>
         requires unclaimed { All (λ pair. claims_part_in (held_plan self.old) pair ≡ false) publications.now }
         requires in_order { Rises pair_cmp publications.now }
+        requires objects { All (λ pair. is_withdrawal self.old.store pair ≡ false) publications.now }
         ensures ok { OnOk result (self.new ≡ hides_all publications.now self.old) }
         ensures in_order { AreInOrder self.new }
         ensures err { OnErr result (self.new ≡ self.old) }
@@ -35,6 +39,7 @@ impl Holdings {
         hide_all(
             &mut self.plan,
             &mut self.store,
+            &mut self.notes,
             &mut self.catalogue,
             publications,
         );
@@ -46,21 +51,25 @@ impl Holdings {
 fn hide_all(
     plan: &mut Plan,
     store: &mut Store,
+    notes: &mut Notes,
     catalogue: &mut Catalogue,
     publications: &[(u32, u16)],
 )
     requires room { length publications.now ≤ plan.old.spare }
     requires unclaimed { All (λ pair. claims_part_in plan.old pair ≡ false) publications.now }
     requires in_order { Rises pair_cmp publications.now }
-    requires kept { AreKept plan.old store.old.packets catalogue.old.entries }
+    requires objects { All (λ pair. is_withdrawal store.old.packets pair ≡ false) publications.now }
+    requires kept { AreKept plan.old store.old.packets notes.old catalogue.old.entries }
     ensures hidden { IsHiding publications.now plan.old plan.new }
     ensures packets { store.new.packets ≡ outside_all publications.now store.old.packets }
-    ensures kept { AreKept plan.new store.new.packets catalogue.new.entries }
+    ensures kept { AreKept plan.new store.new.packets notes.new catalogue.new.entries }
     ensures plan_room { plan.new.spare + length publications.now ≡ plan.old.spare }
     ensures store_room { store.new.spare ≡ store.old.spare }
+    ensures notes_room { notes.new.spare ≡ notes.old.spare }
     ensures catalogue_room { catalogue.new.spare ≡ catalogue.old.spare }
 {
     hide_in_plan(plan, publications);
+    forget_names(notes, publications);
     store.drop_all(publications);
     catalogue.remove_all(publications);
 }
@@ -73,5 +82,17 @@ fn hide_in_plan(plan: &mut Plan, publications: &[(u32, u16)])
 {
     for (publisher, seq) in publications {
         plan.hide_reserved(*publisher, *seq);
+    }
+}
+
+// No name of an object of these publications is noted any more.
+fn forget_names(notes: &mut Notes, publications: &[(u32, u16)])
+    ensures withdrawn { notes.new.withdrawn ≡ notes.old.withdrawn }
+    ensures others { (q : Pair) → contains pair_cmp publications.now q ≡ false
+        → value_of pair_cmp notes.new.names q ≡ value_of pair_cmp notes.old.names q }
+    ensures room { notes.new.spare ≡ notes.old.spare }
+{
+    for publication in publications {
+        notes.take_name(*publication);
     }
 }

@@ -2,13 +2,13 @@ ghost use Rattle.std.specs.Prelude.{◌≡◌, true, None, length, map, take, If
 ghost use Rattle.std.specs.List.{All, filter};
 ghost use Rattle.repo_plan.specs.Plan.{is_asked, is_after, unclaimed};
 ghost use Rattle.repo_holdings.specs.HoldingsState.{held_plan};
-ghost use Rattle.repo_holdings.specs.StoredRecords.{IsListedIn};
+ghost use Rattle.repo_holdings.specs.StoredParents.{lists_at, IsListedBy};
 ghost use Rattle.repo_holdings.specs.Wanting.{want_at, job_at, AreShortNames};
 
 use super::Holdings;
-use super::stored_record::StoredRecord;
+use super::stored_parent::StoredParent;
 use ndn_name::Name;
-use repo_object::{Expected, Job, Want, expect_record};
+use repo_object::{Job, Want, want_record};
 use repo_plan::Part;
 use std::alloc::{AllocError, Global};
 use svs_vector::Roster;
@@ -50,7 +50,7 @@ impl Holdings {
         let mut jobs = Vec::with_capacity(alloc, parts.len())?;
         let mut stored = None;
         for part in parts {
-            stored = self.record_for(*part, stored);
+            stored = self.parent_for(*part, stored);
             let want = self.want(alloc, publishers, group, *part, stored.as_ref())?;
             let base = self.plan.attempts(*part);
             jobs.push(Job { want, base })?;
@@ -58,47 +58,33 @@ impl Holdings {
         Ok(jobs)
     }
 
-    /// The want of a part that is asked for, and that `stored` lists, if it is a segment.
+    /// The want of a part that is asked for, and that `stored` lists, unless it is a record.
     pub fn want(
         &self,
         alloc: Global,
         publishers: &Roster,
         group: &Name,
         part: Part,
-        stored: Option<&StoredRecord<'_>>,
+        stored: Option<&StoredParent<'_>>,
     ) -> Result<Want, AllocError>
         requires width { length publishers.now ≡ length self.now.known }
         requires names { AreShortNames publishers.now group.now }
         requires asked { is_asked (held_plan self.now) part ≡ true }
-        requires listed { IfSome stored (λ r. IsListedIn self.now.store part r.now) }
+        requires listed { IfSome stored (λ r. IsListedBy self.now.store part r.now) }
         requires none { stored ≡ None → part.part ≡ 0 }
-        ensures { IfOk result (λ want. want ≡ want_at publishers.now group.now self.now.store part) }
+        ensures want { IfOk result (λ want. want ≡ want_at publishers.now group.now self.now.store part) }
+        ensures lists { IfOk result (λ want. want.lists ≡ lists_at self.now.store part) }
     {
-        Want::new(
-            alloc,
-            self.expected(alloc, publishers, group, part, stored)?,
-        )
-    }
-
-    /// What is expected for such a part: of a segment the record tells it.
-    pub fn expected(
-        &self,
-        alloc: Global,
-        publishers: &Roster,
-        group: &Name,
-        part: Part,
-        stored: Option<&StoredRecord<'_>>,
-    ) -> Result<Expected, AllocError>
-        requires width { length publishers.now ≡ length self.now.known }
-        requires names { AreShortNames publishers.now group.now }
-        requires asked { is_asked (held_plan self.now) part ≡ true }
-        requires listed { IfSome stored (λ r. IsListedIn self.now.store part r.now) }
-        requires none { stored ≡ None → part.part ≡ 0 }
-        ensures { IfOk result (λ expected. expected ≡ want_at publishers.now group.now self.now.store part) }
-    {
+        let node = publishers.name(part.publisher);
         match stored {
-            Some(stored) => stored.view.expect_segment(alloc, part),
-            None => expect_record(part, publishers.name(part.publisher), group),
+            None => want_record(alloc, part, node, group),
+            Some(parent) if part.part <= parent.shape.index => {
+                parent.listing.want_index(alloc, part, node, group)
+            }
+            Some(parent) => {
+                let digest = self.digest_of(part, parent);
+                parent.listing.want_segment(alloc, part, digest)
+            }
         }
     }
 }

@@ -124,15 +124,15 @@ impl Holdings {
         ensures few { IfOk result (λ contents. IfSome contents (λ contents.
             length (joined contents.items) < 2 ^ 64)) }
     {
-        let Some(segments) = self.plan.segments(publisher, seq) else {
+        let Some(shape) = self.plan.shape(publisher, seq) else {
             return Ok(None);
         };
-        let mut contents = Vec::with_capacity(alloc, usize::from(segments))?;
-        for x in 0..segments {
+        let mut contents = Vec::with_capacity(alloc, usize::from(shape.segments))?;
+        for x in 0..shape.segments {
             let part = Part {
                 publisher,
                 seq,
-                part: x + 1,
+                part: shape.index + 1 + x,
             };
             let Some(packet) = self.packet_with(part, all) else {
                 return Ok(None);

@@ -8,6 +8,7 @@ ghost use Rattle.repo_plan.specs.Plan.{knows, claims_part_in};
 ghost use Rattle.repo_command.specs.Commands.{is_command, CommandIsSpelled};
 ghost use Rattle.repo_process.specs.Insertions.{next_number};
 ghost use Rattle.group_model.specs.Steps.{check_answer};
+ghost use Rattle.repo_holdings.specs.Listed.{is_withdrawal};
 ghost use Rattle.repo_member.specs.Alone.{IsOfGroup, alone_plan};
 ghost use Rattle.repo_member.specs.Deleting.{catalogued_named, alone_deletes, alone_drops};
 ghost use Rattle.repo_member.specs.Commanded.{coded, order_of, alone_after_order, alone_order_answer, alone_obeys};
@@ -22,7 +23,7 @@ use ndn_name::{Name, NameFault, NameView, PacketWriteFault};
 use repo_command::status_codes::{ACCEPTED, DONE, IN_PROGRESS, MALFORMED, NOT_FOUND};
 use repo_command::{Answer, Command, CommandRefusal, check_command, write_answer};
 use repo_object::key_name;
-use repo_plan::Part;
+use repo_plan::{Part, Shape};
 use repo_process::StartFault;
 use std::alloc::AllocError;
 
@@ -185,8 +186,8 @@ impl Member {
         Ok(answered)
     }
 
-    // The catalogued publications of the objects of a name, in order. Their parts are held, so that no fetcher claims
-    // one.
+    // The catalogued publications of the objects of a name, in order. They aren't withdrawals, and their parts are
+    // held, so that no fetcher claims one.
     fn found(&self, name: &Name) -> Result<Found, AllocError>
         ensures publications { IfOk result (λ found. found.publications.items ≡ catalogued_named name.now self.now) }
         ensures in_order { IfOk result (λ found. Rises pair_cmp found.publications.items) }
@@ -195,6 +196,8 @@ impl Member {
             All (λ pair. knows (alone_plan self.now) pair ≡ true) found.publications.items) }
         ensures unclaimed { IfOk result (λ found.
             All (λ pair. claims_part_in (alone_plan self.now) pair ≡ false) found.publications.items) }
+        ensures objects { IfOk result (λ found.
+            All (λ pair. is_withdrawal self.now.store pair ≡ false) found.publications.items) }
     {
         let catalogue = self.held.catalogue();
         let publications = catalogue.named(*self.log.allocator(), &name.view())?;
@@ -208,7 +211,7 @@ impl Member {
             };
             let held = self.held.holds(record);
             prove!(held);
-            left -= 1 + entry.segments as usize;
+            left -= 1 + Shape::of(entry.segments as u16).parts_behind() as usize;
         }
         Ok(Found {
             publications,

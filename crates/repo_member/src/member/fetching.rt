@@ -1,11 +1,13 @@
 ghost use Rattle.std.specs.Prelude.{◌≡◌, ◌⊎◌, ◌↔◌, Ok, Err, Some, None, IsOk, IsErr, IsSomeAnd, IfSome, IfOk, IfErr};
-ghost use Rattle.std.specs.Prelude.{OnOk, OnErr, true, map, take};
+ghost use Rattle.std.specs.Prelude.{OnOk, OnErr, true, map, take, List};
 ghost use Rattle.std.specs.List.{filter};
 ghost use Rattle.repo_plan.specs.Plan.{claim_of, unclaimed, first, is_after, is_asked, is_wanted};
 ghost use Rattle.repo_plan.specs.Calls.{IsFetcher};
 ghost use Rattle.repo_object.specs.Verdict.{ring_verdict};
 ghost use Rattle.repo_member.specs.Alone.{IsOfGroup, alone_plan, alone_claims, want_of, alone_accepts};
 ghost use Rattle.repo_member.specs.Verdicts.{passed, accept_verdict};
+ghost use Rattle.repo_holdings.specs.Records.{Packet};
+ghost use Rattle.repo_holdings.specs.StoredParents.{lists_at};
 ghost use Rattle.repo_holdings.specs.Gaining.{IsArrival};
 ghost use Rattle.repo_member.specs.Outcomes.{job_for, IsCheckedFor};
 
@@ -13,7 +15,7 @@ use super::Member;
 use crate::group::Group;
 use crate::refusals::{AcceptRefusal, WantFault};
 use repo_holdings::Arrival;
-use repo_object::{Checked, Job, Want};
+use repo_object::{Checked, Job, Want, check_part};
 use repo_plan::{FetcherBusy, FetcherIdle, Part};
 use std::alloc::{AllocError, Global};
 
@@ -53,7 +55,7 @@ impl Member {
         let Some(part) = self.held.claimed(f) else {
             return Err(WantFault::FetcherIdle);
         };
-        let stored = self.held.record_for(part, None);
+        let stored = self.held.parent_for(part, None);
         Ok(
             self.held
                 .want(alloc, g.roster(), g.name(), part, stored.as_ref())?,
@@ -61,7 +63,8 @@ impl Member {
     }
 
     /// The octets are taken for the part that the fetcher claims, if they pass for it: the part is held from now on,
-    /// the claim is over, and an object of which no part is missing any more is catalogued.
+    /// the claim is over, and the catalogue changes by it: an object is listed where no part of it is missing any more,
+    /// unless it is withdrawn, and what a withdrawal withdraws is removed.
     pub fn accept(&mut self, g: &Group, f: u8, octets: &[u8]) -> Result<Part, AcceptRefusal>
         requires fetcher { IsFetcher f }
         requires group { IsOfGroup g.now self.old }
@@ -102,14 +105,7 @@ impl Member {
         let Some(part) = self.held.claimed(f) else {
             return Err(AcceptRefusal::FetcherIdle);
         };
-        let stored = self.held.record_for(part, None);
-        let arrival = self.held.arrived(
-            *self.log.allocator(),
-            part,
-            stored.as_ref(),
-            checked.octets(),
-            checked.digest(),
-        )?;
+        let arrival = arrived(*self.log.allocator(), checked)?;
         self.gain_claimed(f, part, arrival)?;
         Ok(part)
     }
@@ -119,7 +115,7 @@ impl Member {
         requires fetcher { IsFetcher f }
         requires claimed { claim_of (alone_plan self.old) f ≡ Some part }
         requires wanted { is_wanted (alone_plan self.old) part ≡ true }
-        requires arrival { IsArrival self.old.store part arrival.packet arrival.segments arrival.name }
+        requires arrival { IsArrival self.old.store part arrival.packet arrival.told }
         ensures ok { OnOk result (self.new ≡ alone_accepts f part arrival.packet self.old) }
         ensures err { OnErr result (self.new ≡ self.old) }
     {
@@ -153,20 +149,27 @@ impl Member {
             g.now.members.ring octets.now) ≡ Ok part) }
         ensures octets { IfOk result (λ arrival. arrival.packet ≡ octets.now) }
         ensures arrival { IfOk result (λ arrival.
-            IsArrival self.now.store part arrival.packet arrival.segments arrival.name) }
+            IsArrival self.now.store part arrival.packet arrival.told) }
         ensures refused { IfErr result (λ refusal. (refusal ≡ AcceptRefusal.NoMemory)
             ⊎ (passed part (ring_verdict (want_of g.now self.now.store part)
             g.now.members.ring octets.now) ≡ Err refusal)) }
     {
-        let stored = self.held.record_for(part, None);
         let alloc = *self.log.allocator();
-        let expected = self
+        let stored = self.held.parent_for(part, None);
+        let want = self
             .held
-            .expected(alloc, g.roster(), g.name(), part, stored.as_ref())?;
-        expected.check(octets, g.members())?;
-        Ok(
-            self.held
-                .arrived(alloc, part, stored.as_ref(), octets, expected.digest())?,
-        )
+            .want(alloc, g.roster(), g.name(), part, stored.as_ref())?;
+        let checked = check_part(&want, octets, g.members())?;
+        Ok(arrived(alloc, &checked)?)
     }
+}
+
+// The packet that was checked for the want of a part, as it comes for that part.
+pub(super) fn arrived(alloc: Global, checked: &Checked<'_>) -> Result<Arrival, AllocError>
+    ensures octets { IfOk result (λ arrival. arrival.packet ≡ checked.now.octets) }
+    ensures arrival { IfOk result (λ arrival. (packets : List Packet)
+        → checked.now.want.lists ≡ lists_at packets checked.now.want.part
+        → IsArrival packets checked.now.want.part arrival.packet arrival.told) }
+{
+    Arrival::new(alloc, checked.part(), checked.octets(), checked.digest())
 }

@@ -1,17 +1,18 @@
-ghost use Rattle.std.specs.Prelude.{◌≡◌, ◌<◌, ◌^◌, count_by, sum_by, is_some, IfOk, OnOk, OnErr, map, vec_len};
+ghost use Rattle.std.specs.Prelude.{◌≡◌, ◌<◌, ◌≤◌, ◌^◌, count_by, sum_by, is_some, IfOk, OnOk, OnErr, map, length};
+ghost use Rattle.std.specs.Prelude.{vec_len};
 ghost use Rattle.std.specs.List.{All};
 ghost use Rattle.repo_member.specs.Alone.{IsOfGroup, alone_plan, alone_takes};
 ghost use Rattle.repo_holdings.specs.Taking.{came, arrival_octets, with_all_fetched, AreTakable};
 ghost use Rattle.repo_holdings.specs.Contents.{IsDigestIn};
 ghost use Rattle.repo_holdings.specs.WholeContents.{IsWholeIn};
-ghost use Rattle.repo_member.specs.Outcomes.{IsOutcome, outcome_of, octets_in};
+ghost use Rattle.repo_member.specs.Outcomes.{IsOutcome, job_limit, outcome_of, octets_in};
 
 use super::Member;
+use super::fetching::arrived;
 use crate::group::Group;
 use repo_holdings::{ContentsDigest, Taken, Tried, Whole};
 use repo_object::{Checked, Job};
 use std::alloc::{AllocError, Global};
-use svs_vector::MEMBER_LIMIT;
 
 /// What a member took of a fetch: the parts that it holds from now on and did not hold, and the octets of their
 /// packets.
@@ -32,6 +33,7 @@ impl Member {
     ) -> Result<Kept, AllocError>
         requires group { IsOfGroup g.now self.old }
         requires outcome { IsOutcome g.now self.old jobs.now parts.now attempts.now }
+        requires few { length jobs.now ≤ job_limit }
         ensures ok { OnOk result (self.new ≡ alone_takes (outcome_of jobs.now parts.now attempts.now) self.old) }
         ensures parts { IfOk result (λ kept. kept.parts ≡ count_by is_some parts.now) }
         ensures octets { IfOk result (λ kept. kept.octets ≡ sum_by octets_in parts.now) }
@@ -52,35 +54,22 @@ impl Member {
     ) -> Result<Vec<Tried>, AllocError>
         requires group { IsOfGroup g.now self.now }
         requires outcome { IsOutcome g.now self.now jobs.now parts.now attempts.now }
+        requires few { length jobs.now ≤ job_limit }
         ensures came { IfOk result (λ all. map came all.items ≡ outcome_of jobs.now parts.now attempts.now) }
         ensures takable { IfOk result (λ all. AreTakable (alone_plan self.now) self.now.store all.items) }
         ensures few { IfOk result (λ all. vec_len all < 2 ^ 32) }
         ensures parts { IfOk result (λ all. count_by (λ x. is_some x.arrival) all.items ≡ count_by is_some parts.now) }
         ensures octets { IfOk result (λ all. sum_by arrival_octets all.items ≡ sum_by octets_in parts.now) }
     {
-        // Each of so few members has fewer than 2^24 parts, so a `u32` counts those that came.
-        let members = g.roster().len();
-        prove!(members <= MEMBER_LIMIT);
         let alloc = *self.log.allocator();
         let mut all = Vec::with_capacity(alloc, jobs.len())?;
-        let mut stored = None;
         for ((job, checked), tries) in jobs.iter().zip(parts).zip(attempts) {
-            let part = job.want.part();
-            stored = self.held.record_for(part, stored);
             let arrival = match checked {
-                Some(checked) => Some(
-                    self.held.arrived(
-                        alloc,
-                        part,
-                        stored.as_ref(),
-                        checked.octets(),
-                        checked.digest(),
-                    )?,
-                ),
+                Some(checked) => Some(arrived(alloc, checked)?),
                 None => None,
             };
             all.push(Tried {
-                part,
+                part: job.want.part(),
                 attempts: *tries,
                 arrival,
             })?;

@@ -1,25 +1,31 @@
-ghost use Rattle.std.specs.Prelude.{◌≡◌, ◌<◌, ◌≤◌, ◌^◌, ◌↔◌, ℕ, Err, IsTrue, IfOk, IfErr, OnOk, OnErr, length, map};
-ghost use Rattle.std.specs.Prelude.{option_map};
+ghost use Rattle.std.specs.Prelude.{◌≡◌, ◌<◌, ◌≤◌, ◌^◌, ◌↔◌, ℕ, true, false, Err, IfOk, IfErr, IsTrue, length, map};
+ghost use Rattle.std.specs.Prelude.{OnOk, OnErr, option_map, slice_set};
 ghost use Rattle.std.specs.List.{All};
-ghost use Rattle.repo_object.specs.Objects.{is_object_name, IsContent, IsObject, IsPublisher};
-ghost use Rattle.repo_member.specs.Groups.{publisher_at};
+ghost use Rattle.repo_object.specs.Limits.{segment_limit};
+ghost use Rattle.repo_object.specs.Objects.{is_object_name, IsContent, IsObject, IsPost};
+ghost use Rattle.repo_object.specs.Objects.Post.{Offers, Withdraws};
+ghost use Rattle.group_model.specs.Publications.{has_unwithdrawn};
 ghost use Rattle.repo_member.specs.Alone.{IsOfGroup, publication_limit, next_seq, alone_publishes, logged};
+ghost use Rattle.repo_member.specs.Posts.{post_of, IsNew};
 ghost use Rattle.repo_member.specs.Verdicts.{sync_of};
-ghost use Rattle.repo_member.specs.Publishing.{IsPrepared};
+ghost use Rattle.repo_holdings.specs.NewPublications.{ArePackets};
+ghost use Rattle.repo_member.specs.Publishing.{IsPrepared, publishes_packets};
 
 use super::Member;
 use super::syncing::sync_of;
 use crate::group::Group;
-use crate::refusals::PublishRefusal;
+use crate::post::{Post, has_unwithdrawn, packet_in, push};
+use crate::refusals::{PublishRefusal, WithdrawRefusal};
 use ndn_name::Name;
-use repo_object::{Digested, Object, digested_packets_of, packet_of};
-use repo_plan::Part;
+use repo_holdings::Told;
+use repo_object::{Digested, Object, digested_packets_of, withdrawal_packet};
+use repo_plan::{Part, Shape};
 use std::alloc::AllocError;
 
-/// How many objects a member may publish.
+/// How often a member may publish.
 pub(super) const LOG_LIMIT: u32 = 65_535;
 
-/// An object that was published.
+/// An object or a withdrawal that was published.
 #[derive(Debug, Drop)]
 pub struct Published {
     /// Its number: those of a member are 1, 2, 3 and so on.
@@ -28,10 +34,10 @@ pub struct Published {
     pub sync: Vec<u8>,
 }
 
-// All that the publication of an object makes.
+// All that a publication makes.
 #[derive(Drop)]
 struct Prepared {
-    name: Name,
+    told: Told,
     packets: Vec<Digested>,
     sync: Vec<u8>,
 }
@@ -48,12 +54,12 @@ impl Member {
     ) -> Result<Published, PublishRefusal>
         requires group { IsOfGroup g.now self.old }
         requires name { IsTrue (is_object_name name.now) }
-        requires few { length contents.now ≤ 200 }
+        requires few { length contents.now ≤ segment_limit }
         requires contents { All (λ c. IsContent c.items) contents.now }
         requires early { now < 2 ^ 62 }
         requires draws { self.old.machine.draws < 2 ^ 62 }
         ensures ok { OnOk result (self.new ≡ alone_publishes g.now
-            (record { name = name.now; contents = map (λ c. c.items) contents.now }) now draw self.old) }
+            (Offers (record { name = name.now; contents = map (λ c. c.items) contents.now })) now draw self.old) }
         ensures object { OnOk result (IsObject
             (record { name = name.now; contents = map (λ c. c.items) contents.now })) }
         ensures seq { IfOk result (λ published. published.seq ≡ next_seq self.old) }
@@ -74,6 +80,47 @@ impl Member {
         }
     }
 
+    /// The member withdraws an object that it published under an earlier number, by a publication under its next
+    /// number: whoever holds the record of that lists the object no more. The parts of the object stay wanted, held and
+    /// served.
+    ///
+    /// An object that the member deleted can be withdrawn too. A withdrawal can't.
+    pub fn withdraw(
+        &mut self,
+        g: &Group,
+        seq: u16,
+        now: u64,
+        draw: u32,
+    ) -> Result<Published, WithdrawRefusal>
+        requires group { IsOfGroup g.now self.old }
+        requires early { now < 2 ^ 62 }
+        requires draws { self.old.machine.draws < 2 ^ 62 }
+        ensures ok { OnOk result (self.new ≡ alone_publishes g.now (Withdraws seq) now draw self.old) }
+        ensures object { OnOk result (has_unwithdrawn self.old.log seq ≡ true) }
+        ensures seq { IfOk result (λ published. published.seq ≡ next_seq self.old) }
+        ensures sync { IfOk result (λ published.
+            published.sync.items ≡ sync_of g.now self.old.number self.new.known) }
+        ensures no_object { (number : ℕ) → (result ≡ Err (WithdrawRefusal.NoSuchNumber number))
+            ↔ ((number ≡ seq) × (has_unwithdrawn self.old.log seq ≡ false)) }
+        ensures spent { (log : ℕ) → (result ≡ Err (WithdrawRefusal.NumbersSpent log))
+            ↔ ((has_unwithdrawn self.old.log seq ≡ true)
+            × (log ≡ length self.old.log) × (publication_limit ≤ length self.old.log)) }
+        ensures err { OnErr result (self.new ≡ self.old) }
+    {
+        if !has_unwithdrawn(&self.log, seq) {
+            return Err(WithdrawRefusal::NoSuchNumber { seq });
+        }
+        let log = self.log_len();
+        if log >= LOG_LIMIT {
+            return Err(WithdrawRefusal::NumbersSpent { log });
+        }
+        let prepared = self.withdrawal(g, seq)?;
+        match self.publish_prepared(Post::Withdrawal { seq }, prepared, now, draw) {
+            Ok(published) => Ok(published),
+            Err(_) => Err(WithdrawRefusal::NoMemory),
+        }
+    }
+
     // Publishes an object under the next number, or gives it back where memory is wanting.
     pub(super) fn publish_object(
         &mut self,
@@ -86,7 +133,7 @@ impl Member {
         requires numbers { length self.old.log < publication_limit }
         requires early { now < 2 ^ 62 }
         requires draws { self.old.machine.draws < 2 ^ 62 }
-        ensures ok { OnOk result (self.new ≡ alone_publishes g.now object now draw self.old) }
+        ensures ok { OnOk result (self.new ≡ alone_publishes g.now (Offers object) now draw self.old) }
         ensures object { OnOk result (IsObject object) }
         ensures seq { IfOk result (λ published. published.seq ≡ next_seq self.old) }
         ensures sync { IfOk result (λ published.
@@ -94,7 +141,42 @@ impl Member {
         ensures back { IfErr result (λ back. back ≡ object) }
         ensures err { OnErr result (self.new ≡ self.old) }
     {
-        let seq = self.log_len() as u16 + 1;
+        let Ok(prepared) = self.prepared(g, &object) else {
+            return Err(object);
+        };
+        let post = Post::Object {
+            object,
+            withdrawn: false,
+        };
+        match self.publish_prepared(post, prepared, now, draw) {
+            Ok(published) => Ok(published),
+            Err(Post::Object { object, .. }) => Err(object),
+            Err(Post::Withdrawal { .. }) => unreachable!(),
+        }
+    }
+
+    // Publishes what was prepared under the next number, or gives it back where memory is wanting.
+    fn publish_prepared(
+        &mut self,
+        post: Post,
+        prepared: Prepared,
+        now: u64,
+        draw: u32,
+    ) -> Result<Published, Post>
+        requires numbers { length self.old.log < publication_limit }
+        requires new { IsNew post }
+        requires post { IsPost (next_seq self.old) (post_of post) }
+        requires parts { ArePackets prepared.told prepared.packets.items }
+        requires early { now < 2 ^ 62 }
+        requires draws { self.old.machine.draws < 2 ^ 62 }
+        ensures ok { OnOk result
+            (self.new ≡ publishes_packets (post_of post) prepared.packets.items now draw self.old) }
+        ensures seq { IfOk result (λ published. published.seq ≡ next_seq self.old) }
+        ensures sync { IfOk result (λ published. published.sync ≡ prepared.sync) }
+        ensures back { IfErr result (λ back. back ≡ post) }
+        ensures err { OnErr result (self.new ≡ self.old) }
+    {
+        let seq = self.next_seq();
         let number = self.number;
         let record = Part {
             publisher: number,
@@ -103,19 +185,16 @@ impl Member {
         };
         let held = self.held.holds(record);
         prove!(!held);
-        let Ok(prepared) = self.prepared(g, seq, &object) else {
-            return Err(object);
-        };
         let Ok(()) = self.log.reserve(1) else {
-            return Err(object);
+            return Err(post);
         };
         let Ok(()) = self.held.reserve(prepared.packets.len()) else {
-            return Err(object);
+            return Err(post);
         };
         self.held.raise(number, seq);
         self.held
-            .publish_parts(number, seq, prepared.name, prepared.packets);
-        self.log.push(object).unwrap();
+            .publish_parts(number, seq, prepared.told, prepared.packets);
+        push(&mut self.log, post);
         self.vector.raise(number, seq);
         self.machine.published(now, draw);
         Ok(Published {
@@ -123,7 +202,6 @@ impl Member {
             sync: prepared.sync,
         })
     }
-
     /// The packet of an own part, whether it is still held or not; `None` where no such part was published.
     pub fn logged(&self, g: &Group, part: Part) -> Result<Option<Vec<u8>>, AllocError>
         requires { IsOfGroup g.now self.now }
@@ -132,36 +210,80 @@ impl Member {
         if part.publisher != self.number || part.seq == 0 {
             return Ok(None);
         }
-        let Some(object) = self.log.get(usize::from(part.seq) - 1) else {
+        let Some(post) = self.log.get(usize::from(part.seq) - 1) else {
             return Ok(None);
         };
         let alloc = *self.log.allocator();
         let node = g.roster().name(self.number);
         let key = g.members().key(self.number);
-        packet_of(alloc, object, part.seq, part.part, node, g.name(), key)
+        packet_in(alloc, post, part.seq, part.part, node, g.name(), key)
     }
 
-    // All that the publication of an object makes.
-    fn prepared(&self, g: &Group, seq: u16, object: &Object) -> Result<Prepared, AllocError>
+    // The number of the next publication.
+    fn next_seq(&self) -> u16
+        requires { length self.now.log < publication_limit }
+        ensures { result ≡ next_seq self.now }
+    {
+        self.log_len() as u16 + 1
+    }
+
+    // All that the publication of an object under the next number makes.
+    fn prepared(&self, g: &Group, object: &Object) -> Result<Prepared, AllocError>
         requires group { IsOfGroup g.now self.now }
-        requires seq { seq ≡ next_seq self.now }
+        requires numbers { length self.now.log < publication_limit }
         ensures within { IfOk result (λ _. IsObject object.now) }
-        ensures publisher { IfOk result (λ _. IsPublisher (publisher_at g.now self.now.number)) }
-        ensures prepared { IfOk result (λ prepared. IsPrepared g.now self.now object.now
-            prepared.name prepared.packets.items prepared.sync.items) }
+        ensures prepared { IfOk result (λ prepared. IsPrepared g.now self.now (Offers object.now)
+            prepared.told prepared.packets.items prepared.sync.items) }
     {
         let alloc = *self.log.allocator();
         let node = g.roster().name(self.number);
         let key = g.members().key(self.number);
-        let packets = digested_packets_of(alloc, object, seq, node, g.name(), key)?;
-        let mut vector = self.vector.copy(alloc)?;
-        vector.raise(self.number, seq);
-        let sync = sync_of(alloc, g, self.number, &vector)?;
-        let name = object.name().clone()?;
+        let packets = digested_packets_of(alloc, object, self.next_seq(), node, g.name(), key)?;
+        let told = Told::Object {
+            shape: Shape::of(object.contents().len() as u16),
+            name: object.name().clone()?,
+        };
+        let sync = self.next_sync(g)?;
         Ok(Prepared {
-            name,
+            told,
             packets,
             sync,
         })
+    }
+
+    // All that the withdrawal of an object under the next number makes.
+    fn withdrawal(&self, g: &Group, withdrawn: u16) -> Result<Prepared, AllocError>
+        requires group { IsOfGroup g.now self.now }
+        requires numbers { length self.now.log < publication_limit }
+        requires earlier { IsPost (next_seq self.now) (Withdraws withdrawn) }
+        ensures { IfOk result (λ prepared. IsPrepared g.now self.now (Withdraws withdrawn)
+            prepared.told prepared.packets.items prepared.sync.items) }
+    {
+        let alloc = *self.log.allocator();
+        let node = g.roster().name(self.number);
+        let key = g.members().key(self.number);
+        let seq = self.next_seq();
+        let packet = withdrawal_packet(alloc, withdrawn, seq, node, g.name(), key)?;
+        let mut packets = Vec::with_capacity(alloc, 1)?;
+        packets.push(Digested::new(packet, None))?;
+        let sync = self.next_sync(g)?;
+        Ok(Prepared {
+            told: Told::Withdrawal { seq: withdrawn },
+            packets,
+            sync,
+        })
+    }
+
+    // The sync Interest that tells of the next publication.
+    fn next_sync(&self, g: &Group) -> Result<Vec<u8>, AllocError>
+        requires group { IsOfGroup g.now self.now }
+        requires numbers { length self.now.log < publication_limit }
+        ensures { IfOk result (λ sync. sync.items
+            ≡ sync_of g.now self.now.number (slice_set self.now.known self.now.number (next_seq self.now))) }
+    {
+        let alloc = *self.log.allocator();
+        let mut vector = self.vector.copy(alloc)?;
+        vector.raise(self.number, self.next_seq());
+        sync_of(alloc, g, self.number, &vector)
     }
 }

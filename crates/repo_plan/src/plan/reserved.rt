@@ -1,11 +1,12 @@
-ghost use Rattle.std.specs.Prelude.{◌≡◌, ◌+◌, ◌<◌, ◌==◌, true, false, not, is_some, OnOk, OnErr};
+ghost use Rattle.std.specs.Prelude.{◌≡◌, ◌+◌, ◌<◌, ◌==◌, true, false, not, is_some, IfSome, OnOk, OnErr};
 ghost use Rattle.repo_plan.specs.Plan.{holds, hides, is_asked, is_claimed, claims_part_in, attempts_of};
 ghost use Rattle.repo_plan.specs.Plan.{holds_too, hides_too, with_attempts, with_room, uses_room};
-ghost use Rattle.repo_plan.specs.Parts.{pair_of};
+ghost use Rattle.repo_plan.specs.Parts.{IsShape, pair_of};
 
 use super::Plan;
 use super::whole::{note_held, note_shape};
 use crate::part::Part;
+use crate::shape::{Shape, told_by};
 use sorted_lists::table;
 use std::alloc::AllocError;
 
@@ -42,14 +43,15 @@ impl Plan {
     /// The part is held from now on, and no more wanted, as after `hold`.
     ///
     /// The answer is `false` where the part was held already.
-    pub fn hold_reserved(&mut self, part: Part, segments: Option<u8>) -> bool
+    pub fn hold_reserved(&mut self, part: Part, shape: Option<Shape>) -> bool
         requires spare { 0 < self.old.spare }
-        requires segments { is_some segments ≡ (part.part == 0) }
+        requires shape { is_some shape ≡ (part.part == 0) }
+        requires sized { IfSome shape IsShape }
         requires asked { is_asked self.old part ≡ true }
         requires not_hidden { hides self.old (pair_of part) ≡ false }
         requires not_claimed { is_claimed self.old part ≡ false }
         ensures fresh { result ≡ not (holds self.old part) }
-        ensures new { self.new ≡ uses_room (holds_too part segments self.old) }
+        ensures new { self.new ≡ uses_room (holds_too part shape self.old) }
     {
         let held = self.holds(part);
         self.spare -= 1;
@@ -57,10 +59,14 @@ impl Plan {
             return false;
         }
         let publication = (part.publisher, part.seq);
-        note_shape(&mut self.shapes, publication, segments);
-        let told = table::value_of(&self.shapes, publication).unwrap_or(0);
-        let number = (publication, u16::from(part.part));
-        note_held(&mut self.done, &mut self.held, number, told);
+        note_shape(&mut self.shapes, publication, shape);
+        let told = told_by(table::value_of(&self.shapes, publication));
+        note_held(
+            &mut self.done,
+            &mut self.held,
+            (publication, part.part),
+            told,
+        );
         true
     }
 

@@ -1,12 +1,13 @@
-ghost use Rattle.std.specs.Prelude.{ℕ, ◌≡◌, ◌<◌, ◌≤◌, true, false, take, length, slice_index, IfOk};
+ghost use Rattle.std.specs.Prelude.{ℕ, ◌≡◌, ◌<◌, ◌≤◌, true, false, take, length, slice_index, Some, None, IfOk};
 ghost use Rattle.std.specs.List.{list_any, filter, flat_map};
 ghost use Rattle.repo_plan.specs.declared.part.Part.{Part};
-ghost use Rattle.repo_plan.specs.Parts.{pair_of, part_of};
+ghost use Rattle.repo_plan.specs.Parts.{IsShape, pair_of, part_of, parent};
 ghost use Rattle.repo_plan.specs.Plan.{knows, holds, hides, is_asked, is_claim_of, is_done, unclaimed, first, is_after};
-ghost use Rattle.repo_plan.specs.Plan.{is_next, parts_known, pairs_of};
+ghost use Rattle.repo_plan.specs.Plan.{is_next, parts_known, pairs_of, shape_of};
 
 use super::Plan;
 use crate::part::Part;
+use crate::shape::Shape;
 use std::alloc::{AllocError, Global};
 
 impl Plan {
@@ -79,25 +80,75 @@ impl Plan {
         ensures { result ≡ first (filter (is_next self.now after)
             (parts_known self.now (publisher, seq))) }
     {
-        let told = u32::from(self.segments(publisher, seq).unwrap_or(0));
-        let mut passed = passed_parts(publisher, seq, after);
+        let publication = (publisher, seq);
+        match self.shape(publisher, seq) {
+            Some(shape) => self.next_listed(publication, shape, after),
+            None => self.next_record(publication, after),
+        }
+    }
+
+    // The same of a publication whose record is not held.
+    fn next_record(&self, publication: (u32, u16), after: Option<Part>) -> Option<Part>
+        requires known { knows self.now publication ≡ true }
+        requires undone { is_done self.now publication ≡ false }
+        requires shape { shape_of self.now publication ≡ None }
+        ensures { result ≡ first (filter (is_next self.now after)
+            (parts_known self.now publication)) }
+    {
+        let part = Part {
+            publisher: publication.0,
+            seq: publication.1,
+            part: 0,
+        };
+        self.is_next(part, after).then_some(part)
+    }
+
+    // The same of a publication whose record is held.
+    fn next_listed(
+        &self,
+        publication: (u32, u16),
+        shape: Shape,
+        after: Option<Part>,
+    ) -> Option<Part>
+        requires known { knows self.now publication ≡ true }
+        requires undone { is_done self.now publication ≡ false }
+        requires shape { shape_of self.now publication ≡ Some shape }
+        requires sized { IsShape shape }
+        ensures { result ≡ first (filter (is_next self.now after)
+            (parts_known self.now publication)) }
+    {
+        let told = shape.parts_behind();
+        let mut passed = passed_parts(publication, after);
         while passed <= told {
             // The next part that is not held.
-            let x = self.held.gap_from(((publisher, seq), passed as u16));
+            let x = self.held.gap_from((publication, passed as u16));
             if x > told {
                 return None;
             }
             let part = Part {
-                publisher,
-                seq,
-                part: x as u8,
+                publisher: publication.0,
+                seq: publication.1,
+                part: x as u16,
             };
-            if self.is_next(part, after) {
+            if !self.is_listed(part, shape) {
+                passed = shape.behind_listed_with(part.part);
+            } else if self.is_next(part, after) {
                 return Some(part);
+            } else {
+                passed = x + 1;
             }
-            passed = x + 1;
         }
         None
+    }
+
+    // Whether the part that lists this one is held.
+    fn is_listed(&self, part: Part, shape: Shape) -> bool
+        ensures { result ≡ holds self.now (parent shape part) }
+    {
+        self.holds(Part {
+            part: shape.parent(part.part),
+            ..part
+        })
     }
 
     // Whether a part that is asked for and not held is greater than `after` and claimed by no fetcher.
@@ -133,11 +184,11 @@ fn passed_numbers(publisher: u32, after: Option<Part>) -> u16
 }
 
 // How many parts of the publication, from its record on, are not greater than `after`.
-fn passed_parts(publisher: u32, seq: u16, after: Option<Part>) -> u32
-    ensures { (x : ℕ) → x < result → is_after after (part_of (publisher, seq) x) ≡ false }
+fn passed_parts(publication: (u32, u16), after: Option<Part>) -> u32
+    ensures { (x : ℕ) → x < result → is_after after (part_of publication x) ≡ false }
 {
     match after {
-        Some(part) if part.publisher == publisher && part.seq == seq => u32::from(part.part) + 1,
+        Some(part) if (part.publisher, part.seq) == publication => u32::from(part.part) + 1,
         _ => 0,
     }
 }

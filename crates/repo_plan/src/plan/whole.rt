@@ -7,22 +7,23 @@ ghost use Rattle.repo_plan.specs.Parts.{Pair, pair_cmp};
 ghost use Rattle.sorted_lists.specs.Runs.{Number, IsRuns, has_number, number_cmp};
 ghost use Rattle.repo_plan.specs.PlanFields.{is_noted, are_noted};
 
+use crate::shape::Shape;
 use sorted_lists::{Runs, table};
 use std::collections::HashMap;
 
 // Notes what a record tells, if the part that is held now is one.
 pub(super) fn note_shape(
-    shapes: &mut HashMap<(u32, u16), u8>,
+    shapes: &mut HashMap<(u32, u16), Shape>,
     publication: (u32, u16),
-    segments: Option<u8>,
+    shape: Option<Shape>,
 )
     requires { 0 < spare shapes.old }
     ensures entries { in_order pair_cmp shapes.new.entries
-        ≡ with_shape publication segments (in_order pair_cmp shapes.old.entries) }
+        ≡ with_shape publication shape (in_order pair_cmp shapes.old.entries) }
     ensures room { spare shapes.old ≤ spare shapes.new + 1 }
 {
-    if let Some(segments) = segments {
-        table::set_value(shapes, publication, segments);
+    if let Some(shape) = shape {
+        table::set_value(shapes, publication, shape);
     }
 }
 
@@ -33,7 +34,7 @@ pub(super) fn note_held(
     done: &mut Runs<u32>,
     held: &mut Runs<(u32, u16)>,
     number: ((u32, u16), u16),
-    told: u8,
+    told: u32,
 )
     requires done { IsRuns nat_cmp done.old.runs }
     requires spare_of_done { 0 < done.old.spare }
@@ -51,7 +52,7 @@ pub(super) fn note_held(
 {
     held.insert(number);
     let publication = number.0;
-    if held.gap_from((publication, 0)) > u32::from(told) {
+    if held.gap_from((publication, 0)) > told {
         held.remove_all(publication);
         done.insert(publication);
     }

@@ -46,7 +46,7 @@ fn knows_of_one_publication(rt: &impl Abort, bob: &Member) {
 }
 
 // A part of alice's first publication.
-fn part(part: u8) -> Part {
+fn part(part: u16) -> Part {
     Part {
         publisher: ALICE,
         seq: 1,

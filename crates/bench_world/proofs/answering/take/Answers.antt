@@ -1,13 +1,15 @@
 -- That the publisher's packet is taken, and no other.
-use Rattle.std.proofs.Common.{◌≡◌, ◌∙◌, Some, true, [], sym, ap, subst}
-use Rattle.std.specs.Prelude.{unwrap_or}
+use Rattle.std.proofs.Common.{◌≡◌, ◌<◌, ◌∙◌, Some, true, List, [], length, sym, ap, subst}
+use Rattle.std.specs.Prelude.{unwrap_or, IsOk}
 use Rattle.std.specs.Str.{bytes_eq}
 use Rattle.repo_plan.specs.declared.part.Part.{Part}
-use Rattle.repo_object.specs.Verdict.{CheckedPart, checked_part}
+use Rattle.ndn_sign.specs.Ring.{NamedKey}
+use Rattle.repo_object.specs.Wants.{WantedPart}
+use Rattle.repo_object.specs.Verdict.{CheckedPart, ring_verdict, checked_part}
 use Rattle.group_model.specs.Sound.{IsPublishedPart}
 use Rattle.repo_member.specs.Alone.{alone_accepts}
 use Rattle.repo_member.specs.InGroup.{true_packet}
-use Rattle.bench_world.proofs.Coming.{claim_published, accepts_its, checked_for_claim, keeps_its}
+use Rattle.bench_world.proofs.Coming.{claim_published, accepts_its, checked_for_claim, keeps_its, key_there, passed_fed}
 use Rattle.bench_world.proofs.answering.take.Goals as goal
 
 same_part : {t u : Part} → Some t ≡ Some u → t ≡ u
@@ -27,6 +29,12 @@ is_its_packet-requires g c =
         ),
       ),
     )
+
+pub check_part-requires : goal.check_part-requires
+check_part-requires g c =
+    let r = c.requires in
+    subst (λ (ring : List NamedKey). c.args.want.now.part.publisher < length ring) (sym c.members.ensures.ring)
+    (key_there c.args.g.now g.logs c.args.asker.now r.0 r.1.1.1.0 c.args.f c.args.want.now.part r.1.1.1.1.1.0)
 
 pub accept_checked-requires-clause-checked : goal.accept_checked-requires-clause-checked
 accept_checked-requires-clause-checked g c =
@@ -50,6 +58,14 @@ returns-in-Ok-accept_checked-clause-asker g c =
     c.in-Ok-accept_checked.ensures.ok ∙ (λ i. alone_accepts c.args.f (part i) (octets i) c.args.asker.now)
     ∙ accepts_its c.args.g.now g.logs c.args.asker.now r.0 r.1.1.1.0 c.args.f c.args.want.now.part r.1.1.1.1.1.0
     c.args.octets.now same
+
+pub returns-in-Ok-accept_checked-clause-fed : goal.returns-in-Ok-accept_checked-clause-fed
+returns-in-Ok-accept_checked-clause-fed g c =
+    let r = c.requires in
+    passed_fed c.args.g.now g.logs c.args.want.now.part c.args.octets.now
+    (subst (λ (w : WantedPart). IsOk (ring_verdict w c.args.g.now.members.ring c.args.octets.now)) r.1.1.1.1.1.1
+    (subst (λ (ring : List NamedKey). IsOk (ring_verdict c.args.want.now ring c.args.octets.now))
+    c.members.ensures.ring c.in-Ok.ensures.verdict))
 
 pub returns-in-Ok-accept_checked-clause-kept : goal.returns-in-Ok-accept_checked-clause-kept
 returns-in-Ok-accept_checked-clause-kept g c =

@@ -21,6 +21,14 @@ phase-requires-clause-jobs g c κs within =
     c.requires.1.1.1.1.tried None c.deref.result.now (c.deref.ensures.value ∙ c.in_ok-jobs.ensures)
     c.members.result.now c.members.ensures.ring c.args.tries c.requires.1.1.1.1.tries.1
 
+pub take_outcome-requires-clause-few : goal.take_outcome-requires-clause-few
+take_outcome-requires-clause-few g c κs within =
+    few_jobs (g.N.Net.passes c.args.link.now.net.now) c.args.g.now g.logs c.args.member.now c.args.link.now.others.now
+    c.args.link.now.asker c.args.link.now.loss c.requires.1.1.1.1.logs.are c.requires.1.1.1.1.truly
+    c.requires.1.1.1.1.others
+    c.requires.1.1.1.1.tried None c.deref-2.result.now (c.deref-2.ensures.value ∙ c.in_ok-jobs.ensures)
+    c.members.result.now c.members.ensures.ring
+
 pub take_outcome-requires-clause-outcome : goal.take_outcome-requires-clause-outcome
 take_outcome-requires-clause-outcome g c κs within =
     fetch_outcome (g.N.Net.passes c.args.link.now.net.now) c.args.g.now g.logs c.args.member.now

@@ -23,6 +23,14 @@ phase-requires-clause-jobs g c κs within =
     c.requires.1.1.1.1.tried c.args.after c.deref-2.result.now (c.deref-2.ensures.value ∙ c.in_ok-jobs.ensures)
     c.members.result.now c.members.ensures.ring 1 (omega arith)
 
+pub take_outcome-requires-clause-few : goal.take_outcome-requires-clause-few
+take_outcome-requires-clause-few g c κs within =
+    few_jobs (g.N.Net.passes c.args.link.now.net.now) c.args.g.now g.logs c.args.member.now c.args.link.now.others.now
+    c.args.link.now.asker c.args.link.now.loss c.requires.1.1.1.1.logs.are c.requires.1.1.1.1.truly
+    c.requires.1.1.1.1.others
+    c.requires.1.1.1.1.tried c.args.after c.deref-3.result.now (c.deref-3.ensures.value ∙ c.in_ok-jobs.ensures)
+    c.members.result.now c.members.ensures.ring
+
 pub take_outcome-requires-clause-outcome : goal.take_outcome-requires-clause-outcome
 take_outcome-requires-clause-outcome g c κs within =
     let long : length c.deref-3.result.now ≡ c.len.result = c.deref-3.ensures.len ∙ sym c.len.ensures in

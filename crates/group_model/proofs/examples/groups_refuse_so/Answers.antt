@@ -32,3 +32,10 @@ returns-clause-order c = ((refl, refl), refl)
 
 pub returns-clause-spent : goal.returns-clause-spent
 returns-clause-spent c = (refl, refl)
+
+pub returns-clause-withdrawn_once : goal.returns-clause-withdrawn_once
+unfolding join join_all covers
+returns-clause-withdrawn_once c = ((refl, refl), refl)
+
+pub returns-clause-withdrawing_is_spent : goal.returns-clause-withdrawing_is_spent
+returns-clause-withdrawing_is_spent c = (refl, refl, refl)

@@ -77,3 +77,29 @@ returns-clause-told_of_all c = (refl, refl)
 pub returns-clause-join_of_them : goal.returns-clause-join_of_them
 unfolding join join_all covers
 returns-clause-join_of_them c = refl
+
+pub returns-clause-withdrawn_before : goal.returns-clause-withdrawn_before
+unfolding join join_all covers
+returns-clause-withdrawn_before c = (refl, refl)
+
+pub returns-clause-behind_index_packets : goal.returns-clause-behind_index_packets
+unfolding join join_all covers
+returns-clause-behind_index_packets c = (refl, refl)
+
+pub returns-clause-withdrawn_after : goal.returns-clause-withdrawn_after
+unfolding join join_all covers
+returns-clause-withdrawn_after c = (refl, refl)
+
+pub returns-clause-deleted_and_withdrawn : goal.returns-clause-deleted_and_withdrawn
+unfolding join join_all covers
+returns-clause-deleted_and_withdrawn c = (refl, refl)
+
+pub returns-clause-join_less_withdrawn : goal.returns-clause-join_less_withdrawn
+returns-clause-join_less_withdrawn c = refl
+
+pub returns-clause-parts_of_long_objects : goal.returns-clause-parts_of_long_objects
+returns-clause-parts_of_long_objects c = (refl, refl, refl)
+
+pub returns-clause-fetches_in_turn : goal.returns-clause-fetches_in_turn
+unfolding join join_all covers
+returns-clause-fetches_in_turn c = (refl, refl)

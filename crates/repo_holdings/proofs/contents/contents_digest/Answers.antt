@@ -2,7 +2,7 @@ use Rattle.std.proofs.Common.{Bor, Option, ◌≡◌, ◌+◌, ◌++◌, List, �
 use Rattle.std.proofs.Common.{subst, arith}
 use Rattle.sha2.specs.Hashers.{Holds256}
 use Rattle.repo_plan.specs.Parts.{Pair}
-use Rattle.repo_holdings.specs.Listed.{packet_content, stored_content, contents_joined}
+use Rattle.repo_holdings.specs.Listed.{packet_content, stored_content, contents_from}
 use Rattle.repo_holdings.proofs.ContentLemmas.{joined_more, lent_or}
 use Rattle.repo_holdings.proofs.contents.contents_digest.Goals as goal
 
@@ -10,14 +10,15 @@ pub loop-x-preserved : goal.loop-x-preserved
 loop-x-preserved c =
     let packets = c.args.store.now.packets in
     let pair : Pair = (c.args.publisher, c.args.seq) in
-    let so_far = contents_joined packets pair c.loop-x.x in
-    let more = joined_more packets pair c.loop-x.x in
-    let content : c.content_of-content.result.now ≡ stored_content packets pair (c.loop-x.x + 1) =
+    let first = c.args.shape.index + 1 in
+    let so_far = contents_from packets pair first c.loop-x.x in
+    let more = joined_more packets pair first c.loop-x.x in
+    let content : c.content_of-content.result.now ≡ stored_content packets pair (first + c.loop-x.x) =
     c.content_of-content.ensures.exact
     ∙ ap packet_content
     (ap (λ (b : Bor (List ℕ)). b.now) c.unwrap_or.ensures ∙ lent_or c.get.result _
     ∙ ap (λ (o : Option (List ℕ)). unwrap_or o []) c.get.ensures.found) in
-    let whole : so_far ++ c.content_of-content.result.now ≡ contents_joined packets pair (c.loop-x.x + 1) =
+    let whole : so_far ++ c.content_of-content.result.now ≡ contents_from packets pair first (c.loop-x.x + 1) =
     ap (λ (m : List ℕ). so_far ++ m) content ∙ sym more in
     let long = length-append so_far c.content_of-content.result.now in
     let all = ap (λ (m : List ℕ). length m) whole in

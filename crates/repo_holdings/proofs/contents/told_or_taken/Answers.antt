@@ -8,7 +8,7 @@ use Rattle.repo_plan.specs.Parts.{Pair, pair_cmp}
 use Rattle.repo_plan.proofs.Orders.{exact_pairs}
 use Rattle.repo_catalog.specs.declared.entry.Entry.{Entry}
 use Rattle.repo_holdings.specs.Records.{Packet}
-use Rattle.repo_holdings.specs.Listed.{entry_at, contents_joined}
+use Rattle.repo_holdings.specs.Listed.{whole_at, contents_joined}
 use Rattle.repo_holdings.specs.declared.contents.ContentsDigest.{ContentsDigest}
 use Rattle.repo_holdings.specs.Contents.{IsOver, IsToldBy, IsDigestIn}
 use Rattle.repo_holdings.proofs.contents.told_or_taken.Goals as goal
@@ -30,11 +30,11 @@ told_over (Some e) d contents told over =
 
 told_there : (packets : List Packet) (pair : Pair) (ds : List ContentsDigest) (i : ℕ) (d : ContentsDigest)
     (contents : List ℕ) → All (IsDigestIn packets) ds → i < length ds
-    → pair_cmp (told_of (get_or ds i d)) pair ≡ Equal → IsSomeAnd (entry_at packets pair) (IsOver contents)
+    → pair_cmp (told_of (get_or ds i d)) pair ≡ Equal → IsSomeAnd (whole_at packets pair) (IsOver contents)
     → AreOver contents (get_or ds i d)
 told_there packets pair ds i d contents all low same over =
-    told_over (entry_at packets pair) (get_or ds i d) contents
-    (subst (λ (q : Pair). IfSome (entry_at packets q) (IsToldBy (get_or ds i d)))
+    told_over (whole_at packets pair) (get_or ds i d) contents
+    (subst (λ (q : Pair). IfSome (whole_at packets q) (IsToldBy (get_or ds i d)))
     (exact_pairs.same (told_of (get_or ds i d)) pair same) (all i d low))
     over
 
@@ -42,7 +42,7 @@ pub returns-in-Ok-clause-octets : goal.returns-in-Ok-clause-octets
 returns-in-Ok-clause-octets c =
     let pair : Pair = (c.args.publisher, c.args.seq) in
     (told_there c.args.store.now.packets pair c.args.digests.now c.in-Ok.place _
-    (contents_joined c.args.store.now.packets pair c.args.segments) c.requires.digests c.in-Ok.ensures.bound
+    (contents_joined c.args.store.now.packets pair c.args.shape) c.requires.digests c.in-Ok.ensures.bound
     (c.in-Ok.ensures.position told_of (answers_always _ _ _ (λ f a r g called. search rules)) _)
     c.requires.whole).octets
 
@@ -50,6 +50,6 @@ pub returns-in-Ok-clause-digest : goal.returns-in-Ok-clause-digest
 returns-in-Ok-clause-digest c =
     let pair : Pair = (c.args.publisher, c.args.seq) in
     (told_there c.args.store.now.packets pair c.args.digests.now c.in-Ok.place _
-    (contents_joined c.args.store.now.packets pair c.args.segments) c.requires.digests c.in-Ok.ensures.bound
+    (contents_joined c.args.store.now.packets pair c.args.shape) c.requires.digests c.in-Ok.ensures.bound
     (c.in-Ok.ensures.position told_of (answers_always _ _ _ (λ f a r g called. search rules)) _)
     c.requires.whole).digest

@@ -1,4 +1,5 @@
-use Rattle.repo_member.proofs.EventLemmas.{publish_is_event, deliver_is_event, hear_is_event, fire_is_event}
+use Rattle.repo_member.proofs.EventLemmas.{publish_is_event, withdraw_is_event, deliver_is_event, hear_is_event}
+use Rattle.repo_member.proofs.EventLemmas.{fire_is_event}
 use Rattle.repo_member.proofs.EventLemmas.{restart_is_event, claim_is_event, lose_is_event, answer_is_event}
 use Rattle.repo_member.proofs.EventLemmas.{feed_is_event, fetch_is_event, learns_at_once, learns_what_all_know}
 use Rattle.repo_member.proofs.EventLemmas.{gathering_is_event, settle_is_event, open_parts_alike, catalogues_alike}
@@ -8,6 +9,9 @@ use Rattle.repo_member.proofs.laws.calls_are_events.Goals as goal
 
 pub returns-clause-publish : goal.returns-clause-publish
 returns-clause-publish c = publish_is_event
+
+pub returns-clause-withdraw : goal.returns-clause-withdraw
+returns-clause-withdraw c = withdraw_is_event
 
 pub returns-clause-deliver : goal.returns-clause-deliver
 returns-clause-deliver c = deliver_is_event

@@ -1,73 +1,77 @@
-use Rattle.std.proofs.Common.{◌≡◌, ℕ, ◌-◌, ◌≤◌, refl, List, Some, option_map, length, ap, sym, subst, ◌∙◌, arith}
-use Rattle.std.specs.List.{All, slice_get}
-use Rattle.std.proofs.lemmas.Option.{slice_get-map, slice_get_past, slice_get_read}
+use Rattle.std.proofs.Common.{◌≡◌, ℕ, ◌-◌, ◌<◌, List, length, map, slice_get, Option, Some, option_map, sym, ap, subst}
+use Rattle.std.proofs.Common.{◌∙◌, arith}
+use Rattle.std.specs.Prelude.{IfOk}
 use Rattle.std.proofs.lemmas.List.{length-map}
+use Rattle.sha2.specs.Sha256.{sha256}
 use Rattle.ndn_name.specs.Names.{Component, encoding}
-use Rattle.repo_object.specs.Objects.{IsContent, Publisher, publisher, key_name}
-use Rattle.repo_object.specs.Publication.{segment_packet}
-use Rattle.repo_object.proofs.PacketSizes.{key_name-size}
-use Rattle.repo_object.proofs.Packing.{items, content_at, packet_behind}
+use Rattle.repo_plan.specs.declared.shape.Shape.{Shape}
+use Rattle.repo_plan.specs.Parts.{index_packets}
+use Rattle.repo_object.specs.Objects.{Publisher, publisher, key_name, record_name}
+use Rattle.repo_object.specs.Publication.{index_content, segment_packet, packets_under, listed_by}
+use Rattle.repo_object.proofs.PacketSizes.{key_name-size, record_name-size}
+use Rattle.repo_object.proofs.Packing.{items, index_packet_at, segment_packet_at, index_made}
 use Rattle.repo_object.proofs.packets.packet_of.Goals as goal
 
-pub segment_packet-requires-clause-key_name : goal.segment_packet-requires-clause-key_name
-segment_packet-requires-clause-key_name c =
+pub index_alone-requires-clause-name : goal.index_alone-requires-clause-name
+index_alone-requires-clause-name c =
+    omega (
+      arith,
+      ap (λ (n : List Component). length (encoding n)) c.in_ok-name.ensures,
+      record_name-size c.args.node.now c.args.group.now c.args.seq c.requires.node c.requires.group (omega arith),
+    )
+
+pub index_alone-requires-clause-key_name : goal.index_alone-requires-clause-key_name
+index_alone-requires-clause-key_name c =
     omega (
       arith,
       ap (λ (n : List Component). length (encoding n)) c.in_ok-key_name.ensures,
       key_name-size c.args.node.now c.requires.node,
     )
 
-pub returns-in_default : goal.returns-in_default
-returns-in_default c =
-    let who : Publisher = publisher c.args.node.now c.args.group.now c.args.key.now in
-    let object = c.args.object.now in
-    let made = segment_packet (key_name who.node) who.key object.name (length object.contents - 1) (c.args.part - 1) in
-    let past : length object.contents ≤ c.args.part - 1 =
+pub segment_alone-requires : goal.segment_alone-requires
+segment_alone-requires c =
     omega (
       arith,
-      c.in_default.ensures.lookup.3,
-      c.from.ensures,
-      ap (λ l. length l) c.contents-contents.ensures.same,
-      length-map c.contents-contents.result.now items,
-    ) in
-    sym (packet_behind who c.args.seq object c.args.part c.if-part-eq0.false
-    ∙ ap (option_map made) (slice_get_past object.contents (c.args.part - 1) past))
+      ap (λ (n : List Component). length (encoding n)) c.in_ok-key_name.ensures,
+      key_name-size c.args.node.now c.requires.node,
+    )
 
-pub segment_packet-requires-clause-content : goal.segment_packet-requires-clause-content
-segment_packet-requires-clause-content c =
-    let contents = c.contents-contents.result.now in
-    let all =
-    subst (All IsContent) (sym c.contents-contents.ensures.same) c.contents-contents.ensures.within.contents in
-    let small =
-    content_at contents c.from.result c.in-Some.content.now c.in-Some.ensures.lookup.3.0 c.in-Some.ensures.lookup.1
-    all in
-    omega (arith, ap (λ (o : List ℕ). length o) c.deref.ensures.value, small.1)
+pub returns-in_default-checked_sub : goal.returns-in_default-checked_sub
+returns-in_default-checked_sub c =
+    let who : Publisher = publisher c.args.node.now c.args.group.now c.args.key.now in
+    let object = c.args.object.now in
+    let key = c.args.key.now in
+    let name = record_name c.args.node.now c.args.group.now c.args.seq in
+    let k = c.in-Some.behind in
+    let last = c.of-shape.result.index - 1 in
+    let count : length c.contents.result.now ≡ length object.contents =
+    sym (length-map c.contents.result.now items) ∙ ap (λ (cs : List (List ℕ)). length cs) c.contents.ensures.same in
+    let index : c.of-shape.result.index ≡ index_packets (length object.contents) =
+    ap (λ (s : Shape). s.index) c.of-shape.ensures.shape ∙ ap index_packets count in
+    let content : List Component → List ℕ =
+    λ n. index_content (map sha256 (listed_by (packets_under n key object.name object.contents) k)) in
+    let low : k < index_packets (length object.contents) = omega (arith, index) in
+    ap (λ (p : List ℕ). Some p)
+    (c.in_ok-packet.ensures
+    ∙ ap (λ (n : List Component). segment_packet n key c.in_ok-name.name last k (content n)) c.in_ok-key_name.ensures
+    ∙ ap (λ (n : List Component). segment_packet (key_name who.node) key n last k (content (key_name who.node)))
+    c.in_ok-name.ensures)
+    ∙ sym (index_packet_at who c.args.seq object c.args.part k (omega arith) low
+    ∙ index_made who c.args.seq object k last low (omega (arith, index)))
 
 pub returns : goal.returns
 returns c =
     let who : Publisher = publisher c.args.node.now c.args.group.now c.args.key.now in
     let object = c.args.object.now in
     let key = c.args.key.now in
-    let contents = c.contents-contents.result.now in
-    let content = c.in-Some.content.now in
-    let i = c.args.part - 1 in
-    let last = length object.contents - 1 in
-    let long = ap (λ l. length l) c.contents-contents.ensures.same ∙ refl in
-    let at : slice_get object.contents i ≡ Some content.items =
-    ap (λ (cs : List (List ℕ)). slice_get cs i) (sym c.contents-contents.ensures.same) ∙ slice_get-map items contents i
-    ∙ ap (option_map items)
-    (ap (slice_get contents) (sym c.from.ensures)
-    ∙ slice_get_read contents (length contents) c.from.result content refl c.in-Some.ensures.lookup.3.0
-    c.in-Some.ensures.lookup.1) in
-    let same_last : length contents - 1 ≡ last = omega (arith, long, length-map contents items) in
-    let made =
-    c.in_ok-packet.ensures
-    ∙ ap (λ (k : List Component). segment_packet k key c.name.result.now (length contents - 1) i c.deref.result.now)
-    c.in_ok-key_name.ensures
-    ∙ ap (λ (n : List Component). segment_packet (key_name who.node) key n (length contents - 1) i c.deref.result.now)
-    c.name.ensures.same
-    ∙ ap (λ (n : ℕ). segment_packet (key_name who.node) key object.name n i c.deref.result.now) same_last
-    ∙ ap (segment_packet (key_name who.node) key object.name last i) c.deref.ensures.value in
-    ap (λ (p : List ℕ). Some p) made
-    ∙ sym (packet_behind who c.args.seq object c.args.part c.if-part-eq0.false
-    ∙ ap (option_map (segment_packet (key_name who.node) key object.name last i)) at)
+    let i = c.in-Some-checked_sub.i in
+    let count : length c.contents.result.now ≡ length object.contents =
+    sym (length-map c.contents.result.now items) ∙ ap (λ (cs : List (List ℕ)). length cs) c.contents.ensures.same in
+    let index : c.of-shape.result.index ≡ index_packets (length object.contents) =
+    ap (λ (s : Shape). s.index) c.of-shape.ensures.shape ∙ ap index_packets count in
+    let at =
+    ap (λ (n : List Component). slice_get (packets_under n key object.name object.contents) i) c.in_ok-key_name.ensures
+    ∙ sym (segment_packet_at who c.args.seq object c.args.part i (omega (arith, index))) in
+    let P : Option (List ℕ) → Type 0 =
+    λ o. IfOk c.segment_alone.result (λ packet. option_map (λ p. p.items) packet ≡ o) in
+    subst P at c.segment_alone.ensures

@@ -1,4 +1,4 @@
-use Rattle.std.proofs.Common.{rules, ◌≡◌, ◌<◌, ◌+◌, None, length, sym, ap, ◌∙◌, subst}
+use Rattle.std.proofs.Common.{arith, rules, ◌≡◌, ◌<◌, ◌+◌, None, length, sym, ap, ◌∙◌, subst}
 use Rattle.group_model.specs.Events.{Event}
 use Rattle.group_model.specs.World.{Tally}
 use Rattle.group_model.specs.Refusals.{refusal}
@@ -10,7 +10,7 @@ use Rattle.bench_world.specs.Answering.{claim_in, came_in}
 use Rattle.bench_world.specs.Worlds.{GroupState, IsTrueState, world_of, logs_around}
 use Rattle.bench_world.specs.Kept.{world_state}
 use Rattle.bench_world.proofs.Answered.{answer_refusal, answer_taken, answer_passes, answer_world, answer_state}
-use Rattle.bench_world.proofs.Answered.{fault_by}
+use Rattle.bench_world.proofs.Answered.{answer_fits, fault_by}
 use Rattle.bench_world.proofs.world.World.answer.Goals as goal
 
 pub returns-in-Err : goal.returns-in-Err
@@ -35,6 +35,28 @@ returns-in-Err c =
           c.in-Err.ensures.refused));
       err = search rules;
     }
+
+pub overflow_add-self-2 : goal.overflow_add-self-2
+overflow_add-self-2 c =
+    let s = world_state c.self.inside in
+    let there = subst (λ (x : GroupState). c.args.m < length x.members) (sym c.self.view_is) c.requires.there in
+    let fits =
+    answer_fits s c.self.invariant c.args.m there c.args.f c.args.q c.in-Ok.kept c.in-Ok.ensures.kept
+    c.ask.new.members.items c.in-Ok.ensures.members
+    (subst (λ (x : GroupState). x.steps < 100000) (sym c.self.view_is) c.requires.few) in
+    let more = c.parts_of.ensures in
+    omega (arith, fits.parts, more)
+
+pub overflow_add-self-3 : goal.overflow_add-self-3
+overflow_add-self-3 c =
+    let s = world_state c.self.inside in
+    let there = subst (λ (x : GroupState). c.args.m < length x.members) (sym c.self.view_is) c.requires.there in
+    let fits =
+    answer_fits s c.self.invariant c.args.m there c.args.f c.args.q c.in-Ok.kept c.in-Ok.ensures.kept
+    c.ask.new.members.items c.in-Ok.ensures.members
+    (subst (λ (x : GroupState). x.steps < 100000) (sym c.self.view_is) c.requires.few) in
+    let more = c.unwrap_or.ensures in
+    omega (arith, fits.octets, more)
 
 pub invariant_of-self-2 : goal.invariant_of-self-2
 invariant_of-self-2 c =

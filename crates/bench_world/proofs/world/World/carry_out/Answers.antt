@@ -15,6 +15,12 @@ returns-in-Publish g c =
     ∙ ap (EventValue.Publish c.in-Publish.m c.in-Publish.name c.in-Publish.size) (sym c.deref.ensures.value))
     c.publish.ensures
 
+pub returns-in-Withdraw : goal.returns-in-Withdraw
+returns-in-Withdraw g c =
+    let out = outside c.args.self.now.keys (g.D.Draws.draw c.args.draws.now) (g.N.Net.passes c.args.net.now) in
+    of_event out (event_value c.args.event.now) (EventValue.Withdraw c.in-Withdraw.m c.in-Withdraw.s) c.args.self.now
+    c.withdraw.result c.withdraw.new.self (ap event_value c.in-Withdraw.is) c.withdraw.ensures
+
 pub returns-in-Deliver : goal.returns-in-Deliver
 returns-in-Deliver g c =
     let out = outside c.args.self.now.keys (g.D.Draws.draw c.args.draws.now) (g.N.Net.passes c.args.net.now) in

@@ -1,4 +1,4 @@
-use Rattle.std.proofs.Common.{rules, ◌≡◌, ◌<◌, ◌+◌, None, length, sym, ap, ◌∙◌, subst}
+use Rattle.std.proofs.Common.{arith, rules, ◌≡◌, ◌<◌, ◌+◌, None, length, sym, ap, ◌∙◌, subst}
 use Rattle.std.specs.Prelude.{Ok}
 use Rattle.group_model.specs.Events.{Event}
 use Rattle.group_model.specs.World.{Tally}
@@ -11,7 +11,7 @@ use Rattle.bench_world.specs.Steps.{IsFaultOf}
 use Rattle.bench_world.specs.Answering.{claim_in, came_for}
 use Rattle.bench_world.specs.Worlds.{GroupState, IsTrueState, world_of, logs_around}
 use Rattle.bench_world.specs.Kept.{world_state}
-use Rattle.bench_world.proofs.Answered.{feed_refusal, feed_taken, feed_is, feed_world, feed_state, fault_by}
+use Rattle.bench_world.proofs.Answered.{feed_refusal, feed_taken, feed_is, feed_world, feed_state, feed_fits, fault_by}
 use Rattle.bench_world.proofs.world.World.feed.Goals as goal
 
 pub returns-in-Err : goal.returns-in-Err
@@ -38,6 +38,30 @@ returns-in-Err c =
           c.in-Err.ensures.refused));
       err = search rules;
     }
+
+pub overflow_add-self : goal.overflow_add-self
+overflow_add-self c =
+    let s = world_state c.self.inside in
+    let there = subst (λ (x : GroupState). c.args.m < length x.members) (sym c.self.view_is) c.requires.there in
+    let fits =
+    feed_fits s c.self.invariant c.args.m there c.args.f c.args.octets.now c.kept_octets-kept.result
+    (c.in-Ok.ensures.kept ∙ ap (λ k. Ok k) (sym c.kept_octets-kept.ensures)) c.feed.new.members.items
+    c.in-Ok.ensures.members
+    (subst (λ (x : GroupState). x.steps < 100000) (sym c.self.view_is) c.requires.few) in
+    let more = c.parts_of.ensures in
+    omega (arith, fits.parts, more)
+
+pub overflow_add-self-2 : goal.overflow_add-self-2
+overflow_add-self-2 c =
+    let s = world_state c.self.inside in
+    let there = subst (λ (x : GroupState). c.args.m < length x.members) (sym c.self.view_is) c.requires.there in
+    let fits =
+    feed_fits s c.self.invariant c.args.m there c.args.f c.args.octets.now c.kept_octets-kept.result
+    (c.in-Ok.ensures.kept ∙ ap (λ k. Ok k) (sym c.kept_octets-kept.ensures)) c.feed.new.members.items
+    c.in-Ok.ensures.members
+    (subst (λ (x : GroupState). x.steps < 100000) (sym c.self.view_is) c.requires.few) in
+    let more = c.unwrap_or.ensures in
+    omega (arith, fits.octets, more)
 
 pub invariant_of-self-2 : goal.invariant_of-self-2
 invariant_of-self-2 c =

@@ -1,12 +1,13 @@
 use Rattle.std.proofs.Common.{◌≡◌, ◌⊎◌, ◌<◌, Some, None, Ok, Err, map, length, refl, sym, ap, ◌∙◌, subst}
 use Rattle.repo_object.specs.Objects.{NamedContents}
+use Rattle.repo_object.specs.Objects.Post.{Offers}
 use Rattle.group_model.specs.Events.{Event}
 use Rattle.group_model.specs.Refusals.{Refusal, refusal}
 use Rattle.group_model.specs.Steps.{after_publish, next_seq_at}
 use Rattle.bench_world.specs.Worlds.{GroupState, world_of, drawing}
 use Rattle.bench_world.specs.Kept.{world_state}
 use Rattle.bench_world.proofs.States.{few_draws}
-use Rattle.bench_world.proofs.Objects.{refused_so, has_room, seq_is, sent_is, publish_taken, world_sent, state_sent}
+use Rattle.bench_world.proofs.Objects.{refused_so, has_room, seq_is, sent_is, not_spent, world_sent, state_sent}
 use Rattle.bench_world.proofs.world.World.publish_contents.Goals as goal
 
 pub publish-requires-clause-draws : goal.publish-requires-clause-draws
@@ -39,13 +40,14 @@ invariant_of-self-2 g c =
     c.in-Ok.published refl c.in-Ok.ensures.spent in
     let sent =
     sent_is s c.self.invariant c.args.m there old c.index_mut-member.ensures.value c.publish.new.self
-    (g.D.Draws.draw c.args.draws.now) c.draw-draw.result n_is object c.in-Ok.ensures.ok
+    (g.D.Draws.draw c.args.draws.now) c.draw-draw.result n_is (Offers object) c.in-Ok.ensures.ok
     c.add_reserved-k.new.self.packets c.reserve.new.self.packets c.in_ok-vector.vector.items c.in-Ok.published.seq
     c.in-Ok.published.sync.items (ap (λ x. x.packets) c.in_ok-reserve.ensures.ok)
     (c.in_ok-vector.ensures ∙ c.vector.ensures.known)
     c.in-Ok.ensures.seq c.in-Ok.ensures.sync c.add_reserved-k.ensures.sent in
     state_sent s c.self.invariant c.args.m there old c.index_mut-member.ensures.value c.publish.new.self
-    (g.D.Draws.draw c.args.draws.now) c.draw-draw.result n_is object c.in-Ok.ensures.ok few c.in-Ok.ensures.object room
+    (g.D.Draws.draw c.args.draws.now) c.draw-draw.result n_is (Offers object) c.in-Ok.ensures.ok few
+    c.in-Ok.ensures.object room
     c.add_reserved-k.new.self.packets sent
 
 pub returns-clause-ok : goal.returns-clause-ok
@@ -57,33 +59,31 @@ returns-clause-ok g c =
     let n_is = c.draw-draw.ensures ∙ ap (g.D.Draws.draw c.args.draws.now c.args.m) c.next_draw.ensures in
     let sent =
     sent_is s c.self.invariant c.args.m there old c.index_mut-member.ensures.value c.publish.new.self
-    (g.D.Draws.draw c.args.draws.now) c.draw-draw.result n_is object c.in-Ok.ensures.ok
+    (g.D.Draws.draw c.args.draws.now) c.draw-draw.result n_is (Offers object) c.in-Ok.ensures.ok
     c.add_reserved-k.new.self.packets c.reserve.new.self.packets c.in_ok-vector.vector.items c.in-Ok.published.seq
     c.in-Ok.published.sync.items (ap (λ x. x.packets) c.in_ok-reserve.ensures.ok)
     (c.in_ok-vector.ensures ∙ c.vector.ensures.known)
     c.in-Ok.ensures.seq c.in-Ok.ensures.sync c.add_reserved-k.ensures.sent in
     world_sent s c.self.invariant c.args.m there old c.index_mut-member.ensures.value c.publish.new.self
-    (g.D.Draws.draw c.args.draws.now) c.draw-draw.result n_is object c.in-Ok.ensures.ok
+    (g.D.Draws.draw c.args.draws.now) c.draw-draw.result n_is (Offers object) c.in-Ok.ensures.ok
     c.add_reserved-k.new.self.packets sent
-    ∙ ap (λ (x : GroupState). after_publish (drawing (g.D.Draws.draw c.args.draws.now)) (world_of x) c.args.m object)
+    ∙ ap (λ (x : GroupState).
+    after_publish (drawing (g.D.Draws.draw c.args.draws.now)) (world_of x) c.args.m (Offers object))
     c.self.view_is
 
 pub returns-clause-taken : goal.returns-clause-taken
 returns-clause-taken g c =
     let s = world_state c.self.inside in
-    let few = subst (λ (x : GroupState). x.steps < 100000) (sym c.self.view_is) c.requires.few in
     let there = subst (λ (x : GroupState). c.args.m < length x.members) (sym c.self.view_is) c.requires.there in
     let old = c.index_mut-member.result.now in
     let object : NamedContents = record { name = c.args.name.now; contents = map (λ x. x.items) c.args.contents.now } in
-    let n_is = c.draw-draw.ensures ∙ ap (g.D.Draws.draw c.args.draws.now c.args.m) c.next_draw.ensures in
     let room =
     has_room s c.self.invariant c.args.m there old c.index_mut-member.ensures.value (Ok c.in-Ok.published)
     c.in-Ok.published refl c.in-Ok.ensures.spent in
     subst (λ (x : GroupState).
     refusal (drawing (g.D.Draws.draw c.args.draws.now)) (world_of x) (Event.Publish c.args.m object) ≡ None)
     c.self.view_is
-    (publish_taken s c.self.invariant c.args.m there old c.index_mut-member.ensures.value c.publish.new.self
-    (g.D.Draws.draw c.args.draws.now) c.draw-draw.result n_is object c.in-Ok.ensures.ok few c.in-Ok.ensures.object room)
+    (not_spent s c.self.invariant c.args.m there old c.index_mut-member.ensures.value room)
 
 pub returns-clause-seq : goal.returns-clause-seq
 returns-clause-seq g c =

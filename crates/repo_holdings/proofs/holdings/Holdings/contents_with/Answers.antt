@@ -2,7 +2,7 @@ use Rattle.std.proofs.Common.{◌≡◌, ◌+◌, ◌++◌, [], ℕ, List, map, 
 use Rattle.std.proofs.Common.{◌∙◌, subst, arith}
 use Rattle.repo_plan.specs.Parts.{Pair}
 use Rattle.repo_holdings.specs.Records.{Packet}
-use Rattle.repo_holdings.specs.Listed.{packet_content, stored_content, contents_joined}
+use Rattle.repo_holdings.specs.Listed.{packet_content, stored_content, contents_from}
 use Rattle.repo_holdings.specs.HoldingsState.{HoldingsState}
 use Rattle.repo_holdings.specs.Taking.{came, with_all_fetched}
 use Rattle.repo_holdings.specs.WholeContents.{joined}
@@ -15,7 +15,8 @@ pub loop-x-preserved : goal.loop-x-preserved
 loop-x-preserved c =
     let after : List Packet = with_all_fetched (map came c.args.all.now) c.args.self.now.store in
     let pair : Pair = (c.args.publisher, c.args.seq) in
-    let content : c.content_of.result.now ≡ stored_content after pair (c.loop-x.x + 1) =
+    let first : ℕ = c.in-Some.shape.index + 1 in
+    let content : c.content_of.result.now ≡ stored_content after pair (first + c.loop-x.x) =
     c.content_of.ensures.exact
     ∙ ap (λ (o : Option (List ℕ)). packet_content (unwrap_or o [])) (sym c.in-Some-packet_with.ensures) in
     let more : joined c.push.new.self.items ≡ joined c.loop-x.contents.items ++ c.content_of.result.now =
@@ -24,8 +25,8 @@ loop-x-preserved c =
       contents =
           more
           ∙ ap (λ (front : List ℕ). front ++ c.content_of.result.now) c.loop-x.invariant.contents
-          ∙ ap (λ (piece : List ℕ). contents_joined after pair c.loop-x.x ++ piece) content
-          ∙ sym (joined_more after pair c.loop-x.x);
+          ∙ ap (λ (piece : List ℕ). contents_from after pair first c.loop-x.x ++ piece) content
+          ∙ sym (joined_more after pair first c.loop-x.x);
       few =
           omega (
             arith,
@@ -40,10 +41,10 @@ pub returns-clause-contents : goal.returns-clause-contents
 returns-clause-contents c =
     let after : List Packet = with_all_fetched (map came c.args.all.now) c.args.self.now.store in
     let pair : Pair = (c.args.publisher, c.args.seq) in
-    let all : c.loop-x.x ≡ c.in-Some.segments = omega (arith, c.loop-x-test.false, c.loop-x.auto.x-end) in
-    contents_are c.self.inside.plan c.self.inside.store.packets after pair c.in-Some.segments c.loop-x.contents.items
+    let all : c.loop-x.x ≡ c.in-Some.shape.segments = omega (arith, c.loop-x-test.false, c.loop-x.auto.x-end) in
+    contents_are c.self.inside.plan c.self.inside.store.packets after pair c.in-Some.shape c.loop-x.contents.items
     c.self.invariant.kept.tied
     (subst (λ (h : HoldingsState). StayStored h.store after) (sym c.self.view_is)
     (fetched_stays (map came c.args.all.now) c.args.self.now.store))
-    (sym c.in-Some.is ∙ c.segments.ensures)
-    (c.loop-x.invariant.contents ∙ ap (contents_joined after pair) all)
+    (sym c.in-Some.is ∙ c.shape.ensures.shape)
+    (c.loop-x.invariant.contents ∙ ap (contents_from after pair (c.in-Some.shape.index + 1)) all)

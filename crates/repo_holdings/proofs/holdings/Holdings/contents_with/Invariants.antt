@@ -1,5 +1,5 @@
-use Rattle.std.proofs.Common.{◌≡◌, ◌≤◌, ◌*◌, length, map}
-use Rattle.repo_holdings.specs.Listed.{contents_joined}
+use Rattle.std.proofs.Common.{◌≡◌, ◌≤◌, ◌+◌, ◌*◌, length, map}
+use Rattle.repo_holdings.specs.Listed.{contents_from}
 use Rattle.repo_holdings.specs.Taking.{came, with_all_fetched}
 use Rattle.repo_holdings.specs.WholeContents.{joined}
 use Rattle.repo_holdings.proofs.holdings.Holdings.contents_with.Given as goal
@@ -7,6 +7,6 @@ use Rattle.repo_holdings.proofs.holdings.Holdings.contents_with.Given as goal
 abbrev pub invariant-loop-x : goal.invariant-loop-x
 invariant-loop-x l = record {
   contents : joined l.contents.items
-      ≡ contents_joined (with_all_fetched (map came l.all) l.self.store) (l.publisher, l.seq) l.x;
+      ≡ contents_from (with_all_fetched (map came l.all) l.self.store) (l.publisher, l.seq) (l.shape.index + 1) l.x;
   few : length (joined l.contents.items) ≤ 8800 * l.x;
 }

@@ -9,7 +9,7 @@ use Rattle.repo_plan.proofs.Orders.{exact_parts}
 use Rattle.repo_holdings.specs.Records.{Packet}
 use Rattle.repo_holdings.specs.HoldingsState.{HoldingsState}
 use Rattle.repo_holdings.specs.Taking.{came, with_all_fetched, PartsDiffer}
-use Rattle.repo_holdings.specs.declared.holdings.gaining.Arrival.{Arrival}
+use Rattle.repo_holdings.specs.declared.told.Arrival.{Arrival}
 use Rattle.repo_holdings.specs.declared.holdings.taking.Tried.{Tried}
 use Rattle.repo_holdings.proofs.FreshLemmas.{fetched_stays}
 use Rattle.repo_holdings.proofs.ArrivedLemmas.{fetched_at}

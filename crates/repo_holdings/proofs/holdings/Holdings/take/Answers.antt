@@ -1,12 +1,16 @@
-use Rattle.std.proofs.Common.{◌∙◌, ap, List, length, arith}
+use Rattle.std.proofs.Common.{◌∙◌, ap, sym, List, length, arith}
+use Rattle.std.proofs.lemmas.Bool.{true≢false}
+use Rattle.sorted_lists.specs.SortedList.{contains}
+use Rattle.repo_plan.specs.Parts.{Pair, pair_cmp}
 use Rattle.repo_catalog.specs.declared.entry.Entry.{Entry}
-use Rattle.repo_catalog.specs.Entries.{with_entries}
+use Rattle.repo_catalog.specs.Entries.{EntryList, with_entries, without_all}
 use Rattle.repo_catalog.proofs.ManyLemmas.{apart_none}
 use Rattle.repo_holdings.specs.HoldingsState.{HoldingsState}
 use Rattle.repo_holdings.specs.Taking.{AreListedWith}
 use Rattle.repo_holdings.specs.declared.holdings.Holdings.TheInside.{Inside}
 use Rattle.repo_holdings.specs.HoldingsFields.{IsHoldings}
 use Rattle.repo_holdings.proofs.CatalogueLemmas.{alone_in_order}
+use Rattle.repo_holdings.proofs.HidingLemmas.{entries_all}
 use Rattle.repo_holdings.proofs.TakingLemmas.{takable_still, octets_fit}
 use Rattle.repo_holdings.proofs.holdings.Holdings.take.Goals as goal
 
@@ -20,17 +24,30 @@ take_all-taken-requires-clause-short c =
     omega (arith, fit, c.args.all.ok.0, c.requires.few)
 
 -- before, no entry waits
-nothing_waits : (m : Inside) → IsHoldings m → AreListedWith m.fresh.items m.catalogue.entries m.store.packets
+nothing_waits : (m : Inside) → IsHoldings m
+    → AreListedWith m.fresh.items m.gone.items m.catalogue.entries m.store.packets
 nothing_waits m is = record {
-  listed = ap (λ (fs : List Entry). with_entries fs m.catalogue.entries) is.none_fresh ∙ is.kept.listed;
+  listed =
+      ap (λ (gone : List Pair). without_all gone (with_entries m.fresh.items m.catalogue.entries)) is.none_gone
+      ∙ entries_all (with_entries m.fresh.items m.catalogue.entries)
+      ∙ ap (λ (fs : List Entry). with_entries fs m.catalogue.entries) is.none_fresh
+      ∙ is.kept.listed;
+  withdrawn = λ q h.
+      absurd (true≢false (sym h ∙ ap (λ (gone : List Pair). contains pair_cmp gone q) is.none_gone));
   apart = rw is.none_fresh apart_none;
+  apart_gone = rw is.none_gone (λ q. omega arith);
   in_order = rw is.kept.listed (alone_in_order m.store.packets is.kept.tied.in_order);
 }
 
 pub add_all_reserved-requires-clause-apart : goal.add_all_reserved-requires-clause-apart
 add_all_reserved-requires-clause-apart c =
-    let waits = nothing_waits c.self.inside c.self.invariant in
-    (c.take_all-taken.ensures.listed c.self.inside.catalogue.entries waits).apart
+    (c.take_all-taken.ensures.listed c.self.inside.catalogue.entries
+    (nothing_waits c.self.inside c.self.invariant)).apart
+
+pub remove_gone-requires : goal.remove_gone-requires
+remove_gone-requires c =
+    (c.take_all-taken.ensures.listed c.self.inside.catalogue.entries
+    (nothing_waits c.self.inside c.self.invariant)).apart_gone
 
 pub invariant_of-self : goal.invariant_of-self
 invariant_of-self c =
@@ -44,17 +61,33 @@ invariant_of-self c =
     record {
       kept = record {
         tied = taken.tied;
+        noted = taken.noted;
         listed =
-            added.entries
+            ap (λ (k : EntryList). k.entries) c.remove_gone.ensures.removed
+            ∙ ap (without_all c.take_all-taken.new.gone.items) added.entries
             ∙ (taken.listed c.self.inside.catalogue.entries (nothing_waits c.self.inside before)).listed;
       };
       room = record {
         for_plan = omega (arith, tried, few, spare, taken.plan_room, before.room.for_plan);
         for_store = omega (arith, tried, few, spare, taken.store_room, before.room.for_store);
+        for_notes = omega (arith, tried, few, spare, taken.notes_room, before.room.for_notes);
         for_catalogue =
-            omega (arith, tried, few, spare, none, taken.few_fresh, added.spare, before.room.for_catalogue);
+            omega (
+              arith,
+              tried,
+              few,
+              spare,
+              none,
+              taken.few_fresh,
+              added.spare,
+              ap (λ (k : EntryList). k.spare) c.remove_gone.ensures.removed,
+              before.room.for_catalogue,
+            );
       };
       none_fresh = added.moved;
       room_fresh =
           omega (arith, tried, few, spare, taken.fresh_room, added.capacity, before.room_fresh);
+      none_gone = c.remove_gone.ensures.gone;
+      room_gone =
+          omega (arith, tried, few, spare, taken.gone_room, c.remove_gone.ensures.room, before.room_gone);
     }

@@ -23,8 +23,9 @@ returns-clause-kept c =
       c.remove_all.ensures,
       ← outside_at_once c.args.publications.now c.args.store.now.packets,
     )
-    (kept_hides_all c.args.publications.now c.args.plan.now c.args.store.now.packets c.args.catalogue.now.entries
-    c.requires.kept)
+    (kept_hides_all c.args.publications.now c.args.plan.now c.args.store.now.packets c.args.notes.now
+    c.forget_names.new.notes c.args.catalogue.now.entries c.requires.objects c.forget_names.ensures.withdrawn
+    c.forget_names.ensures.others c.requires.kept)
 
 pub returns-clause-plan_room : goal.returns-clause-plan_room
 returns-clause-plan_room c =

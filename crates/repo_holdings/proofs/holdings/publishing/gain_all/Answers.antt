@@ -1,16 +1,55 @@
-use Rattle.std.proofs.Common.{◌≡◌, List, ℕ, ◌+◌, ◌-◌, length, sym, ap, ◌∙◌, subst, arith}
-use Rattle.std.specs.Prelude.{IsOk}
+use Rattle.std.proofs.Common.{List, ℕ, ◌+◌, length, Option, Some, sym, ap, ◌∙◌, subst, arith}
+use Rattle.std.specs.Prelude.{IsOk, IfSome}
 use Rattle.std.specs.List.{All}
 use Rattle.std.specs.Vec.Iter.{into_iter_items}
 use Rattle.std.proofs.lemmas.List.Elements.{All-head, All-tail}
 use Rattle.ndn_data.specs.Data.{data_of}
-use Rattle.repo_plan.specs.Parts.{part_of}
+use Rattle.sorted_lists.specs.SortedList.{contains}
+use Rattle.repo_plan.specs.declared.part.Part.{Part}
+use Rattle.repo_plan.specs.declared.shape.Shape.{Shape}
+use Rattle.repo_plan.specs.Parts.{Pair, IsShape, part_cmp, part_of, parts_behind}
 use Rattle.repo_plan.specs.Plan.{PlanState}
 use Rattle.repo_store.specs.StoreList.{StoreList}
+use Rattle.repo_object.proofs.IndexLemmas.{index_few}
+use Rattle.repo_holdings.specs.Gaining.{shape_told}
 use Rattle.repo_holdings.specs.NewPublications.{as_parts, with_packets}
-use Rattle.repo_holdings.proofs.PublishLemmas.{gained_more, not_claimed, room_kept, tells_later, told_first, not_told}
+use Rattle.repo_holdings.proofs.PublishLemmas.{AreToCome, first_listing, gained_none, gained_more, can_ask}
+use Rattle.repo_holdings.proofs.PublishLemmas.{not_claimed, room_kept, told_first, not_told, all_to_come, come_later}
+use Rattle.repo_holdings.proofs.PublishLemmas.{tells_shape, lists_many, count_packets, packets_sized}
 use Rattle.repo_holdings.proofs.holdings.publishing.gain_all.Goals.{then-x-eq0, else-x-eq0}
 use Rattle.repo_holdings.proofs.holdings.publishing.gain_all.Goals as goal
+
+pub loop-packet-init : goal.loop-packet-init
+loop-packet-init c =
+    let pair : Pair = (c.args.publisher, c.args.seq) in
+    let made : List (List ℕ) = c.args.packets.items in
+    let all = c.into_iter-packet-iterator.ensures.into_iter_gives.0 in
+    let fewer = ap (λ (r : List (List ℕ)). length r) all in
+    let count = count_packets c.args.told.now made c.requires.packets.lists in
+    let behind = ap parts_behind c.shape-shape.ensures in
+    record {
+      stored = ap (λ (r : List (List ℕ)). with_packets (as_parts pair 0 r) c.args.store.now.packets) all;
+      tied = c.requires.tied;
+      gained = gained_none c.args.plan.now pair c.shape-shape.result c.requires.new;
+      plan_room = omega (arith, fewer);
+      store_room = omega (arith, fewer);
+      read = subst (All (λ octets. IsOk (data_of octets))) (sym all) c.requires.packets.read;
+      count = omega (arith, fewer, count, behind);
+      come =
+          subst (λ (r : List (List ℕ)). AreToCome c.args.told.now (first_listing made) pair 0 r
+          c.args.store.now.packets) (sym all)
+          (all_to_come c.args.told.now pair made c.args.store.now.packets c.requires.packets.lists);
+    }
+
+pub gain-requires-clause-plan_room : goal.gain-requires-clause-plan_room
+gain-requires-clause-plan_room c =
+    let fewer = ap (λ (r : List (List ℕ)). length r) c.in-Some.ensures.steps.0 in
+    omega (arith, fewer, c.requires.plan_room, c.loop-packet.invariant.plan_room, c.args.packets.ok.0)
+
+pub gain-requires-clause-store_room : goal.gain-requires-clause-store_room
+gain-requires-clause-store_room c =
+    let fewer = ap (λ (r : List (List ℕ)). length r) c.in-Some.ensures.steps.0 in
+    omega (arith, fewer, c.requires.store_room, c.loop-packet.invariant.store_room, c.args.packets.ok.0)
 
 pub gain-requires-clause-data : goal.gain-requires-clause-data
 gain-requires-clause-data c =
@@ -18,15 +57,65 @@ gain-requires-clause-data c =
     All-head (λ octets. IsOk (data_of octets)) c.in-Some.packet _
     (subst (All (λ octets. IsOk (data_of octets))) rest c.loop-packet.invariant.read)
 
+pub gain-requires-clause-told : goal.gain-requires-clause-told
+gain-requires-clause-told c =
+    tells_shape c.args.told.now (first_listing c.args.packets.items) (c.args.publisher, c.args.seq) c.loop-packet.x
+    c.in-Some.packet (into_iter_items c.next.new.self) c.loop-packet.store.packets
+    (subst (λ (r : List (List ℕ)). AreToCome c.args.told.now (first_listing c.args.packets.items)
+    (c.args.publisher, c.args.seq) c.loop-packet.x r c.loop-packet.store.packets) c.in-Some.ensures.steps.0
+    c.loop-packet.invariant.come)
+    c.if-x-eq0.shape
+    (elim c.if-x-eq0.branch [
+      | then-x-eq0 w ↦
+          w.shape-is ∙ ap (λ (s : Shape). Some s) c.shape-shape.ensures
+          ∙ sym (ap (told_first (shape_told c.args.told.now)) w.if-x-eq0.true)
+      | else-x-eq0 w ↦ w.shape-is ∙ sym (not_told (shape_told c.args.told.now) c.loop-packet.x w.if-x-eq0.false)
+    ])
+
+pub gain-requires-clause-sized : goal.gain-requires-clause-sized
+gain-requires-clause-sized c = elim c.if-x-eq0.branch [
+  | then-x-eq0 w ↦
+      subst (λ (o : Option Shape). IfSome o IsShape)
+      (sym (w.shape-is ∙ ap (λ (s : Shape). Some s) c.shape-shape.ensures))
+      (packets_sized c.args.told.now c.args.packets.items c.requires.packets.lists)
+  | else-x-eq0 w ↦ subst (λ (o : Option Shape). IfSome o IsShape) (sym w.shape-is) tt
+]
+
+pub gain-requires-clause-lists : goal.gain-requires-clause-lists
+gain-requires-clause-lists c =
+    lists_many c.args.told.now (first_listing c.args.packets.items) (c.args.publisher, c.args.seq) c.loop-packet.x
+    c.in-Some.packet (into_iter_items c.next.new.self) c.loop-packet.store.packets
+    (subst (λ (r : List (List ℕ)). AreToCome c.args.told.now (first_listing c.args.packets.items)
+    (c.args.publisher, c.args.seq) c.loop-packet.x r c.loop-packet.store.packets) c.in-Some.ensures.steps.0
+    c.loop-packet.invariant.come)
+
+pub gain-requires-clause-asked : goal.gain-requires-clause-asked
+gain-requires-clause-asked c =
+    let fewer = ap (λ (r : List (List ℕ)). length r) c.in-Some.ensures.steps.0 in
+    can_ask c.args.plan.now c.loop-packet.plan (c.args.publisher, c.args.seq) c.shape-shape.result c.loop-packet.x
+    c.requires.new c.loop-packet.invariant.gained
+    (subst IsShape (sym c.shape-shape.ensures)
+    (packets_sized c.args.told.now c.args.packets.items c.requires.packets.lists))
+    (omega (arith, fewer, c.loop-packet.invariant.count))
+
 pub gain-requires-clause-not_claimed : goal.gain-requires-clause-not_claimed
 gain-requires-clause-not_claimed c =
     not_claimed _ _ (c.args.publisher, c.args.seq) _ c.loop-packet.x c.requires.new c.loop-packet.invariant.gained
 
-shape_of_part : (c : goal.After-gain) → c.if-x-eq0.segments ≡ told_first (c.len.result - 1) c.loop-packet.x
-shape_of_part c = elim c.if-x-eq0.branch [
-  | then-x-eq0 w ↦ w.segments-is ∙ sym (ap (told_first (c.len.result - 1)) w.if-x-eq0.true)
-  | else-x-eq0 w ↦ w.segments-is ∙ sym (not_told (c.len.result - 1) c.loop-packet.x w.if-x-eq0.false)
-]
+pub overflow_add-x : goal.overflow_add-x
+overflow_add-x c =
+    let fewer = ap (λ (r : List (List ℕ)). length r) c.in-Some.ensures.steps.0 in
+    let sized =
+    subst IsShape (sym c.shape-shape.ensures)
+    (packets_sized c.args.told.now c.args.packets.items c.requires.packets.lists) in
+    omega (
+      arith,
+      fewer,
+      c.loop-packet.invariant.count,
+      sized.index,
+      sized.segments,
+      index_few c.shape-shape.result.segments sized.segments,
+    )
 
 pub loop-packet-preserved : goal.loop-packet-preserved
 loop-packet-preserved c =
@@ -34,18 +123,22 @@ loop-packet-preserved c =
     let fewer = ap (λ (r : List (List ℕ)). length r) rest in
     let inv = c.loop-packet.invariant in
     let later = into_iter_items c.next.new.self in
+    let pair : Pair = (c.args.publisher, c.args.seq) in
     record {
       stored =
-          ap (λ (s : StoreList).
-          with_packets (as_parts (c.args.publisher, c.args.seq) (c.loop-packet.x + 1) later) s.packets)
+          ap (λ (s : StoreList). with_packets (as_parts pair (c.loop-packet.x + 1) later) s.packets)
           c.gain.ensures.store
           ∙ sym (ap (λ (r : List (List ℕ)).
-          with_packets (as_parts (c.args.publisher, c.args.seq) c.loop-packet.x r) c.loop-packet.store.packets) rest)
+          with_packets (as_parts pair c.loop-packet.x r) c.loop-packet.store.packets) rest)
           ∙ inv.stored;
       tied = c.gain.ensures.tied;
       gained =
-          gained_more _ _ (c.args.publisher, c.args.seq) _ c.loop-packet.x c.requires.new inv.gained c.if-x-eq0.segments
-          _ (shape_of_part c) c.gain.ensures.plan;
+          gained_more _ _ pair _ c.loop-packet.x c.requires.new inv.gained c.if-x-eq0.shape _
+          (elim c.if-x-eq0.branch [
+            | then-x-eq0 w ↦ w.shape-is ∙ sym (ap (told_first c.shape-shape.result) w.if-x-eq0.true)
+            | else-x-eq0 w ↦ w.shape-is ∙ sym (not_told c.shape-shape.result c.loop-packet.x w.if-x-eq0.false)
+          ])
+          c.gain.ensures.plan;
       plan_room =
           omega (
             arith,
@@ -53,7 +146,7 @@ loop-packet-preserved c =
             c.requires.plan_room,
             inv.plan_room,
             ap (λ (p : PlanState). p.spare) c.gain.ensures.plan,
-            room_kept (part_of (c.args.publisher, c.args.seq) c.loop-packet.x) c.if-x-eq0.segments c.loop-packet.plan,
+            room_kept (part_of pair c.loop-packet.x) c.if-x-eq0.shape c.loop-packet.plan,
           );
       store_room =
           omega (
@@ -67,5 +160,12 @@ loop-packet-preserved c =
           All-tail (λ octets. IsOk (data_of octets)) c.in-Some.packet _
           (subst (All (λ octets. IsOk (data_of octets))) rest inv.read);
       count = omega (arith, fewer, inv.count);
-      told = tells_later _ c.loop-packet.x later;
+      come =
+          come_later c.args.told.now (first_listing c.args.packets.items) pair c.loop-packet.x c.in-Some.packet later
+          c.loop-packet.store.packets
+          (subst (λ (r : List (List ℕ)). AreToCome c.args.told.now (first_listing c.args.packets.items) pair
+          c.loop-packet.x r c.loop-packet.store.packets) rest inv.come)
+          c.gain.new.store.packets (ap (λ (s : StoreList). s.packets) c.gain.ensures.store)
+          (ap (λ (ts : List Part). contains part_cmp ts (part_of pair c.loop-packet.x)) (sym inv.tied.held)
+          ∙ inv.gained.fresh c.loop-packet.x (omega arith));
     }

@@ -3,9 +3,10 @@ use Rattle.std.specs.Prelude.{IsOk}
 use Rattle.std.specs.List.{All}
 use Rattle.std.specs.Vec.Iter.{into_iter_items}
 use Rattle.ndn_data.specs.Data.{data_of}
+use Rattle.repo_plan.specs.Parts.{parts_behind}
 use Rattle.repo_holdings.specs.NewPublications.{as_parts, with_packets}
 use Rattle.repo_holdings.specs.Gaining.{AreTied}
-use Rattle.repo_holdings.proofs.PublishLemmas.{HasGained, TellsTheRest}
+use Rattle.repo_holdings.proofs.PublishLemmas.{HasGained, AreToCome, first_listing}
 use Rattle.repo_holdings.proofs.holdings.publishing.gain_all.Given as goal
 
 abbrev pub invariant-loop-packet : goal.invariant-loop-packet
@@ -14,10 +15,10 @@ invariant-loop-packet l =
       stored : with_packets (as_parts (l.publisher, l.seq) l.x rest) l.store.packets
           ≡ with_packets (as_parts (l.publisher, l.seq) 0 l.fn.packets.items) l.initial.store.packets;
       tied : AreTied l.plan l.store.packets;
-      gained : HasGained l.initial.plan l.plan (l.publisher, l.seq) l.segments l.x;
+      gained : HasGained l.initial.plan l.plan (l.publisher, l.seq) l.shape l.x;
       plan_room : l.plan.spare + length l.fn.packets.items ≡ l.initial.plan.spare + length rest;
       store_room : l.store.spare + length l.fn.packets.items ≡ l.initial.store.spare + length rest;
       read : All (λ octets. IsOk (data_of octets)) rest;
-      count : l.x + length rest ≡ l.segments + 1;
-      told : TellsTheRest l.segments l.x rest;
+      count : l.x + length rest ≡ parts_behind l.shape + 1;
+      come : AreToCome l.told (first_listing l.fn.packets.items) (l.publisher, l.seq) l.x rest l.store.packets;
     }

@@ -6,7 +6,7 @@ use Rattle.std.specs.Vec.Iter.{into_iter_items}
 use Rattle.std.proofs.lemmas.List.Elements.{All-head, All-tail}
 use Rattle.std.proofs.lemmas.List.Sums.{sum_by-cons}
 use Rattle.repo_holdings.specs.declared.holdings.taking.Tried.{Tried}
-use Rattle.repo_holdings.specs.declared.holdings.gaining.Arrival.{Arrival}
+use Rattle.repo_holdings.specs.declared.told.Arrival.{Arrival}
 use Rattle.repo_holdings.specs.Records.{Packet}
 use Rattle.repo_holdings.specs.Contents.{IsDigestIn}
 use Rattle.repo_holdings.specs.Taking.{came, arrival_octets, CanBeTaken, AreTakable, with_fetched, with_all_fetched}
@@ -30,6 +30,17 @@ take_one-came-requires-clause-fresh_room c =
     let fewer = ap (λ (r : List Tried). length r) c.in-Some.ensures.steps.0 in
     let before = c.loop-tried.invariant in
     omega (arith, fewer, before.few_fresh, before.fresh_room, c.requires.fresh_room, c.args.all.ok.0)
+
+pub take_one-came-requires-clause-notes_room : goal.take_one-came-requires-clause-notes_room
+take_one-came-requires-clause-notes_room c =
+    let fewer = ap (λ (r : List Tried). length r) c.in-Some.ensures.steps.0 in
+    omega (arith, fewer, c.loop-tried.invariant.notes_room, c.requires.notes_room, c.args.all.ok.0)
+
+pub take_one-came-requires-clause-gone_room : goal.take_one-came-requires-clause-gone_room
+take_one-came-requires-clause-gone_room c =
+    let fewer = ap (λ (r : List Tried). length r) c.in-Some.ensures.steps.0 in
+    let before = c.loop-tried.invariant in
+    omega (arith, fewer, before.few_gone, before.gone_room, c.requires.gone_room, c.args.all.ok.0)
 
 -- what is told of all that will be stored is true with one packet more
 pub take_one-came-requires-clause-digests : goal.take_one-came-requires-clause-digests
@@ -93,9 +104,13 @@ loop-tried-preserved c =
       others =
           keeps_on c.args.plan.now c.loop-tried.plan c.take_one-came.new.plan inv.others c.take_one-came.ensures.others;
       tied = c.take_one-came.ensures.tied;
+      noted = c.take_one-came.ensures.noted;
       listed = λ entries was. c.take_one-came.ensures.listed entries (inv.listed entries was);
       plan_room = omega (arith, fewer, inv.plan_room, c.take_one-came.ensures.plan_room);
       store_room = omega (arith, fewer, inv.store_room, c.take_one-came.ensures.store_room);
+      notes_room = omega (arith, fewer, inv.notes_room, c.take_one-came.ensures.notes_room);
+      few_gone = omega (arith, fewer, inv.few_gone, c.take_one-came.ensures.few_gone);
+      gone_room = omega (arith, inv.gone_room, c.take_one-came.ensures.gone_room);
       few_fresh = omega (arith, fewer, inv.few_fresh, c.take_one-came.ensures.few_fresh);
       fresh_room = omega (arith, inv.fresh_room, c.take_one-came.ensures.fresh_room);
       takable = record {

@@ -7,6 +7,7 @@ use Rattle.std.proofs.lemmas.Bool.{true≢false, lt-ltb}
 use Rattle.std.proofs.lemmas.List.{length-map}
 use Rattle.sorted_lists.specs.SortedList.{value_of}
 use Rattle.repo_object.specs.Objects.{NamedContents, IsContent, IsObject}
+use Rattle.repo_object.specs.Objects.Post.{Offers}
 use Rattle.repo_object.proofs.Packing.{are_contents}
 use Rattle.repo_process.specs.Processes.{Process, BlockState, closed, has_block, object_of, without_block}
 use Rattle.repo_process.specs.Processes.BlockState.{Already, Whole}
@@ -289,12 +290,12 @@ returns-in-Ok-publish_object-clause-ok c =
     c.completes-is_last.ensures.ordered)
     ∙ ap (alone_keeps c.args.process (closed last.0)) c.self.view_is in
     c.in-Ok-publish_object.ensures.ok
-    ∙ ap (λ (o : NamedContents). alone_publishes c.args.g.now o c.args.now c.args.draw
+    ∙ ap (λ (o : NamedContents). alone_publishes c.args.g.now (Offers o) c.args.now c.args.draw
     (alone (record c.self.inside { processes = c.hand_over.new.self }))) (object_is c last.0 last.1)
-    ∙ ap (alone_publishes c.args.g.now (object_of last.0) c.args.now c.args.draw) keeps
+    ∙ ap (alone_publishes c.args.g.now (Offers (object_of last.0)) c.args.now c.args.draw) keeps
     ∙ sym (ap (after_block c.args.g.now c.args.process c.args.now c.args.draw a) state
     ∙ ap (λ (b : Bool). cond b
-    (alone_publishes c.args.g.now (object_of last.0) c.args.now c.args.draw
+    (alone_publishes c.args.g.now (Offers (object_of last.0)) c.args.now c.args.draw
     (alone_keeps c.args.process (closed last.0) a)) a) (lt-ltb (length a.log) 65535 room))
 
 pub returns-in-Ok-publish_object-clause-object : goal.returns-in-Ok-publish_object-clause-object

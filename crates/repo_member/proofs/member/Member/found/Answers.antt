@@ -9,7 +9,7 @@ use Rattle.std.proofs.lemmas.List.Elements.{All-push, All-nil}
 use Rattle.std.specs.List.{All}
 use Rattle.ndn_name.specs.Names.{Component}
 use Rattle.sorted_lists.specs.SortedList.{Rises}
-use Rattle.repo_plan.specs.Parts.{Pair, pair_cmp}
+use Rattle.repo_plan.specs.Parts.{Pair, pair_cmp, parts_behind}
 use Rattle.repo_plan.specs.Plan.{knows, claims_part_in}
 use Rattle.repo_plan.specs.Sound.{PlanIsSound}
 use Rattle.repo_catalog.specs.declared.entry.Entry.{Entry}
@@ -17,7 +17,7 @@ use Rattle.repo_catalog.specs.Entries.{entry_of, all_named}
 use Rattle.group_model.proofs.Lists.{in_at}
 use Rattle.sorted_lists.proofs.Sets.{In}
 use Rattle.repo_holdings.specs.HoldingsState.{held_plan}
-use Rattle.repo_holdings.specs.Listed.{entry_at, alone_catalogue}
+use Rattle.repo_holdings.specs.Listed.{entry_at, alone_catalogue, is_withdrawal}
 use Rattle.repo_holdings.specs.Hiding.{outside_all}
 use Rattle.repo_holdings.proofs.CatalogueLemmas.{entry_of_alone, alone_in_order}
 use Rattle.repo_member.specs.declared.member.Member.TheInside.{Inside}
@@ -91,6 +91,7 @@ loop-publisher-init c = record {
   left = c.len-left.ensures ∙ ap (λ (a : Alone). length a.store) c.self.view_is;
   known = All-nil (λ pair. knows (alone_plan c.args.self.now) pair ≡ true);
   unclaimed = All-nil (λ pair. claims_part_in (alone_plan c.args.self.now) pair ≡ false);
+  objects = All-nil (λ pair. is_withdrawal c.args.self.now.store pair ≡ false);
 }
 
 pub unwrap-entry-requires : goal.unwrap-entry-requires
@@ -111,6 +112,26 @@ prove-unreachable-requires c =
     c.loop-publisher-test.true c.catalogue-catalogue.ensures c.entry.ensures c.unwrap-entry.ensures in
     true≢false (sym at.held ∙ sym c.holds-held.ensures.held ∙ c.if-prove.true)
 
+pub overflow_cast-entry : goal.overflow_cast-entry
+overflow_cast-entry c =
+    let at =
+    named_at c.self.inside c.args.name.now c.deref-publisher-items.result.now c.loop-publisher.publisher-index _
+    c.entry.result c.unwrap-entry.result c.self.invariant c.holds-held.ensures.sound
+    (are_named c.self.inside c.args.name.now c.view.result c.deref-publisher-items.result.now _ _
+    c.deref-publisher-items.ensures.value c.in_ok-publications.ensures c.view.ensures c.catalogue-catalogue.ensures)
+    c.loop-publisher-test.true c.catalogue-catalogue.ensures c.entry.ensures c.unwrap-entry.ensures in
+    omega (arith, at.few)
+
+pub of-requires : goal.of-requires
+of-requires c =
+    let at =
+    named_at c.self.inside c.args.name.now c.deref-publisher-items.result.now c.loop-publisher.publisher-index _
+    c.entry.result c.unwrap-entry.result c.self.invariant c.holds-held.ensures.sound
+    (are_named c.self.inside c.args.name.now c.view.result c.deref-publisher-items.result.now _ _
+    c.deref-publisher-items.ensures.value c.in_ok-publications.ensures c.view.ensures c.catalogue-catalogue.ensures)
+    c.loop-publisher-test.true c.catalogue-catalogue.ensures c.entry.ensures c.unwrap-entry.ensures in
+    at.few
+
 pub overflow_sub-left : goal.overflow_sub-left
 overflow_sub-left c =
     let pairs : List Pair = c.deref-publisher-items.result.now in
@@ -124,7 +145,7 @@ overflow_sub-left c =
     let here : c.loop-publisher.left ≡ length (outside_all (take i pairs) c.self.inside.held.store) =
     c.loop-publisher.invariant.left
     ∙ ap (λ (a : Alone). length (outside_all (take i pairs) a.store)) (sym c.self.view_is) in
-    omega (arith, here, at.fewer)
+    omega (arith, here, at.fewer, c.parts_behind.ensures, ap parts_behind c.of.ensures.shape)
 
 pub loop-publisher-preserved : goal.loop-publisher-preserved
 loop-publisher-preserved c =
@@ -146,7 +167,7 @@ loop-publisher-preserved c =
     ap (λ (ps : List Pair). length (outside_all ps c.args.self.now.store)) more
     ∙ ap (λ (a : Alone). length (outside_all (take i pairs ++ pair ∷ []) a.store)) (sym c.self.view_is) in
     record {
-      left = omega (arith, here, there, at.fewer);
+      left = omega (arith, here, there, at.fewer, c.parts_behind.ensures, ap parts_behind c.of.ensures.shape);
       known =
           subst (All (λ (q : Pair). knows (alone_plan c.args.self.now) q ≡ true)) (sym more)
           (All-push (λ (q : Pair). knows (alone_plan c.args.self.now) q ≡ true) (take i pairs) pair before.known
@@ -156,6 +177,10 @@ loop-publisher-preserved c =
           (All-push (λ (q : Pair). claims_part_in (alone_plan c.args.self.now) q ≡ false) (take i pairs) pair
           before.unclaimed
           (unclaimed_alone c.self.inside c.args.self.now pair c.self.view_is at.unclaimed));
+      objects =
+          subst (All (λ (q : Pair). is_withdrawal c.args.self.now.store q ≡ false)) (sym more)
+          (All-push (λ (q : Pair). is_withdrawal c.args.self.now.store q ≡ false) (take i pairs) pair before.objects
+          (ap (λ (a : Alone). is_withdrawal a.store pair) (sym c.self.view_is) ∙ at.object));
     }
 
 pub overflow_sub-result : goal.overflow_sub-result

@@ -6,6 +6,7 @@ use Rattle.repo_plan.specs.Parts.{pair_cmp}
 use Rattle.svs_sync.specs.KeptVector.{Keeper}
 use Rattle.repo_holdings.specs.HoldingsState.{HoldingsState, AreInOrder}
 use Rattle.repo_process.specs.Insertions.{Insertions}
+use Rattle.repo_member.specs.Posts.{posts_of, IsKeptLog}
 use Rattle.repo_member.specs.Members.{AreWaiting}
 use Rattle.repo_member.proofs.member.Member.new.Goals as goal
 
@@ -24,13 +25,15 @@ invariant_of-result c =
         own =
             ap (λ (v : List ℕ). slice_index v c.args.number) known
             ∙ get_or-replicate n c.args.number zero_number 0 inside
-            ∙ sym (ap length c.new.ensures.items);
+            ∙ sym (ap (λ log. length (posts_of log)) c.new.ensures.items);
         width = ap (λ (m : Keeper). m.members) c.in_ok-new-2.ensures ∙ sym wide;
         in_order = subst AreInOrder (sym held) tt;
         hidden =
             λ pair h. absurd (true≢false (sym h ∙ ap (λ (x : HoldingsState). contains pair_cmp x.hidden pair) held));
       };
       known = ap (λ (x : HoldingsState). x.known) held ∙ sym known;
+      log = subst IsKeptLog (sym c.new.ensures.items)
+          (record { posts = λ i post h. absurd cc; marked = λ i post h. absurd cc });
       waiting =
           subst (λ (i : Insertions). AreWaiting i.processes) (sym c.new-5.ensures) (λ number p found waits. absurd cc);
     }

@@ -1,4 +1,5 @@
-use Rattle.std.proofs.Common.{◌≡◌, inl, inr, List, length, map, ◌++◌, sym, ap, ◌∙◌, subst, refl, option_map, arith}
+use Rattle.std.proofs.Common.{◌≡◌, inl, inr, List, map, ◌++◌, sym, ap, ◌∙◌, subst, refl, Option, option_map}
+use Rattle.std.proofs.Common.{arith}
 use Rattle.std.specs.Prelude.{IfSome}
 use Rattle.std.specs.List.{All}
 use Rattle.std.specs.Slice.Iter.{iter_rest}
@@ -6,18 +7,15 @@ use Rattle.std.specs.Iterator.Adapters.{zip_first, zip_second}
 use Rattle.std.proofs.lemmas.List.{append-nil}
 use Rattle.std.proofs.lemmas.List.Elements.{All-push}
 use Rattle.repo_object.specs.Verdict.{CheckedPart}
-use Rattle.repo_holdings.specs.declared.holdings.gaining.Arrival.{Arrival}
+use Rattle.repo_holdings.specs.declared.told.Arrival.{Arrival}
 use Rattle.repo_holdings.specs.declared.holdings.taking.Tried.{Tried}
-use Rattle.repo_holdings.specs.Records.{Packet}
-use Rattle.repo_holdings.specs.StoredRecords.{IsStored}
-use Rattle.repo_member.specs.Alone.{Alone, alone_plan}
-use Rattle.repo_member.proofs.MemberLemmas.{asked_of}
+use Rattle.repo_member.specs.Alone.{alone_plan}
 use Rattle.repo_holdings.specs.Taking.{Fetched}
 use Rattle.repo_holdings.specs.Gaining.{IsArrival}
-use Rattle.repo_member.specs.Outcomes.{outcome_of}
+use Rattle.repo_member.specs.Outcomes.{outcome_of, IsCheckedFor}
 use Rattle.repo_holdings.specs.Taking.{came, CanBeTaken}
-use Rattle.repo_member.proofs.OutcomeLemmas.{IsSmallPart, nothing_left, first_fetched, one_more, fetched_asked}
-use Rattle.repo_member.proofs.OutcomeLemmas.{can_be_taken, all_apart, few_tried, all_counted, all_octets}
+use Rattle.repo_member.proofs.OutcomeLemmas.{arrives, nothing_left, first_fetched, one_more, can_be_taken}
+use Rattle.repo_member.proofs.OutcomeLemmas.{all_apart, all_counted, all_octets, all_tried}
 use Rattle.repo_member.proofs.member.Member.tried.Goals.{in-Some-checked+in_ok-arrived-in-Some-checked, in-None-checked}
 use Rattle.repo_member.proofs.member.Member.tried.Goals as goal
 
@@ -26,35 +24,28 @@ same_packet : (c : goal.In_ok-push)
     ≡ option_map (λ (k : CheckedPart). k.octets) c.in-Some.checked.now
 same_packet c = elim c.match-checked.branch [
   | in-Some-checked+in_ok-arrived-in-Some-checked w ↦
-      rw (w.arrival-is, w.in-Some-checked.is, w.in_ok-arrived-in-Some-checked.ensures.octets, w.octets.ensures.same)
-      refl
+      rw (w.arrival-is, w.in-Some-checked.is, w.in_ok-arrived-in-Some-checked.ensures.octets) refl
   | in-None-checked w ↦ rw (w.arrival-is, w.in-None-checked.is) refl
 ]
 
-arrived_here : (c : goal.In_ok-push)
-    → IfSome c.match-checked.arrival
-    (λ a. IsArrival c.self.inside.held.store c.part-part.result a.packet a.segments a.name)
-arrived_here c = elim c.match-checked.branch [
-  | in-Some-checked+in_ok-arrived-in-Some-checked w ↦ rw w.arrival-is w.in_ok-arrived-in-Some-checked.ensures.arrival
-  | in-None-checked w ↦ rw w.arrival-is tt
-]
-
 arrived : (c : goal.In_ok-push)
-    → IfSome c.match-checked.arrival
-    (λ a. IsArrival c.args.self.now.store c.part-part.result a.packet a.segments a.name)
-arrived c = subst (λ (store : List Packet). IfSome c.match-checked.arrival
-    (λ a. IsArrival store c.part-part.result a.packet a.segments a.name)) (ap (λ (a : Alone). a.store) c.self.view_is)
-    (arrived_here c)
-
-pub record_for-stored-requires-clause-asked : goal.record_for-stored-requires-clause-asked
-record_for-stored-requires-clause-asked c =
+    → IfSome c.match-checked.arrival (λ a. IsArrival c.args.self.now.store c.part.result a.packet a.told)
+arrived c =
     let steps = c.in-Some.ensures.steps in
     let is =
     first_fetched c.args.g.now c.args.self.now c.in-Some.job.now c.in-Some.checked.now c.in-Some.tries.now _ _ _ _ _ _
     steps.0.0 steps.0.1 steps.1 c.loop-job.invariant.rest in
-    asked_of c.self.inside c.args.self.now c.part-part.result c.self.invariant c.self.view_is
-    (fetched_asked c.args.g.now c.args.self.now c.in-Some.job.now c.in-Some.checked.now c.in-Some.tries.now
-    c.part-part.result is.0 c.part-part.ensures)
+    elim c.match-checked.branch [
+      | in-Some-checked+in_ok-arrived-in-Some-checked w ↦
+          let checked =
+          subst (λ (o : Option CheckedPart). IfSome o (IsCheckedFor c.args.g.now c.in-Some.job.now.want))
+          w.in-Some-checked.is is.0.checked in
+          rw (w.arrival-is, c.part.ensures)
+          (arrives c.args.g.now c.args.self.now c.in-Some.job.now.want.part
+          w.in-Some-checked.checked _ _ (checked.same ∙ is.0.wanted)
+          w.in_ok-arrived-in-Some-checked.ensures.arrival)
+      | in-None-checked w ↦ rw w.arrival-is tt
+    ]
 
 pub loop-job-preserved : goal.loop-job-preserved
 loop-job-preserved c =
@@ -64,32 +55,25 @@ loop-job-preserved c =
     first_fetched c.args.g.now c.args.self.now c.in-Some.job.now c.in-Some.checked.now c.in-Some.tries.now _ _ _ _ _ _
     steps.0.0 steps.0.1 steps.1 inv.rest in
     let one : Tried =
-    record { part = c.part-part.result; attempts = c.in-Some.tries.now; arrival = c.match-checked.arrival } in
+    record { part = c.part.result; attempts = c.in-Some.tries.now; arrival = c.match-checked.arrival } in
     let later = iter_rest (zip_first (zip_first c.next.new.self)) in
     let behind = iter_rest (zip_second (zip_first c.next.new.self)) in
     let rest = iter_rest (zip_second c.next.new.self) in
     let can =
     can_be_taken c.args.g.now c.args.self.now c.in-Some.job.now c.in-Some.checked.now c.in-Some.tries.now one is.0
-    c.part-part.ensures refl (arrived c) in
+    c.part.ensures refl (arrived c) in
     let pushed = c.in_ok-push.ensures.items in
     record {
       came =
           ap (λ (xs : List Tried). map came xs ++ outcome_of later behind rest) pushed
           ∙ one_more c.args.g.now c.args.self.now c.in-Some.job.now c.in-Some.checked.now c.in-Some.tries.now one _ _ _
-          _ _ _ c.loop-job.all.items steps.0.0 steps.0.1 steps.1 c.part-part.ensures (same_packet c) refl
+          _ _ _ c.loop-job.all.items steps.0.0 steps.0.1 steps.1 c.part.ensures (same_packet c) refl
           ∙ inv.came;
       can =
           subst (All (CanBeTaken (alone_plan c.args.self.now) c.args.self.now.store)) (sym pushed)
           (All-push (CanBeTaken (alone_plan c.args.self.now) c.args.self.now.store) c.loop-job.all.items one inv.can
           can);
-      small =
-          subst (All (λ (x : Tried). IsSmallPart x.part)) (sym pushed)
-          (All-push (λ (x : Tried). IsSmallPart x.part) c.loop-job.all.items one inv.small
-          (record { seq = omega (arith, c.part-part.type_inv); part = omega (arith, c.part-part.type_inv) }));
       rest = is.1;
-      stored =
-          subst (λ (store : List Packet). IfSome c.record_for-stored.result (IsStored store))
-          (ap (λ (a : Alone). a.store) c.self.view_is) c.record_for-stored.ensures.stored;
     }
 
 came_all : (c : goal.In-None)
@@ -119,13 +103,10 @@ returns-clause-takable c = record {
 
 pub returns-clause-few : goal.returns-clause-few
 returns-clause-few c =
-    let few =
-    few_tried c.args.g.now c.args.self.now c.args.jobs.now c.args.parts.now c.args.attempts.now c.requires.outcome
-    c.loop-job.all.items (came_all c)
-    c.args.self.now.store c.loop-job.invariant.small c.loop-job.invariant.can in
-    let members = c.len-members.ensures.len in
-    let roster = ap (λ names. length names) c.roster.ensures.names in
-    omega (arith, few, members, roster, c.len-members.ensures.few, c.requires.group)
+    let many =
+    all_tried c.args.g.now c.args.self.now c.args.jobs.now c.args.parts.now c.args.attempts.now c.requires.outcome
+    c.loop-job.all.items (came_all c) in
+    omega (arith, many, c.requires.few, c.loop-job.all.ok)
 
 pub returns-clause-parts : goal.returns-clause-parts
 returns-clause-parts c =

@@ -1,14 +1,10 @@
 use Rattle.std.proofs.Common.{◌≡◌, ◌++◌, map}
-use Rattle.std.specs.Prelude.{IfSome}
 use Rattle.std.specs.List.{All}
 use Rattle.std.specs.Slice.Iter.{iter_rest}
 use Rattle.std.specs.Iterator.Adapters.{zip_first, zip_second}
-use Rattle.repo_holdings.specs.declared.holdings.taking.Tried.{Tried}
 use Rattle.repo_member.specs.Alone.{alone_plan}
-use Rattle.repo_holdings.specs.StoredRecords.{IsStored}
 use Rattle.repo_member.specs.Outcomes.{AreFetched, outcome_of}
 use Rattle.repo_holdings.specs.Taking.{came, CanBeTaken}
-use Rattle.repo_member.proofs.OutcomeLemmas.{IsSmallPart}
 use Rattle.repo_member.proofs.member.Member.tried.Given as goal
 
 abbrev pub invariant-loop-job : goal.invariant-loop-job
@@ -18,7 +14,5 @@ invariant-loop-job l =
     let attempts = iter_rest (zip_second l.job-iterator) in record {
       came : map came l.all.items ++ outcome_of jobs parts attempts ≡ outcome_of l.jobs l.parts l.attempts;
       can : All (CanBeTaken (alone_plan l.self) l.self.store) l.all.items;
-      small : All (λ (x : Tried). IsSmallPart x.part) l.all.items;
       rest : AreFetched l.g l.self jobs parts attempts;
-      stored : IfSome l.stored (IsStored l.self.store);
     }

@@ -12,7 +12,7 @@ returns-then-is_some c =
     let pair : Pair = (c.args.publisher, c.args.seq) in
     let some =
     c.if-is_some.ensures
-    ∙ ap is_some c.segments.ensures
+    ∙ ap is_some c.shape.ensures.shape
     ∙ ap (λ (p : PlanState). is_some (shape_of p pair)) (sym c.self.view_is) in
     c.contains.ensures
     ∙ ap (λ (b : Bool). b && has_number nat_cmp c.self.inside.done pair) some

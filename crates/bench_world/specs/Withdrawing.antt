@@ -1,0 +1,11 @@
+-- Why a withdrawal is not carried out.
+use Rattle.repo_member.specs.declared.refusals.WithdrawRefusal.{WithdrawRefusal}
+use Rattle.repo_member.specs.declared.refusals.WithdrawRefusal.TheVariants.{NoSuchNumber, NumbersSpent, NoMemory}
+use Rattle.bench_world.specs.declared.event.StepFault.{StepFault}
+use Rattle.bench_world.specs.declared.event.StepFault.TheVariants as fault
+
+-- What is told of it, by why its member refuses it.
+abbrev pub withdraw_fault : WithdrawRefusal → StepFault
+withdraw_fault (NoSuchNumber seq) = fault.Refused 14
+withdraw_fault (NumbersSpent log) = fault.Refused 8
+withdraw_fault NoMemory = fault.NoMemory

@@ -1,0 +1,29 @@
+-- What deletions hide.
+use Rattle.std.specs.Prelude.{ℕ, ◌≡◌, ◌<◌, true, length, is_some}
+use Rattle.repo_plan.specs.Parts.{Pair}
+use Rattle.repo_object.specs.Objects.{offered}
+use Rattle.group_model.specs.Publications.{Logs, post_at}
+use Rattle.group_model.specs.Member.{member_hides}
+use Rattle.group_model.specs.Events.{Event}
+use Rattle.group_model.specs.World.{Outside, World, member, logs, opening_world}
+use Rattle.group_model.specs.Steps.{after_event}
+use Rattle.group_model.specs.Sound.{IsPublished}
+use Rattle.group_model.specs.Refusals.{EventIsTaken}
+
+-- There is such a publication, and it is an object.
+pub record IsOffered (logs : Logs) (pair : Pair) : Type 0 where
+  pub published : IsPublished logs pair
+  pub object : is_some (offered (post_at logs pair)) ≡ true
+
+-- Each hidden publication is one, and so no withdrawal is hidden.
+abbrev pub OnlyObjectsHidden : World → Type 0
+OnlyObjectsHidden w = (j : ℕ) (pair : Pair) → j < length w.members → member_hides (member w j) pair ≡ true
+    → IsOffered (logs w) pair
+
+-- So it is in a group in which nothing has happened, and it stays so after any event that is taken.
+abbrev pub BeginsWithObjectsHidden : Type 0
+BeginsWithObjectsHidden = (out : Outside) (n : ℕ) → OnlyObjectsHidden (opening_world out n)
+
+abbrev pub StaysWithObjectsHidden : Outside → World → Type 0
+StaysWithObjectsHidden out w = (e : Event) → EventIsTaken out w e → OnlyObjectsHidden w
+    → OnlyObjectsHidden (after_event out w e)

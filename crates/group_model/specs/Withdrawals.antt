@@ -1,0 +1,32 @@
+-- What withdrawals are of.
+use Rattle.std.specs.Prelude.{ℕ, ◌≡◌, ◌≤◌, ◌<◌, true, is_some}
+use Rattle.repo_plan.specs.Parts.{Pair}
+use Rattle.repo_object.specs.Objects.{offered, withdraws_number}
+use Rattle.group_model.specs.Publications.{Logs, post_at}
+use Rattle.group_model.specs.Events.{Event}
+use Rattle.group_model.specs.World.{Outside, World, logs, opening_world}
+use Rattle.group_model.specs.Steps.{after_event}
+use Rattle.group_model.specs.Sound.{IsPublished}
+use Rattle.group_model.specs.Refusals.{EventIsTaken}
+
+-- What was published under this pair withdraws that number of its publisher's rightly: an object was published under
+-- it, before, and nothing else withdraws it.
+pub record WithdrawsRightly (logs : Logs) (pair : Pair) (seq : ℕ) : Type 0 where
+  pub from_one : 1 ≤ seq
+  pub earlier : seq < pair.1
+  pub object : is_some (offered (post_at logs (pair.0, seq))) ≡ true
+  pub once : (u : ℕ) → IsPublished logs (pair.0, u) → withdraws_number (post_at logs (pair.0, u)) seq ≡ true
+      → u ≡ pair.1
+
+-- So does every withdrawal.
+abbrev pub AllWithdrawRightly : Logs → Type 0
+AllWithdrawRightly logs = (pair : Pair) (seq : ℕ) → IsPublished logs pair
+    → withdraws_number (post_at logs pair) seq ≡ true → WithdrawsRightly logs pair seq
+
+-- So it is in a group in which nothing has happened, and it stays so after any event that is taken.
+abbrev pub BeginsRightly : Type 0
+BeginsRightly = (out : Outside) (n : ℕ) → AllWithdrawRightly (logs (opening_world out n))
+
+abbrev pub StaysRightly : Outside → World → Type 0
+StaysRightly out w = (e : Event) → EventIsTaken out w e → AllWithdrawRightly (logs w)
+    → AllWithdrawRightly (logs (after_event out w e))

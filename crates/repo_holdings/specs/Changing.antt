@@ -1,0 +1,49 @@
+-- How notes and catalogues change by what is stored newly of one publication.
+use Rattle.std.specs.Prelude.{◌≡◌, Bool, false, List, Option, Some, None, if◌then◌else◌}
+use Rattle.std.specs.Ordering.{eq_by_cmp}
+use Rattle.sorted_lists.specs.SortedList.{contains, value_of}
+use Rattle.repo_plan.specs.Parts.{Pair, pair_cmp}
+use Rattle.repo_object.specs.Publication.{Listed}
+use Rattle.repo_catalog.specs.declared.entry.Entry.{Entry}
+use Rattle.repo_catalog.specs.Entries.{with_entry, without}
+use Rattle.repo_holdings.specs.declared.changes.Change.{Change}
+use Rattle.repo_holdings.specs.declared.changes.Change.TheVariants.{Nothing, Lists, Removes}
+use Rattle.repo_holdings.specs.declared.told.Told.{Told}
+use Rattle.repo_holdings.specs.declared.told.Told.TheVariants.{Object, Withdrawal}
+use Rattle.repo_holdings.specs.Records.{Packet}
+use Rattle.repo_holdings.specs.Listed.{listing_at, whole_at, is_withdrawn}
+use Rattle.repo_holdings.specs.Noted.{NotesState}
+
+-- the catalogue after a change
+abbrev pub changed : Change → List Entry → List Entry
+changed Nothing entries = entries
+changed (Lists e) entries = with_entry e entries
+changed (Removes publisher seq) entries = without (publisher, seq) entries
+
+-- whether a publication is withdrawn by what is told of another
+abbrev pub withdraws_too : Pair → Option Told → Pair → Bool
+withdraws_too pair None q = false
+withdraws_too pair (Some (Object shape name)) q = false
+withdraws_too pair (Some (Withdrawal seq)) q = eq_by_cmp pair_cmp q (pair.0, seq)
+
+-- an entry is listed, if there is one
+abbrev pub lists_entry : Option Entry → Change
+lists_entry None = Nothing
+lists_entry (Some e) = Lists e
+
+-- what changes by what is told newly of a publication: what it withdraws is removed, unless that was withdrawn before,
+-- and else its own entry is listed, if there is one
+abbrev pub change_by : List Pair → Pair → Option Told → Option Entry → Change
+change_by withdrawn pair None entry = lists_entry entry
+change_by withdrawn pair (Some (Object shape name)) entry = lists_entry entry
+change_by withdrawn pair (Some (Withdrawal seq)) entry =
+    if contains pair_cmp withdrawn (pair.0, seq) then Nothing else Removes pair.0 seq
+
+-- the notes after that: the publications that are withdrawn, the publication's name as long as it is not stored wholly,
+-- and the others' names
+pub record AreNotedWith (pair : Pair) (packets : List Packet) (old new : NotesState) : Type 0 where
+  pub withdrawn : (q : Pair) → contains pair_cmp new.withdrawn q ≡ is_withdrawn packets q
+  pub name : (l : Listed) → listing_at packets pair ≡ Some l → whole_at packets pair ≡ None
+      → value_of pair_cmp new.names pair ≡ Some l.name
+  pub others : (q : Pair) → eq_by_cmp pair_cmp pair q ≡ false
+      → value_of pair_cmp new.names q ≡ value_of pair_cmp old.names q

@@ -1,0 +1,120 @@
+// How a catalogue changes by what is stored newly of one publication.
+ghost use Rattle.std.specs.Prelude.{◌≡◌, ◌+◌, ◌<◌, ◌≤◌, ◌||◌, Some, None, IfSome, IsSomeAnd, option_map};
+ghost use Rattle.std.specs.List.{All};
+ghost use Rattle.sorted_lists.specs.SortedList.{contains, value_of};
+ghost use Rattle.repo_plan.specs.Parts.{Pair, pair_cmp};
+ghost use Rattle.repo_holdings.specs.Listed.{listing_at, said_at, entry_at, is_withdrawn};
+ghost use Rattle.repo_holdings.specs.Contents.{IsDigestIn};
+ghost use Rattle.repo_holdings.specs.Gaining.{AreTied, told_of};
+ghost use Rattle.repo_holdings.specs.Changing.{changed, change_by, withdraws_too, AreNotedWith};
+
+use crate::contents::{ContentsDigest, told_or_taken};
+use crate::notes::Notes;
+use crate::told::Told;
+use repo_catalog::{Catalogue, Entry};
+use repo_plan::Plan;
+use repo_store::Store;
+
+/// What changes in a catalogue.
+#[derive(Drop)]
+pub(crate) enum Change {
+    Nothing,
+    Lists(Entry),
+    Removes { publisher: u32, seq: u16 },
+}
+
+impl Change {
+    // Makes the change, where there is room for an entry. It takes no memory.
+    pub(crate) fn make(self, catalogue: &mut Catalogue)
+        requires { 0 < catalogue.old.spare }
+        ensures entries { catalogue.new.entries ≡ changed self catalogue.old.entries }
+        ensures room { catalogue.old.spare ≤ catalogue.new.spare + 1 }
+    {
+        match self {
+            Change::Nothing => {}
+            Change::Lists(entry) => {
+                catalogue.add_reserved(entry);
+            }
+            Change::Removes { publisher, seq } => {
+                catalogue.remove(publisher, seq);
+            }
+        }
+    }
+}
+
+// Notes what is told newly of a publication, for which there is room, and tells what changes in the catalogue. Digests
+// over contents that are told aren't taken again.
+pub(crate) fn change_told(
+    plan: &Plan,
+    store: &Store,
+    notes: &mut Notes,
+    publication: (u32, u16),
+    told: Option<Told>,
+    digests: &[ContentsDigest],
+) -> Change
+    requires room { 0 < notes.old.spare }
+    requires tied { AreTied plan.now store.now.packets }
+    requires told { IfSome told (λ x. option_map told_of (said_at store.now.packets publication) ≡ Some x) }
+    requires named { told ≡ None → IsSomeAnd (listing_at store.now.packets publication)
+        (λ l. value_of pair_cmp notes.old.names publication ≡ Some l.name) }
+    requires withdrawn { (q : Pair) → (withdraws_too publication told q || contains pair_cmp notes.old.withdrawn q)
+        ≡ is_withdrawn store.now.packets q }
+    requires digests { All (IsDigestIn store.now.packets) digests.now }
+    ensures change { result ≡ change_by notes.old.withdrawn publication told (entry_at store.now.packets publication) }
+    ensures noted { AreNotedWith publication store.now.packets notes.old notes.new }
+    ensures room { notes.old.spare ≤ notes.new.spare + 1 }
+{
+    match told {
+        Some(Told::Withdrawal { seq }) => {
+            let publisher = publication.0;
+            if notes.note_withdrawn((publisher, seq)) {
+                return Change::Removes { publisher, seq };
+            }
+            return Change::Nothing;
+        }
+        Some(Told::Object { name, .. }) => notes.note_name(publication, name),
+        None => {}
+    }
+    match entry_if_whole(plan, store, notes, publication, digests) {
+        Some(entry) => Change::Lists(entry),
+        None => Change::Nothing,
+    }
+}
+
+// The entry of an object whose name is noted, where its record and every part behind it are stored and it is not
+// withdrawn. The name of an object that is stored wholly is noted no more.
+fn entry_if_whole(
+    plan: &Plan,
+    store: &Store,
+    notes: &mut Notes,
+    publication: (u32, u16),
+    digests: &[ContentsDigest],
+) -> Option<Entry>
+    requires tied { AreTied plan.now store.now.packets }
+    requires named { IsSomeAnd (listing_at store.now.packets publication)
+        (λ l. value_of pair_cmp notes.old.names publication ≡ Some l.name) }
+    requires withdrawn { (q : Pair) → contains pair_cmp notes.old.withdrawn q ≡ is_withdrawn store.now.packets q }
+    requires digests { All (IsDigestIn store.now.packets) digests.now }
+    ensures entry { result ≡ entry_at store.now.packets publication }
+    ensures noted { AreNotedWith publication store.now.packets notes.old notes.new }
+    ensures room { notes.new.spare ≡ notes.old.spare }
+{
+    let (publisher, seq) = publication;
+    if !plan.complete(publisher, seq) {
+        return None;
+    }
+    let shape = plan.shape(publisher, seq).unwrap();
+    let name = notes.take_name(publication).unwrap();
+    if notes.is_withdrawn(publication) {
+        return None;
+    }
+    let (octets, digest) = told_or_taken(store, publisher, seq, shape, digests);
+    Some(Entry {
+        publisher,
+        seq,
+        name,
+        segments: u32::from(shape.segments),
+        octets,
+        digest,
+    })
+}

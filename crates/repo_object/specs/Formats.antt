@@ -1,0 +1,81 @@
+-- What records and index packets say, in the words of their formats.
+use Rattle.std.specs.Prelude.{◌≡◌, ◌<◌, ◌≤◌, ℕ, Bool, false, IsTrue, List, [], ◌∷◌, length, map, Some, None, Ok}
+use Rattle.std.specs.Prelude.{if◌then◌else◌}
+use Rattle.std.specs.List.{All}
+use Rattle.ndn_tlv.specs.Elements.{Item}
+use Rattle.ndn_tlv.specs.NumberField.{number_of}
+use Rattle.ndn_name.specs.Names.{IsName, name_of}
+use Rattle.repo_object.specs.declared.record_fields.RecordField.{RecordField}
+use Rattle.repo_object.specs.declared.record_fields.RecordField.TheVariants as field
+use Rattle.repo_object.specs.Limits.{segment_limit, number_limit}
+use Rattle.repo_object.specs.Objects.{is_object_name}
+use Rattle.repo_object.specs.Publication.{Listed, RecordSays, is_indexed, count_listed}
+use Rattle.repo_object.specs.Publication.RecordSays.{Lists, WithdrawsNumber}
+use Rattle.repo_object.specs.Records.{digest_len, record_fields, index_fields}
+
+-- A digest has 32 octets.
+abbrev pub IsDigest : List ℕ → Type 0
+IsDigest digest = length digest ≡ digest_len
+
+-- What every listing is within that was read.
+pub record IsListing (l : Listed) : Type 0 where
+  pub name : IsName l.name
+  pub named : IsTrue (is_object_name l.name)
+  pub few : l.segments ≤ segment_limit
+  pub count : length l.digests ≡ count_listed l.segments
+  pub digests : All IsDigest l.digests
+
+-- The same of all that a record may say: a withdrawal is of a number from 1 to 65,535.
+abbrev pub IsSaid : RecordSays → Type 0
+IsSaid (Lists l) = IsListing l
+IsSaid (WithdrawsNumber seq) = (0 < seq) × (seq ≤ number_limit)
+
+-- These elements as fields that list digests: of index packets, or of segments.
+abbrev pub digest_field : Bool → RecordField
+digest_field indexes = if indexes then field.IndexDigest else field.Digest
+
+-- The fields of that kind that these elements are.
+abbrev pub as_digests : Bool → List Item → List (RecordField × Item)
+as_digests indexes items = map (λ d. (digest_field indexes, d)) items
+
+-- The elements' values.
+abbrev pub values : List Item → List (List ℕ)
+values items = map (λ d. d.value) items
+
+-- A content has the fields of a record that lists this: a Name, a SegmentCount, then IndexDigests where there are index
+-- packets, and else Digests.
+pub record HasListing (content : List ℕ) (l : Listed) : Type 0 where
+  pub name : Item
+  pub count : Item
+  pub digests : List Item
+  pub fields : record_fields content ≡ record {
+    items = (field.Name, name) ∷ (field.SegmentCount, count) ∷ as_digests (is_indexed l.segments) digests;
+    fault = None;
+  }
+  pub names : name_of name.value_start name.value ≡ Ok l.name
+  pub named : IsTrue (is_object_name l.name)
+  pub counts : number_of count.value ≡ Some l.segments
+  pub few : l.segments ≤ segment_limit
+  pub many : length l.digests ≡ count_listed l.segments
+  pub values : values digests ≡ l.digests
+  pub are : All IsDigest l.digests
+
+-- It has the field of a record that withdraws the publication of this number: Withdraws alone.
+pub record HasWithdrawal (content : List ℕ) (seq : ℕ) : Type 0 where
+  pub number : Item
+  pub fields : record_fields content ≡ record { items = (field.Withdraws, number) ∷ []; fault = None }
+  pub counts : number_of number.value ≡ Some seq
+  pub some : 0 < seq
+  pub few : seq ≤ number_limit
+
+-- So it has the fields of a record that says this.
+abbrev pub HasSaid : List ℕ → RecordSays → Type 0
+HasSaid content (Lists l) = HasListing content l
+HasSaid content (WithdrawsNumber seq) = HasWithdrawal content seq
+
+-- It has the fields of an index packet that lists these digests of segments: Digests alone.
+pub record HasIndex (content : List ℕ) (digests : List (List ℕ)) : Type 0 where
+  pub items : List Item
+  pub fields : index_fields content ≡ record { items = as_digests false items; fault = None }
+  pub values : values items ≡ digests
+  pub are : All IsDigest digests
