@@ -7,6 +7,7 @@ use Rattle.std.proofs.lemmas.List.{length-set}
 use Rattle.repo_plan.specs.declared.part.Part.{Part}
 use Rattle.svs_sync.specs.declared.fired.Fired.{Fired}
 use Rattle.svs_sync.specs.declared.fired.Fired.TheVariants.{Early, Quiet, Send}
+use Rattle.repo_object.specs.Objects.Post.{Offers, Withdraws}
 use Rattle.repo_process.specs.Processes.{BlockState, closed, object_of}
 use Rattle.repo_process.specs.Processes.BlockState.{Unknown, Already, Waiting, Whole}
 use Rattle.repo_command.specs.declared.command.Command.{Command}
@@ -124,7 +125,7 @@ blocking out w j process (Waiting p) = one w (with_process_at w j process p) j _
 blocking out w j process (Whole p) = λ i inside.
     let v : World = with_process_at w j process (closed p) in
     let kept : length v.members ≡ length w.members = length-set w.members j _ in
-    one v (after_publish out v j (object_of p)) j _ refl refl i (omega (arith, kept, inside))
+    one v (after_publish out v j (Offers (object_of p))) j _ refl refl i (omega (arith, kept, inside))
     ∙ one w v j _ refl refl i inside
 
 -- An event that no member's deletion comes with.
@@ -135,7 +136,8 @@ IsNoDeletionEvent _ = Unit {0}
 
 pub hides_as_before : (out : Outside) (w : World) (e : Event) → IsNoDeletionEvent e
     → HidesAsBefore w (after_event out w e)
-hides_as_before out w (Event.Publish j o) spares = one w (after_publish out w j o) j _ refl refl
+hides_as_before out w (Event.Publish j o) spares = one w (after_publish out w j (Offers o)) j _ refl refl
+hides_as_before out w (Event.Withdraw j seq) spares = one w (after_publish out w j (Withdraws seq)) j _ refl refl
 hides_as_before out w (Event.Deliver k j) spares = delivering out w j (sent_at w k).vector
 hides_as_before out w (Event.Sync k) spares = none_changes w w refl
 hides_as_before out w (Event.Advance ms) spares = none_changes w (after_event out w (Event.Advance ms)) refl
@@ -173,6 +175,7 @@ undeleting : (g : GroupKeys) (form : Verb) (d : Declared) (values : List Value) 
 undeleting g verb.Delete d values only = cc
 undeleting g verb.Order d values only = cc
 undeleting g verb.Publish d (Text m ∷ Named name ∷ Number size ∷ Octets content ∷ []) only = tt
+undeleting g verb.Withdraw d (Text m ∷ Number s ∷ []) only = tt
 undeleting g verb.Deliver d (Number k ∷ Text m ∷ []) only = tt
 undeleting g verb.Sync d (Number k ∷ []) only = tt
 undeleting g verb.Advance d (Number ms ∷ []) only = tt

@@ -15,6 +15,7 @@ pub mod HeadlineDeletions
 pub mod DeclaredGroups
 pub mod HeadlineLimits
 pub mod HeadlineMembers
+pub mod ListedDigests
 pub mod HeadlineChecks
 pub mod HeadlineShown
 pub mod WorkerLaws
