@@ -11,7 +11,9 @@ pub mod HeadlineGroups
 pub mod HeadlineNames
 pub mod HeadlineCatalogues
 pub mod HeadlineSettles
+pub mod HeadlineEvents
 pub mod HeadlineDeletions
+pub mod HeadlineListings
 pub mod DeclaredGroups
 pub mod HeadlineLimits
 pub mod HeadlineMembers

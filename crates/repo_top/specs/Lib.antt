@@ -20,6 +20,7 @@ pub mod Forms
 pub mod Answers
 pub mod Headline
 pub mod ToldMembers
+pub mod Listings
 pub mod ListedDigests
 pub mod HeldPackets
 pub mod ShownCatalogues
