@@ -26,6 +26,10 @@ pub(crate) fn said(words: &Words, line: Line) -> Option<Event>
             size,
             content,
         },
+        Line::Withdraw { m, s } => Event::Withdraw {
+            m: member(words, &m),
+            s,
+        },
         Line::Deliver { k, m } => Event::Deliver {
             k,
             m: member(words, &m),
@@ -134,6 +138,7 @@ pub(crate) fn said(words: &Words, line: Line) -> Option<Event>
             client: client(words, &label),
             name,
         },
+        Line::Mirror { .. } | Line::Watch { .. } | Line::Told { .. } | Line::Mdeliver { .. } | Line::Mfetch { .. } | Line::Mcatalogue { .. } => return None,
         Line::Summary => Event::Summary,
         Line::Traffic => Event::Traffic,
     };
