@@ -152,11 +152,11 @@ def delete_none(n):
         yield f"delete m1 c1 /p/{i}"
 
 
-# What the hash of a map's key multiplies by: behind these octets all names have one hash.
+# What the hash of std's maps multiplies by: behind these octets all names have one hash there.
 TIE = "%15%7C%4A%7F%B9%79%37%9E"
 
 
-@kind("delete objects each by its own name, whose hashes tie", 49_900)
+@kind("delete objects each by its own name, whose hashes in std's maps tie", 49_900)
 def delete_tied(n):
     yield from heads(1, 1)
     for i in range(n):

@@ -7,3 +7,4 @@ pub mod IndexLemmas
 pub mod MergeLemmas
 pub mod NamedLemmas
 pub mod PairLemmas
+mod RowLemmas

@@ -9,6 +9,6 @@ pub record AreEntries (c : Inside) : Type 0 where
   pub in_order : IsCatalogue c.entries.items
   pub none_aside : c.aside.items ≡ []
   pub indexed : IsIndexOf c.entries.items c.names.keys
-  pub room : c.spare + length c.entries.items ≤ vec_capacity c.entries
+  pub room : c.spare + length c.entries.items ≤ c.entries.capacity
   pub room_aside : c.spare + length c.entries.items ≤ vec_capacity c.aside
   pub room_for_names : c.spare ≤ c.names.spare

@@ -4,6 +4,7 @@ pub use Rattle.sorted_lists.specs.SortedList
 pub use Rattle.repo_plan.specs.Parts
 pub mod Entries
 pub mod EntryFields
+pub mod EntryRows
 pub mod NameKeys
 pub mod IndexFields
 pub mod Laws

@@ -11,21 +11,23 @@ ghost use Rattle.repo_catalog.specs.Entries.{IsCatalogue, AreApart};
 ghost use Rattle.repo_catalog.specs.NameKeys.{hash_of};
 
 use crate::entry::Entry;
-use crate::merge::{forget, merge};
+use crate::entry_row::EntryRow;
+use crate::merge::forget;
 use crate::name_index::{NameIndex, key_of, name_hash};
-use crate::search::{is_among, place_of};
+use crate::search::place_of;
 use ndn_name::NameView;
 use std::alloc::{AllocError, Global};
 use std::marker::Model;
 
-// So many entries are removed one by one. Each moves what stands behind it, which takes less than a test of each.
+// So many entries are removed one by one. Each moves what stands behind it, which takes less than a test of each, and
+// the first entry moves nothing.
 const FEW: usize = 4;
 
 /// The objects that a member lists, in order of publisher and number, at most one for each pair of them, and room for
 /// more.
 #[derive(Debug, Drop)]
 pub struct Catalogue {
-    entries: Vec<Entry>,
+    entries: EntryRow,
     // Empty. Entries are set aside here while others take their places.
     aside: Vec<Entry>,
     names: NameIndex,
@@ -51,7 +53,7 @@ impl Catalogue {
         ensures { result ≡ record { entries = []; spare = 0 } }
     {
         Catalogue {
-            entries: Vec::new(alloc),
+            entries: EntryRow::new(alloc),
             aside: Vec::new(alloc),
             names: NameIndex::new(alloc),
             spare: 0,
@@ -99,7 +101,7 @@ impl Catalogue {
             return false;
         };
         self.names.insert(key_of(&entry));
-        self.entries.insert(place, entry).unwrap();
+        self.entries.insert(place, entry);
         true
     }
 
@@ -116,7 +118,7 @@ impl Catalogue {
     {
         fresh.sort_unstable_by_key(|entry| (entry.publisher, entry.seq));
         self.spare -= fresh.len();
-        merge(&mut self.entries, fresh, &mut self.aside, &mut self.names);
+        self.entries.merge(fresh, &mut self.aside, &mut self.names);
     }
 
     /// Removes the entry of a publisher and number, and tells whether there was one.
@@ -127,13 +129,14 @@ impl Catalogue {
         let Ok(place) = self.place(publisher, seq) else {
             return false;
         };
-        let entry = self.entries.remove(place);
-        self.names.remove(key_of(&entry));
+        let key = key_of(&self.entries.as_slice()[place]);
+        self.names.remove(key);
+        self.entries.remove(place);
         true
     }
 
     /// Removes the entries of many publications, which are in order, in one pass. Where they are few, only what stands
-    /// behind each is moved, and nothing else is read. It takes no memory.
+    /// behind each is moved, and nothing else is read; behind the first entry nothing moves. It takes no memory.
     pub fn remove_all(&mut self, publications: &[(u32, u16)])
         requires { Rises pair_cmp publications.now }
         ensures { self.new ≡ record self.old { entries = without_all publications.now self.old.entries } }
@@ -159,8 +162,8 @@ impl Catalogue {
         requires { Rises pair_cmp publications.now }
         ensures { self.new ≡ record self.old { entries = without_all publications.now self.old.entries } }
     {
-        forget(&mut self.names, &self.entries, publications);
-        self.entries.retain(|entry| !is_among(publications, (entry.publisher, entry.seq)));
+        forget(&mut self.names, self.entries.as_slice(), publications);
+        self.entries.remove_all(publications);
     }
 
     /// The entries in order.
@@ -170,7 +173,7 @@ impl Catalogue {
         ensures entries { result.now ≡ self.now.entries }
         ensures ordered { IsCatalogue self.now.entries }
     {
-        &self.entries
+        self.entries.as_slice()
     }
 
     /// The entry of a publisher and number.
@@ -180,7 +183,7 @@ impl Catalogue {
         let Ok(place) = self.place(publisher, seq) else {
             return None;
         };
-        Some(&self.entries[place])
+        Some(&self.entries.as_slice()[place])
     }
 
     /// The least publisher and number whose object has this name.
@@ -229,8 +232,8 @@ impl Catalogue {
         requires { lists pair self.now.entries ≡ true }
         ensures { entry_of pair self.now.entries ≡ Some result.now }
     {
-        let place = place_of(&self.entries, pair).unwrap();
-        &self.entries[place]
+        let place = place_of(self.entries.as_slice(), pair).unwrap();
+        &self.entries.as_slice()[place]
     }
 
     /// How many entries there are, and how many segments and octets their objects have together.
@@ -244,18 +247,18 @@ impl Catalogue {
     {
         let mut segments = 0;
         let mut octets = 0;
-        for entry in &self.entries {
+        for entry in self.entries.as_slice() {
             segments += u64::from(entry.segments);
             octets += entry.octets;
         }
-        (self.entries.len() as u32, segments, octets)
+        (self.entries.as_slice().len() as u32, segments, octets)
     }
 
     /// Whether both list the same entries.
     pub fn same(&self, other: &Catalogue) -> bool
         ensures { IsTrue result ↔ (self.now.entries ≡ other.now.entries) }
     {
-        self.entries == other.entries
+        self.entries.as_slice() == other.entries.as_slice()
     }
 
     // Where the entry of a publisher and number stands, or else would stand.
@@ -264,6 +267,6 @@ impl Catalogue {
         ensures bound { IsSearchInRange result (length self.now.entries) }
         ensures position { IsBinarySearchResult (beside (publisher, seq)) self.now.entries result }
     {
-        place_of(&self.entries, (publisher, u32::from(seq)))
+        place_of(self.entries.as_slice(), (publisher, u32::from(seq)))
     }
 }

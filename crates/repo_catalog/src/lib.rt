@@ -4,6 +4,7 @@
 
 mod catalogue;
 mod entry;
+mod entry_row;
 mod laws;
 mod merge;
 mod name_index;

@@ -1,4 +1,4 @@
-use Rattle.std.proofs.Common.{◌≡◌, ◌||◌, Bool, List, not, sym, ap, subst, ◌∙◌, refl, Ok, Err, arith}
+use Rattle.std.proofs.Common.{◌≡◌, ◌||◌, Bool, List, not, sym, ap, subst, ◌∙◌, Ok, Err, arith}
 use Rattle.std.specs.Prelude.{is_some}
 use Rattle.std.specs.List.{insert}
 use Rattle.std.specs.Ordering.{eq_by_cmp}
@@ -37,7 +37,7 @@ invariant_of-self-2 c =
     found_place es (publication_of c.args.entry) (Err c.in-Err.place) c.in-Err.ensures.ordered c.in-Err.ensures.bound
     c.in-Err.ensures.position in
     let inserted : c.insert-2.new.self.items ≡ insert es c.in-Err.place c.args.entry =
-    c.insert-2.ensures.items ∙ rw c.unwrap.ensures refl in
+    c.insert-2.ensures.items in
     let entries = inserted ∙ sym (with_entry_between c.args.entry es c.in-Err.place place) in
     let spare = ap (λ (l : EntryList). l.spare) c.self.view_is in
     let missing = no_entry_between (publication_of c.args.entry) es c.in-Err.place place in
@@ -53,14 +53,14 @@ invariant_of-self-2 c =
       room =
           omega (
             arith,
-            rw c.unwrap.ensures at c.insert-2.ensures.len,
+            c.insert-2.ensures.len,
             c.insert-2.ensures.capacity,
             c.self.invariant.room,
             c.requires,
             spare,
           );
       room_aside =
-          omega (arith, rw c.unwrap.ensures at c.insert-2.ensures.len, c.self.invariant.room_aside, c.requires, spare);
+          omega (arith, c.insert-2.ensures.len, c.self.invariant.room_aside, c.requires, spare);
       room_for_names = omega (arith, c.insert.ensures.room, c.self.invariant.room_for_names, c.requires, spare);
     }
 
@@ -80,7 +80,7 @@ returns-clause-entries c =
     found_place es (publication_of c.args.entry) (Err c.in-Err.place) c.in-Err.ensures.ordered c.in-Err.ensures.bound
     c.in-Err.ensures.position in
     let inserted : c.insert-2.new.self.items ≡ insert es c.in-Err.place c.args.entry =
-    c.insert-2.ensures.items ∙ rw c.unwrap.ensures refl in
+    c.insert-2.ensures.items in
     inserted
     ∙ sym (with_entry_between c.args.entry es c.in-Err.place place)
     ∙ ap (λ (l : EntryList). with_entry c.args.entry l.entries) c.self.view_is

@@ -9,4 +9,4 @@ returns-clause-position c =
     let p = c.args.publisher in
     subst (λ (l : EntryList). IsBinarySearchResult (beside (p, c.args.seq)) l.entries r) c.self.view_is
     (subst (λ (s : ℕ). IsBinarySearchResult (beside (p, s)) c.self.inside.entries.items r) c.from.ensures
-    (rw c.deref.ensures.value at c.place_of.ensures.position))
+    (rw c.as_slice.ensures at c.place_of.ensures.position))

@@ -34,17 +34,19 @@ pub invariant_of-self : goal.invariant_of-self
 invariant_of-self c =
     let k : Pair = (c.args.publisher, c.args.seq) in
     let es = c.args.self.now.entries in
-    let x = c.remove-entry.result in
+    let x = c.index-as_slice-place.result in
     let place =
     found_place es k (Ok c.in-Ok.place) c.in-Ok.ensures.ordered c.in-Ok.ensures.bound c.in-Ok.ensures.position in
-    let left : c.remove-entry.new.self.items ≡ without k es =
-    c.remove-entry.ensures.items
+    let left : c.remove-2.new.self.items ≡ without k es =
+    c.remove-2.ensures.items
     ∙ ap (λ (l : EntryList). remove l.entries c.in-Ok.place) c.self.view_is
     ∙ sym (without_at k es c.in-Ok.place c.in-Ok.ensures.ordered place) in
     let there : entry_of k es ≡ Some x =
     entry_at k es c.in-Ok.place x c.in-Ok.ensures.ordered place
     ∙ ap (λ (e : Entry). Some e)
-    (sym (c.remove-entry.ensures.value ∙ ap (λ (l : EntryList). get_or l.entries c.in-Ok.place x) c.self.view_is)) in
+    (sym (c.index-as_slice-place.is
+    ∙ ap (λ (xs : List Entry). get_or xs c.in-Ok.place x) c.as_slice.ensures
+    ∙ ap (λ (l : EntryList). get_or l.entries c.in-Ok.place x) c.self.view_is)) in
     let of : k ≡ publication_of x = entry_is_of k es x there in
     record {
       in_order = subst IsCatalogue (sym left) (without_rises k es c.in-Ok.ensures.ordered);
@@ -52,25 +54,25 @@ invariant_of-self c =
       indexed = λ q.
           c.remove.ensures.keys q
           ∙ ap (λ (key : Key). not (eq_by_cmp key_cmp q key) && contains key_cmp c.self.inside.names.keys q)
-          c.key_of.ensures
+          c.key_of-key.ensures
           ∙ ap (λ (b : Bool). not (eq_by_cmp key_cmp q (key_of x)) && b)
           (c.self.invariant.indexed q ∙ ap (λ (l : EntryList). is_key l.entries q) c.self.view_is)
           ∙ is_key-without x es q (ap (λ (p : Pair). entry_of p es) (sym of) ∙ there)
           ∙ ap (λ (p : Pair). is_key (without p es) q) (sym of)
           ∙ ap (λ (xs : List Entry). is_key xs q) (sym left);
-      room = omega (arith, c.remove-entry.ensures.len, c.remove-entry.ensures.capacity, c.self.invariant.room);
-      room_aside = omega (arith, c.remove-entry.ensures.len, c.self.invariant.room_aside);
+      room = omega (arith, c.remove-2.ensures.len, c.remove-2.ensures.capacity, c.self.invariant.room);
+      room_aside = omega (arith, c.remove-2.ensures.len, c.self.invariant.room_aside);
       room_for_names = omega (arith, c.remove.ensures.room, c.self.invariant.room_for_names);
     }
 
 pub returns-clause-removed : goal.returns-clause-removed
 returns-clause-removed c =
     let k : Pair = (c.args.publisher, c.args.seq) in
+    let es = c.args.self.now.entries in
+    let x = c.index-as_slice-place.result in
     let place =
-    found_place c.args.self.now.entries k (Ok c.in-Ok.place) c.in-Ok.ensures.ordered c.in-Ok.ensures.bound
-    c.in-Ok.ensures.position in
-    sym (ap is_some
-    (entry_at k c.args.self.now.entries c.in-Ok.place c.remove-entry.result c.in-Ok.ensures.ordered place))
+    found_place es k (Ok c.in-Ok.place) c.in-Ok.ensures.ordered c.in-Ok.ensures.bound c.in-Ok.ensures.position in
+    sym (ap is_some (entry_at k es c.in-Ok.place x c.in-Ok.ensures.ordered place))
 
 pub returns-clause-left : goal.returns-clause-left
 returns-clause-left c =
@@ -79,7 +81,7 @@ returns-clause-left c =
     let place =
     found_place es k (Ok c.in-Ok.place) c.in-Ok.ensures.ordered c.in-Ok.ensures.bound c.in-Ok.ensures.position in
     let left =
-    c.remove-entry.ensures.items
+    c.remove-2.ensures.items
     ∙ ap (λ (l : EntryList). remove l.entries c.in-Ok.place) c.self.view_is
     ∙ sym (without_at k es c.in-Ok.place c.in-Ok.ensures.ordered place) in
     let spare = ap (λ (l : EntryList). l.spare) c.self.view_is in

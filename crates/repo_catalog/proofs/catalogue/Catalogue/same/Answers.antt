@@ -10,5 +10,5 @@ returns c =
     let other = ap (λ (l : EntryList). l.entries) c.other.view_is in
     let same =
     slice_eq-Decides entry_eq-Decides c.self.inside.entries.items c.other.inside.entries.items c.eq.result
-    c.eq.ensures in
+    (rw c.as_slice.ensures at (rw c.as_slice-2.ensures at c.eq.ensures)) in
     (λ h. sym mine ∙ same.0 h ∙ other, λ e. same.1 (mine ∙ e ∙ sym other))

@@ -1,0 +1,162 @@
+// The entries of a catalogue, as one slice.
+ghost use Rattle.std.specs.Prelude.{◌≡◌, ◌+◌, ◌<◌, ◌≤◌, [], length, drop, OnOk, vec_capacity};
+ghost use Rattle.std.specs.List.{insert, remove};
+ghost use Rattle.sorted_lists.specs.SortedList.{Rises};
+ghost use Rattle.repo_plan.specs.Parts.{pair_cmp};
+ghost use Rattle.repo_catalog.specs.Entries.{with_entries, without_all, IsCatalogue};
+ghost use Rattle.repo_catalog.specs.NameKeys.{IsIndexOf};
+
+use crate::entry::Entry;
+use crate::merge::merge;
+use crate::name_index::NameIndex;
+use crate::search::is_among;
+use std::alloc::{AllocError, Global};
+use std::marker::Model;
+
+// Entries, and room for more. Those that were removed from the front, one after the other, stay in front of the others,
+// until they are more than these: so no other is moved where the first one goes.
+#[derive(Debug, Drop)]
+pub(crate) struct EntryRow {
+    all: Vec<Entry>,
+    gone: usize,
+}
+
+// A row is seen as the list of its entries, beside the number of entries that there is room for.
+impl Model for EntryRow {
+    ghost use Rattle.repo_catalog.specs.EntryRows.{Row};
+
+    ghost Value = { Row };
+
+    ghost use Rattle.repo_catalog.specs.EntryRows.{row_of, IsRow};
+
+    ghost view = { row_of };
+
+    ghost invariant = { IsRow };
+}
+
+impl EntryRow {
+    pub(crate) fn new(alloc: Global) -> EntryRow
+        ensures items { result.items ≡ [] }
+    {
+        EntryRow {
+            all: Vec::new(alloc),
+            gone: 0,
+        }
+    }
+
+    pub(crate) fn as_slice(&self) -> &[Entry]
+        ensures { result.now ≡ self.now.items }
+    {
+        let (_, entries) = self.all.split_at(self.gone);
+        entries
+    }
+
+    pub(crate) fn capacity(&self) -> usize
+        ensures { result ≡ self.now.capacity }
+    {
+        self.all.capacity() - self.gone
+    }
+
+    // Makes room for so many more.
+    pub(crate) fn reserve(&mut self, n: usize) -> Result<(), AllocError>
+        ensures items { self.new.items ≡ self.old.items }
+        ensures grows { self.old.capacity ≤ self.new.capacity }
+        ensures room { OnOk result (length self.new.items + n ≤ self.new.capacity) }
+    {
+        self.all.reserve(n)
+    }
+
+    // Puts an entry in this place, where there is room.
+    pub(crate) fn insert(&mut self, place: usize, entry: Entry)
+        requires place { place ≤ length self.old.items }
+        requires room { length self.old.items < self.old.capacity }
+        ensures items { self.new.items ≡ insert self.old.items place entry }
+        ensures len { length self.new.items ≡ length self.old.items + 1 }
+        ensures capacity { self.old.capacity ≤ self.new.capacity }
+    {
+        self.all.insert(self.gone + place, entry).unwrap();
+    }
+
+    // Removes the entry in this place.
+    pub(crate) fn remove(&mut self, place: usize)
+        requires { place < length self.old.items }
+        ensures items { self.new.items ≡ remove self.old.items place }
+        ensures len { length self.new.items + 1 ≡ length self.old.items }
+        ensures capacity { self.old.capacity ≤ self.new.capacity + 1 }
+    {
+        take_out(&mut self.all, &mut self.gone, place);
+        if self.gone > self.all.len() / 2 {
+            close(&mut self.all, &mut self.gone);
+        }
+    }
+
+    // Removes the entries of these publications, which are in order, in one pass.
+    pub(crate) fn remove_all(&mut self, publications: &[(u32, u16)])
+        requires { Rises pair_cmp publications.now }
+        ensures items { self.new.items ≡ without_all publications.now self.old.items }
+        ensures len { length self.new.items ≤ length self.old.items }
+        ensures capacity { self.old.capacity ≤ self.new.capacity }
+    {
+        close(&mut self.all, &mut self.gone);
+        self.all
+            .retain(|entry| !is_among(publications, (entry.publisher, entry.seq)));
+    }
+
+    // Adds entries that are in order, as `merge` does.
+    pub(crate) fn merge(
+        &mut self,
+        fresh: &mut Vec<Entry>,
+        aside: &mut Vec<Entry>,
+        names: &mut NameIndex,
+    )
+        requires in_order { IsCatalogue self.old.items }
+        requires fresh_in_order { IsCatalogue fresh.old.items }
+        requires none_aside { aside.old.items ≡ [] }
+        requires indexed { IsIndexOf self.old.items names.old.keys }
+        requires room { length self.old.items + length fresh.old.items ≤ self.old.capacity }
+        requires room_aside { length self.old.items + length fresh.old.items ≤ vec_capacity aside.old }
+        requires room_for_names { length fresh.old.items ≤ names.old.spare }
+        ensures entries { self.new.items ≡ with_entries fresh.old.items self.old.items }
+        ensures in_order { IsCatalogue self.new.items }
+        ensures moved { fresh.new.items ≡ [] }
+        ensures none_aside { aside.new.items ≡ [] }
+        ensures indexed { IsIndexOf self.new.items names.new.keys }
+        ensures len { length self.new.items ≤ length self.old.items + length fresh.old.items }
+        ensures room { self.old.capacity ≤ self.new.capacity }
+        ensures room_aside { vec_capacity aside.old ≤ vec_capacity aside.new }
+        ensures room_fresh { vec_capacity fresh.old ≤ vec_capacity fresh.new }
+        ensures room_for_names { names.old.spare ≤ names.new.spare + length fresh.old.items }
+    {
+        close(&mut self.all, &mut self.gone);
+        merge(&mut self.all, fresh, aside, names);
+    }
+}
+
+// Removes the entry in this place behind those that are gone.
+fn take_out(all: &mut Vec<Entry>, gone: &mut usize, place: usize)
+    requires gone { gone.old ≤ length all.old.items }
+    requires place { place < length (drop gone.old all.old.items) }
+    ensures items { drop gone.new all.new.items ≡ remove (drop gone.old all.old.items) place }
+    ensures gone { gone.new ≤ length all.new.items }
+    ensures len { length all.new.items + gone.old + 1 ≡ length all.old.items + gone.new }
+    ensures capacity { vec_capacity all.new ≡ vec_capacity all.old }
+    ensures more { gone.new ≤ gone.old + 1 }
+{
+    if place == 0 {
+        *gone += 1;
+        return;
+    }
+    all.remove(*gone + place);
+}
+
+// The first entries, so many, were removed, and are dropped now.
+fn close(all: &mut Vec<Entry>, gone: &mut usize)
+    requires { gone.old ≤ length all.old.items }
+    ensures items { all.new.items ≡ drop gone.old all.old.items }
+    ensures gone { gone.new ≡ 0 }
+    ensures capacity { vec_capacity all.old ≡ vec_capacity all.new }
+{
+    all.rotate_left(*gone);
+    all.truncate(all.len() - *gone);
+    *gone = 0;
+}
