@@ -26,8 +26,7 @@ import sys
 
 sys.dont_write_bytecode = True
 from packets import (
-    SEGMENT, Bend, Group, changed, element, elements, interest, name_element, natural, rebuilt, same, spelled,
-    text_name,
+    Bend, Group, changed, element, elements, interest, name_element, name_of, natural, rebuilt, same, spelled, text_name,
 )
 
 
@@ -63,7 +62,7 @@ class Script:
         self.ending = draw.choice([0, 0, 0, 0.01, 0.2])
         self.printed = 0
         self.is_over = False
-        makers = [(5, self.publish), (6, self.deliver), (7, self.claim), (7, self.answer), (2, self.lose),
+        makers = [(5, self.publish), (1, self.withdraw), (6, self.deliver), (7, self.claim), (7, self.answer), (2, self.lose),
                   (5, self.feed), (2, self.fetch), (1, self.settle), (2, self.show), (2, self.time), (4, self.hear),
                   (3, self.ask), (1, self.restart), (1, self.spaces), (0.3, self.anything)]
         if self.group.clients:
@@ -123,6 +122,8 @@ class Script:
         return Bend(self.draw) if self.draw.random() < 0.3 else same
 
     def published(self, m, name, contents):
+        """What a member published under its next number; in place of its name and contents, None and the number of what
+        it withdrew."""
         self.group.log[m].append((name, contents))
 
     def publish(self):
@@ -131,6 +132,12 @@ class Script:
         word, octets = content(self.draw)
         if self.put("publish", self.label(m), name, size, word):
             self.published(m, name, [octets[i:i + size] for i in range(0, len(octets), size)])
+
+    def withdraw(self):
+        m = self.member()
+        seq = self.draw.randint(1, len(self.group.log[m]) + 1)
+        if self.put("withdraw", self.label(m), seq):
+            self.published(m, None, seq)
 
     def deliver(self):
         if self.group.sent:
@@ -252,10 +259,7 @@ class Script:
             seq = self.draw.randint(1, len(self.group.log[p]))
             packets = self.group.packets(p, seq)
             x = self.draw.randrange(len(packets))
-            if x:
-                name = text_name(self.group.log[p][seq - 1][0]) + [(SEGMENT, natural(x - 1))]
-            else:
-                name = self.group.record_name(p, seq)
+            name = name_of(packets[x])
             if self.draw.random() < 0.5:
                 name.append((1, hashlib.sha256(packets[x]).digest()))
         name = name[:self.draw.randint(1, len(name))] if self.draw.random() < 0.4 else name
@@ -300,7 +304,7 @@ class Script:
     def delete(self):
         m, c, name = self.member(), self.client(), self.draw.choice(NAMES)
         if self.group.log[m] and self.draw.random() < 0.7:
-            name = self.draw.choice(self.group.log[self.member()] or self.group.log[m])[0]
+            name = self.draw.choice(self.group.log[self.member()] or self.group.log[m])[0] or name
         self.put("delete", self.label(m), self.group.clients[c][0], name)
         self.group.issued.append((m, c, "delete", [name_element(text_name(name))]))
 
@@ -353,7 +357,7 @@ class Script:
             i = self.draw.randrange(len(words))
             words[i] = self.draw.choice(["0", "01", "99999999999999999999", "999999999999999999", "m0", "-1", "65536",
                                          "text:", "/", "/..", "/a/", "ndn:/a", "/seg=01", "/1=" + "a" * 32, "17", "201",
-                                         "fill:1600001:0", "fill:201:256", "hex:0", "text:" + "x" * 32_760])
+                                         "fill:16000001:0", "fill:201:256", "hex:0", "text:" + "x" * 32_760])
             line = " ".join(words)
         self.lines[at] = line
 

@@ -35,6 +35,22 @@ def publish_segments(n):
         yield f"publish m1 /o/{i} 1 fill:200:{i % 256}"
 
 
+@kind("four publications of so many times 1,250 segments of one octet", 16)
+def publish_large(n):
+    yield from heads(1)
+    for i in range(4):
+        yield f"publish m1 /o/{i} 1 fill:{1_250 * n}:{i}"
+
+
+@kind("publish objects of one name, then withdraw each, the first first", 32_700)
+def withdraw(n):
+    yield from heads(1)
+    for _ in range(n):
+        yield "publish m1 /o 1 text:"
+    for i in range(n):
+        yield f"withdraw m1 {i + 1}"
+
+
 @kind("names of 200 empty components, which differ in the last", 16_000)
 def publish_components(n):
     yield from heads(1)
@@ -292,6 +308,14 @@ def settle_once(n):
     yield from heads(16)
     for i in range(n):
         yield f"publish m{1 + i % 16} /o/{i} 1 text:a"
+    yield "settle 1"
+
+
+@kind("settle 16 members, four publications of so many times 1,250 segments of one octet", 16)
+def settle_large(n):
+    yield from heads(16)
+    for i in range(4):
+        yield f"publish m1 /o/{i} 1 fill:{1_250 * n}:{i}"
     yield "settle 1"
 
 

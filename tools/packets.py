@@ -5,6 +5,9 @@ import urllib.parse
 
 GENERIC, KEYWORD_KEY, SEGMENT, VERSION, SEQUENCE = 8, "KEY", 50, 54, 58
 
+# So many segments at most are listed by a record or an index packet.
+LISTED = 200
+
 
 # ---- octets
 
@@ -127,6 +130,11 @@ def spelled(found):
     return b"".join(element(kind, value) for kind, value in found)
 
 
+def name_of(packet):
+    """The components of a packet's name."""
+    return elements(elements(elements(packet)[0][1])[0][1])
+
+
 # ---- what a group sends
 
 class Group:
@@ -150,15 +158,27 @@ class Group:
         return text_name(self.members[p][1]) + text_name(self.name) + [(SEQUENCE, natural(seq))]
 
     def packets(self, p, seq, bend=same, bend_listing=same):
-        """The record and the segments of a publication. What is signed is bent before, and the record's list too."""
+        """The record, the index packets and the segments of a publication, of which a withdrawal has the record alone.
+
+        What is signed is bent before, and the lists of the record and the index packets too."""
         name, contents = self.log[p][seq - 1]
         _, node, key = self.members[p]
+        record = self.record_name(p, seq)
+        if name is None:
+            return [data(record, None, bend_listing(element(133, natural(contents))), node, key, bend)]
         last = (SEGMENT, natural(len(contents) - 1)) if contents else None
         front = text_name(name)
         segments = [data(front + [(SEGMENT, natural(i))], last, c, node, key, bend) for i, c in enumerate(contents)]
-        digests = b"".join(element(131, hashlib.sha256(s).digest()) for s in segments)
-        listing = name_element(front) + element(129, natural(len(contents))) + digests
-        return [data(self.record_name(p, seq), None, bend_listing(listing), node, key, bend)] + segments
+        listed = [element(131, hashlib.sha256(s).digest()) for s in segments]
+        listing = name_element(front) + element(129, natural(len(contents)))
+        if len(segments) <= LISTED:
+            return [data(record, None, bend_listing(listing + b"".join(listed)), node, key, bend)] + segments
+        lists = [b"".join(listed[i:i + LISTED]) for i in range(0, len(listed), LISTED)]
+        last = (SEGMENT, natural(len(lists) - 1))
+        index = [data(record + [(SEGMENT, natural(k))], last, bend_listing(it), node, key, bend)
+                 for k, it in enumerate(lists)]
+        listing += b"".join(element(135, hashlib.sha256(i).digest()) for i in index)
+        return [data(record, None, bend_listing(listing), node, key, bend)] + index + segments
 
     def sync(self, signer, vector, bend=same):
         entries = b"".join(
