@@ -1,5 +1,5 @@
 -- What members list right after a settle, from then on, and where all are told of all.
-use Rattle.std.proofs.Common.{◌≡◌, ◌≢◌, ◌∙◌, inl, inr, ℕ, zero, suc, ◌+◌, ◌≤◌, ◌<◌, max, Bool, true, false, not, List, []}
+use Rattle.std.proofs.Common.{◌≡◌, ◌≢◌, ◌∙◌, inl, inr, ℕ, zero, suc, ◌+◌, ◌≤◌, ◌<◌, max, true, false, not, List, []}
 use Rattle.std.proofs.Common.{◌∷◌, ◌++◌, length, map, get_or, set, refl, sym, ap, subst, arith}
 use Rattle.std.specs.Str.{bytes_eq}
 use Rattle.std.specs.List.{AllByRecursion, IsDistinct}
@@ -18,7 +18,7 @@ use Rattle.group_model.specs.Changes.{learns}
 use Rattle.group_model.specs.World.{Outside, World, catalogue_at, logs, member, no_member, opening_world, sent_at}
 use Rattle.group_model.specs.Steps.{after_deliver, after_event, after_events, drawn}
 use Rattle.group_model.specs.Sound.{IsPublished}
-use Rattle.group_model.specs.Catalogues.{HoldsNoWithdrawal}
+use Rattle.group_model.specs.Catalogues.{BelongsInJoin, HoldsNoWithdrawal}
 use Rattle.group_model.specs.Deletions.{OnlyObjectsHidden}
 use Rattle.group_model.specs.Lasting.{AllLast, StaysListed}
 use Rattle.group_model.specs.Laws.{AllJoined}

@@ -75,8 +75,8 @@ pub record IsToldOfAll (given : Given) (lines : List (List ℕ)) (last : Reached
   pub stated : Says line (said verb.Deliver (Number sync ∷ Text (label_at (labels_at last) m) ∷ []))
   pub tells : slice_index (sent_at (group_at given here) sync).vector p ≡ last_of (logs (group_at given last)) p
 
--- Where each member is told of all that each other publishes, and nothing is wanted or hidden in the end, each catalogue
--- is the join of all publications, and is printed so, with no settle.
+-- Where each member is told of all that each other publishes, and nothing is wanted or hidden in the end, each
+-- catalogue is the join of all publications, and is printed so, with no settle.
 abbrev pub ToldMembersJoin : Type 0
 ToldMembersJoin = (given : Given) (lines reports : List (List ℕ)) (r : Reached) → AreTakenFirst given lines reports r
     → ((m p : ℕ) → m < length (labels_at r) → p < length (labels_at r) → m ≢ p → IsToldOfAll given lines r m p)
