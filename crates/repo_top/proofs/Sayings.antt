@@ -31,7 +31,7 @@ abbrev Typed : List Kind → Type 0
 Typed [] = Unit {0}
 Typed (LABEL ∷ kinds) = List ℕ × Typed kinds
 Typed (N least most ∷ kinds) = ℕ × Typed kinds
-Typed (URI least most ∷ kinds) = List Component × Typed kinds
+Typed (URI most ∷ kinds) = List Component × Typed kinds
 Typed (HEX most ∷ kinds) = List ℕ × Typed kinds
 Typed (CONTENT least most ∷ kinds) = List ℕ × Typed kinds
 
@@ -39,7 +39,7 @@ abbrev untyped : (kinds : List Kind) → Typed kinds → List Value
 untyped [] t = []
 untyped (LABEL ∷ kinds) t = Text t.0 ∷ untyped kinds t.1
 untyped (N least most ∷ kinds) t = Number t.0 ∷ untyped kinds t.1
-untyped (URI least most ∷ kinds) t = Named t.0 ∷ untyped kinds t.1
+untyped (URI most ∷ kinds) t = Named t.0 ∷ untyped kinds t.1
 untyped (HEX most ∷ kinds) t = Octets t.0 ∷ untyped kinds t.1
 untyped (CONTENT least most ∷ kinds) t = Octets t.0 ∷ untyped kinds t.1
 
@@ -60,7 +60,7 @@ typed_of (LABEL ∷ kinds) (Text label ∷ values) of =
 typed_of (N least most ∷ kinds) (Number n ∷ values) of =
     let t = typed_of kinds values of.1 in
     record { typed = (n, t.typed); is = in_front (Number n) _ _ t.is }
-typed_of (URI least most ∷ kinds) (Named name ∷ values) of =
+typed_of (URI most ∷ kinds) (Named name ∷ values) of =
     let t = typed_of kinds values of.1 in
     record { typed = (name, t.typed); is = in_front (Named name) _ _ t.is }
 typed_of (HEX most ∷ kinds) (Octets octets ∷ values) of =

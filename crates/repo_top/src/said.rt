@@ -138,7 +138,6 @@ pub(crate) fn said(words: &Words, line: Line) -> Option<Event>
             client: client(words, &label),
             name,
         },
-        Line::Mirror { .. } | Line::Watch { .. } | Line::Told { .. } | Line::Mdeliver { .. } | Line::Mfetch { .. } | Line::Mcatalogue { .. } => return None,
         Line::Summary => Event::Summary,
         Line::Traffic => Event::Traffic,
     };
