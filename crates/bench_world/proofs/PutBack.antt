@@ -9,12 +9,15 @@ use Rattle.bench_world.specs.Worlds.{nobody, alone_at, AreTrueMembers}
 use Rattle.bench_world.proofs.TakenOut.{put_in}
 
 -- It stands where it stood, and the others as they did.
+pub put_at : (ms mid new : List Alone) (j : ℕ) (x : Alone) → j < length ms → mid ≡ remove ms j
+    → new ≡ insert mid j x → alone_at new j ≡ x
+put_at ms mid new j x l a b =
+    ap (λ (xs : List Alone). alone_at xs j) (put_in ms mid new j x l a b) ∙ get_or-set_same ms j x nobody l
+
 pub put_changed : (ms mid new : List Alone) (j : ℕ) (x : Alone) → j < length ms → mid ≡ remove ms j
     → new ≡ insert mid j x → new ≡ set ms j (alone_at new j)
 put_changed ms mid new j x l a b =
-    let is : new ≡ set ms j x = put_in ms mid new j x l a b in
-    let at : alone_at new j ≡ x = ap (λ (xs : List Alone). alone_at xs j) is ∙ get_or-set_same ms j x nobody l in
-    is ∙ ap (set ms j) (sym at)
+    put_in ms mid new j x l a b ∙ ap (set ms j) (sym (put_at ms mid new j x l a b))
 
 -- All but one are as they were.
 without : (g : GroupKeys) (logs : Logs) (xs : List Alone) (k : ℕ) → AreTrueMembers g logs xs

@@ -8,7 +8,7 @@ use Rattle.bench_world.specs.Worlds.{nobody, alone_at}
 use Rattle.bench_world.specs.Others.{place_among_others}
 use Rattle.bench_world.proofs.TakenOut.{others_at}
 use Rattle.bench_world.proofs.Asked.{publisher_in, publisher_other, can_ask, came_for_it, told_so, fed_so, foreign_so}
-use Rattle.bench_world.proofs.Asked.{refused_so, members_so, still_so}
+use Rattle.bench_world.proofs.Asked.{refused_so, busy_so, members_so, still_so}
 use Rattle.bench_world.proofs.answering.feed.Goals as goal
 
 pub publisher-publisher-requires-clause-there : goal.publisher-publisher-requires-clause-there
@@ -118,6 +118,20 @@ returns-clause-refused g c =
     c.args.octets.now in
     refused_so c.args.g.now g.logs ms r.0 r.1.0 r.1.1.0 r.1.1.1.0 c.args.m there c.args.f c.in_ok-want.want claim _ _
     came c.take-fed.result
+    (foreign_so c.args.g.now g.logs ms r.0 r.1.0 r.1.1.0 r.1.1.1.0 c.args.m there c.args.f c.in_ok-want.want claim
+    c.args.octets.now c.take-fed.result c.take-fed.ensures.foreign)
+
+pub returns-clause-idle : goal.returns-clause-idle
+returns-clause-idle g c =
+    let r = c.requires in
+    let there = r.1.1.1.1.0 in
+    let ms = c.args.members.now.items in
+    let claim =
+    ap (λ (a : Alone). claim_of (alone_plan a) c.args.f)
+    (sym (c.index.ensures ∙ get_or_default ms c.args.m c.index.result.now nobody there))
+    ∙ c.in_ok-want.ensures.claim in
+    busy_so c.args.g.now g.logs ms r.0 r.1.0 r.1.1.0 r.1.1.1.0 c.args.m there c.args.f c.in_ok-want.want claim _
+    c.take-fed.result
     (foreign_so c.args.g.now g.logs ms r.0 r.1.0 r.1.1.0 r.1.1.1.0 c.args.m there c.args.f c.in_ok-want.want claim
     c.args.octets.now c.take-fed.result c.take-fed.ensures.foreign)
 

@@ -1,9 +1,12 @@
-use Rattle.std.proofs.Common.{refl, sym, subst, ◌∙◌}
+use Rattle.std.proofs.Common.{List, refl, sym, subst, ◌∙◌}
+use Rattle.std.specs.Prelude.{OnOk}
 use Rattle.std.proofs.lemmas.List.{get_or_default}
+use Rattle.repo_member.specs.Alone.{Alone}
 use Rattle.repo_member.specs.TrueMembers.{IsTrueMember}
 use Rattle.bench_world.specs.Truth.{TriedFew}
-use Rattle.bench_world.specs.Worlds.{nobody, AreTrueMembers}
-use Rattle.bench_world.proofs.PutBack.{put_changed, others_true}
+use Rattle.bench_world.specs.Worlds.{nobody, alone_at, AreTrueMembers}
+use Rattle.bench_world.specs.Gathering.{NothingLeft}
+use Rattle.bench_world.proofs.PutBack.{put_at, put_changed, others_true}
 use Rattle.bench_world.proofs.exchange.gather_at.Goals as goal
 
 pub returns-clause-others : goal.returns-clause-others
@@ -41,3 +44,14 @@ gather-kept-requires g c κs within =
         ),
       ),
     )
+
+pub returns-clause-left : goal.returns-clause-left
+returns-clause-left g c =
+    let here =
+    put_at c.args.members.now.items c.remove-member.new.self.items c.insert.new.self.items c.args.j
+    c.gather-kept.new.member c.requires.1.1.1.1.there c.remove-member.ensures.items c.in-Ok.ensures.items in
+    subst (λ (others : List Alone).
+    OnOk c.gather-kept.result (NothingLeft others (alone_at c.insert.new.self.items c.args.j)))
+    (c.as_slice.ensures.value ∙ c.remove-member.ensures.items)
+    (subst (λ (a : Alone). OnOk c.gather-kept.result (NothingLeft c.as_slice.result.now a)) (sym here)
+    c.gather-kept.ensures.left)
