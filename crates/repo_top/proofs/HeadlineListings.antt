@@ -1,6 +1,6 @@
 -- What members list right after a settle, from then on, and where all are told of all.
-use Rattle.std.proofs.Common.{◌≡◌, ◌≢◌, ◌∙◌, inl, inr, ℕ, zero, suc, ◌+◌, ◌≤◌, ◌<◌, max, true, false, not, List, []}
-use Rattle.std.proofs.Common.{◌∷◌, ◌++◌, length, map, get_or, set, refl, sym, ap, subst, arith}
+use Rattle.std.proofs.Common.{◌≡◌, ◌∙◌, inl, inr, ℕ, zero, suc, ◌≤◌, ◌<◌, max, true, false, List, []}
+use Rattle.std.proofs.Common.{◌∷◌, length, map, get_or, set, refl, sym, ap, subst, arith}
 use Rattle.std.specs.Str.{bytes_eq}
 use Rattle.std.specs.List.{AllByRecursion, IsDistinct}
 use Rattle.std.proofs.lemmas.Bool.{cases_Bool, cases_eq, true≢false}
@@ -15,8 +15,8 @@ use Rattle.group_model.specs.Events as group
 use Rattle.group_model.specs.Publications.{Logs, last_of}
 use Rattle.group_model.specs.Member.{Member, member_hides}
 use Rattle.group_model.specs.Changes.{learns}
-use Rattle.group_model.specs.World.{Outside, World, catalogue_at, logs, member, no_member, opening_world, sent_at}
-use Rattle.group_model.specs.Steps.{after_deliver, after_event, after_events, drawn}
+use Rattle.group_model.specs.World.{Outside, World, catalogue_at, logs, member, no_member, sent_at}
+use Rattle.group_model.specs.Steps.{after_deliver, after_event, drawn}
 use Rattle.group_model.specs.Sound.{IsPublished}
 use Rattle.group_model.specs.Catalogues.{BelongsInJoin, HoldsNoWithdrawal}
 use Rattle.group_model.specs.Deletions.{OnlyObjectsHidden}
@@ -37,7 +37,7 @@ use Rattle.repo_top.specs.Labels.{label_at}
 use Rattle.repo_top.specs.Judging.{Given, State, acted_by, found_world, outside_of, says}
 use Rattle.repo_top.specs.Story.{Reached, nothing_reached, reached_behind}
 use Rattle.repo_top.specs.Headline.{AreTakenFirst, IsTakenAmid, LineIsTaken, LinesAreTaken, group_at, labels_at}
-use Rattle.repo_top.specs.Listings.{IsLeftOfJoin, IsLeftToList, IsToldOfAll, ListedStay, SettledListWhatIsHeld}
+use Rattle.repo_top.specs.Listings.{IsToldOfAll, ListedStay, SettledListWhatIsHeld}
 use Rattle.repo_top.specs.Listings.{SettledListWhatIsLeft, ToldMembersJoin}
 use Rattle.repo_top.proofs.HeadlineLines.{each_is_taken}
 use Rattle.repo_top.proofs.HeadlineGroups.{IsActed, IsSoundState, acts_so, event_line, opened, says_report, says_state}

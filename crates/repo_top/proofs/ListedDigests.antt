@@ -1,7 +1,7 @@
 -- The digest of each packet behind a record stands where the record or an index packet lists it.
 use Rattle.std.proofs.Common.{◌≡◌, ℕ, zero, suc, ◌+◌, ◌-◌, ◌*◌, ◌^◌, ◌/◌, ◌<◌, ◌≤◌, Bool, true, false, cond, not, ◌==◌}
 use Rattle.std.proofs.Common.{◌||◌, List, [], ◌∷◌, map, length, take, drop, get_or, slice_get, Option, Some, option_map}
-use Rattle.std.proofs.Common.{unwrap_or, inl, inr, refl, sym, ap, ◌∙◌, arith}
+use Rattle.std.proofs.Common.{unwrap_or, inl, inr, refl, ap, ◌∙◌, arith}
 use Rattle.std.specs.Prelude.{nat_le}
 use Rattle.std.specs.Option.{option_and_then}
 use Rattle.std.proofs.lemmas.Bool.{cases_lt, eqb-true, ne_eqb, lt-leb}
@@ -17,7 +17,7 @@ use Rattle.repo_object.specs.Publication.{published_segments}
 use Rattle.repo_object.specs.Verdict.{index_in}
 use Rattle.repo_object.specs.Wants.{listed_in}
 use Rattle.repo_object.proofs.Publications.{index_again, index_digest, packets-length, record_said, segment_part}
-use Rattle.repo_top.specs.ListedDigests.{ListsDigest, digests_said, listed_digests, place_listed}
+use Rattle.repo_top.specs.ListedDigests.{ListsDigest, digests_said, listed_digests}
 
 -- ---- places of lists
 
