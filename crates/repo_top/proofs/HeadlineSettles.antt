@@ -1,9 +1,8 @@
 -- Catalogues right after a settle.
-use Rattle.std.proofs.Common.{◌≡◌, ◌∙◌, ℕ, ◌<◌, true, List, [], ◌∷◌, length, map, Option, Some, Result, Ok, refl, sym}
+use Rattle.std.proofs.Common.{◌≡◌, ◌∙◌, ℕ, true, List, [], ◌∷◌, map, Option, Some, Result, Ok, refl, sym}
 use Rattle.std.proofs.Common.{ap, subst}
 use Rattle.std.specs.List.{list_all}
-use Rattle.group_model.specs.Publications.{join_of}
-use Rattle.group_model.specs.World.{Outside, World, catalogue_at, logs}
+use Rattle.group_model.specs.World.{Outside, World}
 use Rattle.group_model.specs.Events as group
 use Rattle.group_model.specs.Steps.{after_event}
 use Rattle.group_model.specs.Laws.{AllJoined, NothingHidden}
