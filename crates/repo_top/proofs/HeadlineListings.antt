@@ -218,8 +218,8 @@ learns_it out w m told p there =
     join-at (member w m).known told p in
     subst (λ (y : Member). get_or told p 0 ≤ get_or y.known p 0) (sym at) (omega (arith, joined))
 
-module _ (given : Given) (lines reports : List (List ℕ)) (r : Reached) (taken : AreTakenFirst given lines reports r)
-    where
+module _ (given : Given) (lines reports : List (List ℕ)) (r : Reached)
+    (taken : AreTakenFirst given lines reports r) where
   sound : IsSoundState given r.state
   sound = sound_from_start given lines reports r taken
 
