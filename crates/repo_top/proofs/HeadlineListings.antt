@@ -313,19 +313,21 @@ told_members_join given lines reports r taken told wants hides =
     let w : World = group_at given r in
     let count : length (labels_at r) ≡ length r.state.declared.members =
     length-map r.state.declared.members party_label in
-    let wide : length (logs w) ≡ length w.members = length-map w.members (λ (x : Member). x.log) in
-    let knows : (m p : ℕ) → m < length w.members → p < length (logs w) → last_of (logs w) p ≤ known_by w m p =
-    λ m p there inside.
+    let knows : (m p : ℕ) → m < length w.members → last_of (logs w) p ≤ known_by w m p =
+    λ m p there.
     elim (cases_eq p m) [
       | inl own ↦
           let all : known_by w m m ≡ last_of (logs w) m = (sound_r.sound.members m there).own in
           subst (λ (q : ℕ). last_of (logs w) q ≤ known_by w m q) (sym own) (omega (arith, all))
       | inr other ↦
           let label_there : m < length (labels_at r) = omega (arith, there, count, sound_r.many) in
-          let other_there : p < length (labels_at r) = omega (arith, inside, wide, count, sound_r.many) in
-          knows_it given lines reports r taken m p label_there
-          (told m p label_there other_there (λ same. other (sym same)))
+          elim (cases_eq (last_of (logs w) p) 0) [
+            | inl none ↦ omega (arith, none)
+            | inr some ↦
+                knows_it given lines reports r taken m p label_there
+                (told m p label_there (λ same. other (sym same)) (omega (arith, some)))
+          ]
     ] in
     let all : AllJoined w = λ m there.
-    joins_by_itself (logs w) (member w m) (λ p inside. knows m p there inside) (hides m there) (wants m there) in
+    joins_by_itself (logs w) (member w m) (λ p inside. knows m p there) (hides m there) (wants m there) in
     shows_join given r sound_r all

@@ -67,9 +67,9 @@ pub fn listed_objects_stay_listed()
     ensures { ListedStay }
 {}
 
-/// Where lines deliver to each member a sync Interest that tells of the last publication of each other, and in the end
-/// nothing is wanted or deleted, every member's catalogue is the join of all publications, and is printed so, without
-/// any `settle` line.
+/// Where lines deliver to each member, for each other that published, a sync Interest that tells of its last
+/// publication, and in the end nothing is wanted or deleted, every member's catalogue is the join of all publications,
+/// and is printed so, without any `settle` line.
 pub fn told_members_join_without_a_settle()
     ensures { ToldMembersJoin }
 {}
