@@ -3,7 +3,7 @@ use Rattle.std.proofs.Common.{◌≡◌, ◌∙◌, inl, inr, ℕ, zero, suc, �
 use Rattle.std.proofs.Common.{◌∷◌, length, map, get_or, set, refl, sym, ap, subst, arith}
 use Rattle.std.specs.Str.{bytes_eq}
 use Rattle.std.specs.List.{AllByRecursion, IsDistinct}
-use Rattle.std.proofs.lemmas.Bool.{cases_Bool, cases_eq, true≢false}
+use Rattle.std.proofs.lemmas.Bool.{cases_Bool, cases_eq}
 use Rattle.std.proofs.lemmas.List.{get_or-set_same, length-map}
 use Rattle.std.proofs.lemmas.Slice.Eq.{bytes_eq-Decides}
 use Rattle.sorted_lists.specs.Range.{numbers_from}
@@ -178,13 +178,6 @@ one_reached given r (line ∷ lines) (x ∷ a) (y ∷ b) last other is too =
     (subst (λ (next : Reached). LinesAreTaken given next lines b other) same too.2)
 
 -- ---- labels
-
-other_way : (a b : List ℕ) → bytes_eq a b ≡ false → bytes_eq b a ≡ false
-other_way a b apart = elim (cases_Bool (bytes_eq b a)) [
-  | inl same ↦
-      absurd (true≢false (sym ((bytes_eq-Decides a b).1 (sym ((bytes_eq-Decides b a).0 same))) ∙ apart))
-  | inr other ↦ other
-]
 
 apart_at : (label : List ℕ) (parties : List Party) (m : ℕ)
     → AllByRecursion (λ (other : List ℕ). bytes_eq label other ≡ false) (map party_label parties)
