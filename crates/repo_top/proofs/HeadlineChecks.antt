@@ -132,10 +132,10 @@ module _ (g : GroupKeys) (w : World) (m : ℕ) (are : AreLogs g (logs w)) (q : P
   there : IsIn (logs w) q
   there = in_published (logs w) q among
 
-  object : NamedContents
+  abbrev object : NamedContents
   object = object_in q
 
-  first : ℕ
+  abbrev first : ℕ
   first = index_packets (length object.contents) + 1
 
   offers : post_at (logs w) (pair_in q) ≡ Offers object

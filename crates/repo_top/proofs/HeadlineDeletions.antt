@@ -1,5 +1,5 @@
 -- Only deletions hide publications.
-use Rattle.std.proofs.Common.{◌≡◌, ◌∙◌, ℕ, zero, suc, ◌<◌, Bool, true, false, cond, not, List, [], ◌∷◌, ◌++◌, length}
+use Rattle.std.proofs.Common.{◌≡◌, ◌∙◌, ℕ, zero, suc, ◌<◌, Bool, true, false, cond, not, List, [], ◌∷◌, length}
 use Rattle.std.proofs.Common.{get_or, set, map, Option, Some, None, Result, Ok, refl, sym, ap, subst, arith}
 use Rattle.std.specs.List.{list_all}
 use Rattle.std.specs.Option.{IfSome}
@@ -219,8 +219,8 @@ stated_keeps r stated is keeps =
 line_hides : (given : Given) (s : State) (line : List ℕ) (new : State) → IsSoundState given s → IsSoundState given new
     → LineSteps given s line new → deletes_nothing (line_of line) ≡ true → NothingHidden (found_world given s)
     → NothingHidden (found_world given new)
-line_hides given s line new sound sound_new (still same) keeps nothing_hidden =
-    subst (λ (x : State). NothingHidden (found_world given x)) (sym same) nothing_hidden
+line_hides given s line new sound sound_new (still same) keeps nothing_hidden j inside =
+    subst (λ (x : State). NothingHidden (found_world given x)) (sym same) nothing_hidden j inside
 line_hides given s line new sound sound_new (declares early none) keeps nothing_hidden j inside =
     ap (λ (w : World). (member w j).hidden) (opened given new (sound_new.begun none))
     ∙ opening_hides _ (numbers_from 0 (length new.keys.members.names)) j (λ x. refl)

@@ -1,6 +1,6 @@
 -- What lines that are taken come to as events: what holds in the beginning, and stays so after each event, holds behind
 -- any lines; and behind the first event the lines are a run of events.
-use Rattle.std.proofs.Common.{◌≡◌, ◌∙◌, ℕ, true, false, List, [], ◌∷◌, ◌++◌, length, Option, Some, Ok, refl, sym, ap}
+use Rattle.std.proofs.Common.{◌≡◌, ◌∙◌, ℕ, true, false, List, [], ◌∷◌, ◌++◌, length, Some, Ok, refl, sym, ap}
 use Rattle.std.proofs.Common.{subst}
 use Rattle.std.proofs.lemmas.Bool.{true≢false}
 use Rattle.group_model.specs.Events as group
@@ -18,6 +18,7 @@ use Rattle.script_lang.specs.Lines.{line_of}
 use Rattle.script_lang.specs.Checking as checking
 use Rattle.script_lang.specs.Checking.{Declared, after_by, after_group, after_line, party}
 use Rattle.bench_world.specs.EventValues.{EventValue, group_event}
+use Rattle.bench_world.specs.Worlds.{drawing}
 use Rattle.bench_world.proofs.EventRuns.{named_ready}
 use Rattle.repo_top.specs.SaidEvents.{said_event}
 use Rattle.repo_top.specs.Judging.{Given, State, acted_by, acted_if, declaring_member, found_world, opening_state}
@@ -25,8 +26,9 @@ use Rattle.repo_top.specs.Judging.{outside_of, says, taken_by, with_client, with
 use Rattle.repo_top.specs.Story.{Reached, nothing_reached}
 use Rattle.repo_top.specs.Headline.{AreTakenFirst, LinesAreTaken, group_at}
 use Rattle.repo_top.proofs.Fitting.{event_fits}
-use Rattle.repo_top.proofs.HeadlineGroups.{IsSoundState, LineTaken, acted_said, declares_group, event_line, may, nothing}
-use Rattle.repo_top.proofs.HeadlineGroups.{opened, says_state, sound_beginning, sound_line, stating, taken_line}
+use Rattle.repo_top.proofs.HeadlineGroups.{IsSoundState, LineTaken, acted_said, declares_group, event_line, may}
+use Rattle.repo_top.proofs.HeadlineGroups.{nothing, opened, says_state, sound_beginning, sound_line, stating}
+use Rattle.repo_top.proofs.HeadlineGroups.{taken_line}
 
 -- ---- one line
 
@@ -122,7 +124,8 @@ module _ (given : Given) (P : World → Type 0) (begins : (out : Outside) (n : �
     → P (after_event out w e)) where
   -- Before the first event nothing has happened.
   so_before : (s : State) → IsSoundState given s → s.declared.events ≡ false → P (found_world given s)
-  so_before s sound none = subst P (sym (opened given s (sound.begun none))) (begins _ (length s.keys.members.names))
+  so_before s sound none = subst P (sym (opened given s (sound.begun none)))
+      (begins (drawing given.draw) (length s.keys.members.names))
 
   so_next : (s : State) (line : List ℕ) (new : State) → IsSoundState given s → IsSoundState given new
       → LineSteps given s line new → P (found_world given s) → P (found_world given new)

@@ -1,9 +1,9 @@
 -- What members list right after a settle, from then on, and where all are told of all.
-use Rattle.std.proofs.Common.{◌≡◌, ◌≢◌, ◌∙◌, inl, inr, ℕ, zero, suc, ◌+◌, ◌≤◌, ◌<◌, max, Bool, true, false, not, List, []}
-use Rattle.std.proofs.Common.{◌∷◌, ◌++◌, length, map, get_or, set, refl, sym, ap, subst, arith}
+use Rattle.std.proofs.Common.{◌≡◌, ◌∙◌, inl, inr, ℕ, zero, suc, ◌≤◌, ◌<◌, max, true, false, List, []}
+use Rattle.std.proofs.Common.{◌∷◌, length, map, get_or, set, refl, sym, ap, subst, arith}
 use Rattle.std.specs.Str.{bytes_eq}
 use Rattle.std.specs.List.{AllByRecursion, IsDistinct}
-use Rattle.std.proofs.lemmas.Bool.{cases_Bool, cases_eq, true≢false}
+use Rattle.std.proofs.lemmas.Bool.{cases_Bool, cases_eq}
 use Rattle.std.proofs.lemmas.List.{get_or-set_same, length-map}
 use Rattle.std.proofs.lemmas.Slice.Eq.{bytes_eq-Decides}
 use Rattle.sorted_lists.specs.Range.{numbers_from}
@@ -15,10 +15,10 @@ use Rattle.group_model.specs.Events as group
 use Rattle.group_model.specs.Publications.{Logs, last_of}
 use Rattle.group_model.specs.Member.{Member, member_hides}
 use Rattle.group_model.specs.Changes.{learns}
-use Rattle.group_model.specs.World.{Outside, World, catalogue_at, logs, member, no_member, opening_world, sent_at}
-use Rattle.group_model.specs.Steps.{after_deliver, after_event, after_events, drawn}
+use Rattle.group_model.specs.World.{Outside, World, catalogue_at, logs, member, no_member, sent_at}
+use Rattle.group_model.specs.Steps.{after_deliver, after_event, drawn}
 use Rattle.group_model.specs.Sound.{IsPublished}
-use Rattle.group_model.specs.Catalogues.{HoldsNoWithdrawal}
+use Rattle.group_model.specs.Catalogues.{BelongsInJoin, HoldsNoWithdrawal}
 use Rattle.group_model.specs.Deletions.{OnlyObjectsHidden}
 use Rattle.group_model.specs.Lasting.{AllLast, StaysListed}
 use Rattle.group_model.specs.Laws.{AllJoined}
@@ -37,7 +37,7 @@ use Rattle.repo_top.specs.Labels.{label_at}
 use Rattle.repo_top.specs.Judging.{Given, State, acted_by, found_world, outside_of, says}
 use Rattle.repo_top.specs.Story.{Reached, nothing_reached, reached_behind}
 use Rattle.repo_top.specs.Headline.{AreTakenFirst, IsTakenAmid, LineIsTaken, LinesAreTaken, group_at, labels_at}
-use Rattle.repo_top.specs.Listings.{IsLeftOfJoin, IsLeftToList, IsToldOfAll, ListedStay, SettledListWhatIsHeld}
+use Rattle.repo_top.specs.Listings.{IsToldOfAll, ListedStay, SettledListWhatIsHeld}
 use Rattle.repo_top.specs.Listings.{SettledListWhatIsLeft, ToldMembersJoin}
 use Rattle.repo_top.proofs.HeadlineLines.{each_is_taken}
 use Rattle.repo_top.proofs.HeadlineGroups.{IsActed, IsSoundState, acts_so, event_line, opened, says_report, says_state}
@@ -179,13 +179,6 @@ one_reached given r (line ∷ lines) (x ∷ a) (y ∷ b) last other is too =
 
 -- ---- labels
 
-other_way : (a b : List ℕ) → bytes_eq a b ≡ false → bytes_eq b a ≡ false
-other_way a b apart = elim (cases_Bool (bytes_eq b a)) [
-  | inl same ↦
-      absurd (true≢false (sym ((bytes_eq-Decides a b).1 (sym ((bytes_eq-Decides b a).0 same))) ∙ apart))
-  | inr other ↦ other
-]
-
 apart_at : (label : List ℕ) (parties : List Party) (m : ℕ)
     → AllByRecursion (λ (other : List ℕ). bytes_eq label other ≡ false) (map party_label parties)
     → m < length parties → bytes_eq label (label_at (map party_label parties) m) ≡ false
@@ -218,8 +211,8 @@ learns_it out w m told p there =
     join-at (member w m).known told p in
     subst (λ (y : Member). get_or told p 0 ≤ get_or y.known p 0) (sym at) (omega (arith, joined))
 
-module _ (given : Given) (lines reports : List (List ℕ)) (r : Reached) (taken : AreTakenFirst given lines reports r)
-    where
+module _ (given : Given) (lines reports : List (List ℕ)) (r : Reached)
+    (taken : AreTakenFirst given lines reports r) where
   sound : IsSoundState given r.state
   sound = sound_from_start given lines reports r taken
 
@@ -313,19 +306,21 @@ told_members_join given lines reports r taken told wants hides =
     let w : World = group_at given r in
     let count : length (labels_at r) ≡ length r.state.declared.members =
     length-map r.state.declared.members party_label in
-    let wide : length (logs w) ≡ length w.members = length-map w.members (λ (x : Member). x.log) in
-    let knows : (m p : ℕ) → m < length w.members → p < length (logs w) → last_of (logs w) p ≤ known_by w m p =
-    λ m p there inside.
+    let knows : (m p : ℕ) → m < length w.members → last_of (logs w) p ≤ known_by w m p =
+    λ m p there.
     elim (cases_eq p m) [
       | inl own ↦
           let all : known_by w m m ≡ last_of (logs w) m = (sound_r.sound.members m there).own in
           subst (λ (q : ℕ). last_of (logs w) q ≤ known_by w m q) (sym own) (omega (arith, all))
       | inr other ↦
           let label_there : m < length (labels_at r) = omega (arith, there, count, sound_r.many) in
-          let other_there : p < length (labels_at r) = omega (arith, inside, wide, count, sound_r.many) in
-          knows_it given lines reports r taken m p label_there
-          (told m p label_there other_there (λ same. other (sym same)))
+          elim (cases_eq (last_of (logs w) p) 0) [
+            | inl none ↦ omega (arith, none)
+            | inr some ↦
+                knows_it given lines reports r taken m p label_there
+                (told m p label_there (λ same. other (sym same)) (omega (arith, some)))
+          ]
     ] in
     let all : AllJoined w = λ m there.
-    joins_by_itself (logs w) (member w m) (λ p inside. knows m p there inside) (hides m there) (wants m there) in
+    joins_by_itself (logs w) (member w m) (λ p inside. knows m p there) (hides m there) (wants m there) in
     shows_join given r sound_r all

@@ -29,7 +29,7 @@ use Rattle.script_lang.specs.Forms.{Stated, form, said}
 use Rattle.script_lang.specs.Lines.{line_of}
 use Rattle.script_lang.specs.Texts.{AreOf, IsLineText}
 use Rattle.script_lang.specs.Checking as checking
-use Rattle.script_lang.specs.Checking.{Declared, Party, after_group, after_line, is_party_among, is_there, party}
+use Rattle.script_lang.specs.Checking.{Declared, after_group, after_line, is_party_among, is_there, party}
 use Rattle.script_lang.specs.Checking.{party_label}
 use Rattle.script_lang.proofs.LineTexts.{line_texts}
 use Rattle.bench_world.specs.EventValues.{EventValue, group_event}

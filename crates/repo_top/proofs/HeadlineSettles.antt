@@ -1,9 +1,8 @@
 -- Catalogues right after a settle.
-use Rattle.std.proofs.Common.{◌≡◌, ◌∙◌, ℕ, ◌<◌, true, List, [], ◌∷◌, length, map, Option, Some, Result, Ok, refl, sym}
+use Rattle.std.proofs.Common.{◌≡◌, ◌∙◌, ℕ, true, List, [], ◌∷◌, map, Option, Some, Result, Ok, refl, sym}
 use Rattle.std.proofs.Common.{ap, subst}
 use Rattle.std.specs.List.{list_all}
-use Rattle.group_model.specs.Publications.{join_of}
-use Rattle.group_model.specs.World.{Outside, World, catalogue_at, logs}
+use Rattle.group_model.specs.World.{Outside, World}
 use Rattle.group_model.specs.Events as group
 use Rattle.group_model.specs.Steps.{after_event}
 use Rattle.group_model.specs.Laws.{AllJoined, NothingHidden}
@@ -22,7 +21,8 @@ use Rattle.bench_world.specs.EventValues.{EventValue, group_event}
 use Rattle.repo_top.specs.SaidEvents.{party_number, said_by, said_event}
 use Rattle.repo_top.specs.Judging.{Given, State, acted_by, acted_if, found_world, outside_of, says, taken_by}
 use Rattle.repo_top.specs.Story.{Reached}
-use Rattle.repo_top.specs.Headline.{LinesAreTaken, IsCatalogueOf, IsJoined, IsSameGroup, IsSettleLine, SettlesJoin}
+use Rattle.repo_top.specs.Headline.{LinesAreTaken, IsCatalogueLine, IsCatalogueOf, IsJoined, IsSameGroup}
+use Rattle.repo_top.specs.Headline.{IsSettleLine, PrintsLater, SettlesJoin}
 use Rattle.repo_top.specs.Headline.{TellingChangesNothing, changes_nothing, group_at, labels_at, only_tells}
 use Rattle.repo_top.specs.Headline.{printed_entries}
 use Rattle.repo_top.proofs.HeadlineGroups.{IsActed, IsSoundState, LineTaken, acts_so, acted_said, event_line, nothing}
@@ -138,17 +138,23 @@ lines_tell given r (line ∷ lines) (report ∷ reports) later taken tell =
 
 -- ---- what is printed
 
-printed_join : (given : Given) (r later : Reached) (label report : List ℕ) → AllJoined (group_at given r)
-    → IsSameGroup given r later → IsCatalogueOf (group_at given later) (labels_at later) label report
-    → report ≡ printed_entries (labels_at r) label (join_of (logs (group_at given r)))
-printed_join given r later label report all same c =
-    let there : c.number < length (group_at given r).members =
-    subst (λ (w : World). c.number < length w.members) same.group c.there in
-    c.text
-    ∙ ap (λ (w : World). printed_entries (labels_at later) label (catalogue_at w c.number)) same.group
-    ∙ ap (λ (labels : List (List ℕ)). printed_entries labels label (catalogue_at (group_at given r) c.number))
-    same.labels
-    ∙ ap (printed_entries (labels_at r) label) (all c.number there)
+-- Where the group is the same, so is what is printed of it.
+same_printed : (given : Given) (r later : Reached) (label report : List ℕ) → IsSameGroup given r later
+    → IsCatalogueOf (group_at given later) (labels_at later) label report
+    → IsCatalogueOf (group_at given r) (labels_at r) label report
+same_printed given r later label report same c =
+    subst (λ (x : World × List (List ℕ)). IsCatalogueOf x.0 x.1 label report) (λ i. (same.group i, same.labels i)) c
+
+later_catalogue : (given : Given) (r : Reached) → IsSoundState given r.state → (between told : List (List ℕ))
+    (later : Reached) → LinesAreTaken given r between told later
+    → list_all (λ line. changes_nothing (line_of line)) between ≡ true → (label report : List ℕ) (new : Reached)
+    → IsCatalogueLine given later label report new → IsCatalogueOf (group_at given r) (labels_at r) label report
+later_catalogue given r sound between told later go_on tell label report new c =
+    same_printed given r later label report (lines_tell given r between told later go_on tell)
+    (catalogue_line given later (sound_lines given r between told later go_on sound) label report new c)
+
+pub prints_later : PrintsLater
+prints_later given lines reports r taken = later_catalogue given r (sound_from_start given lines reports r taken)
 
 -- Where the catalogues are joined `catalogue` lines print the join.
 pub shows_join : (given : Given) (r : Reached) → IsSoundState given r.state → AllJoined (group_at given r)
@@ -156,8 +162,9 @@ pub shows_join : (given : Given) (r : Reached) → IsSoundState given r.state �
 shows_join given r sound all = record {
   all = all;
   shown = λ between told later go_on tell label text last c.
-      printed_join given r later label text all (lines_tell given r between told later go_on tell)
-      (catalogue_line given later (sound_lines given r between told later go_on sound) label text last c);
+      let printed : IsCatalogueOf (group_at given r) (labels_at r) label text =
+      later_catalogue given r sound between told later go_on tell label text last c in
+      printed.text ∙ ap (printed_entries (labels_at r) label) (all printed.number printed.there);
 }
 
 pub settles_join : SettlesJoin

@@ -1,11 +1,12 @@
 -- The digest of each packet behind a record stands where the record or an index packet lists it.
-use Rattle.std.proofs.Common.{◌≡◌, ℕ, zero, suc, ◌+◌, ◌-◌, ◌*◌, ◌^◌, ◌/◌, ◌<◌, ◌≤◌, Bool, true, false, cond, not, ◌==◌}
-use Rattle.std.proofs.Common.{◌||◌, List, [], ◌∷◌, map, length, take, drop, get_or, slice_get, Option, Some, option_map, inl, inr}
-use Rattle.std.proofs.Common.{unwrap_or, refl, sym, ap, ◌∙◌, subst, arith}
+use Rattle.std.proofs.Common.{◌≡◌, ℕ, ◌+◌, ◌-◌, ◌*◌, ◌^◌, ◌/◌, ◌<◌, ◌≤◌, Bool, true, false, cond, not, ◌==◌, ◌||◌}
+use Rattle.std.proofs.Common.{List, [], map, length, take, drop, get_or, min, slice_get, Option, Some, option_map}
+use Rattle.std.proofs.Common.{unwrap_or, inl, inr, refl, ap, ◌∙◌, arith}
 use Rattle.std.specs.Prelude.{nat_le}
 use Rattle.std.specs.Option.{option_and_then}
 use Rattle.std.proofs.lemmas.Bool.{cases_lt, eqb-true, ne_eqb, lt-leb}
-use Rattle.std.proofs.lemmas.Option.{slice_get-get_or, slice_get-map}
+use Rattle.std.proofs.lemmas.List.{get_or-drop, get_or-take, length-drop, length-take}
+use Rattle.std.proofs.lemmas.Option.{get_or_from_slice_get, slice_get-get_or, slice_get-map, slice_get_within}
 use Rattle.sha2.specs.Sha256.{sha256}
 use Rattle.repo_plan.specs.Parts.{IsShape, index_packets, parent_number, parts_behind, shape_of_segments}
 use Rattle.repo_plan.specs.declared.shape.Shape.{Shape}
@@ -17,21 +18,7 @@ use Rattle.repo_object.specs.Publication.{published_segments}
 use Rattle.repo_object.specs.Verdict.{index_in}
 use Rattle.repo_object.specs.Wants.{listed_in}
 use Rattle.repo_object.proofs.Publications.{index_again, index_digest, packets-length, record_said, segment_part}
-use Rattle.repo_top.specs.ListedDigests.{ListsDigest, digests_said, listed_digests, place_listed}
-
--- ---- places of lists
-
-at_drop : {A : Type 0} (n : ℕ) (xs : List A) (i : ℕ) → slice_get (drop n xs) i ≡ slice_get xs (n + i)
-at_drop zero xs i = let same : i ≡ 0 + i = omega arith in ap (slice_get xs) same
-at_drop (suc n) [] i = refl
-at_drop (suc n) (x ∷ xs) i =
-    let more : suc (n + i) ≡ suc n + i = omega arith in at_drop n xs i ∙ ap (slice_get (x ∷ xs)) more
-
-at_take : {A : Type 0} (n : ℕ) (xs : List A) (i : ℕ) → i < n → slice_get (take n xs) i ≡ slice_get xs i
-at_take zero xs i h = absurd (omega (arith, h))
-at_take (suc n) [] i h = refl
-at_take (suc n) (x ∷ xs) zero h = refl
-at_take (suc n) (x ∷ xs) (suc i) h = at_take n xs i (omega (arith, h))
+use Rattle.repo_top.specs.ListedDigests.{ListsDigest, digests_said, listed_digests}
 
 -- ---- an object
 
@@ -121,11 +108,28 @@ module _ (by : Publisher) (is_publisher : IsPublisher by) (seq : ℕ) (low : seq
           index_again by is_publisher object is_object seq (k - 1) index low (omega (arith, some, within))
           (ap (packet_at by seq (Offers object)) next ∙ index_is)
 
+      abbrev place : ℕ
+      place = i - (k - 1) * 200
+
+      listed_there : slice_get (listed_by segments (k - 1)) place ≡ Some octets
+      listed_there =
+          let behind : List (List ℕ) = drop ((k - 1) * 200) segments in
+          let whole : (k - 1) * 200 + place ≡ i = omega (arith, around.0) in
+          let within_all : i < length segments = slice_get_within segments i octets segment in
+          let long : length (take 200 behind) ≡ min 200 (length segments - (k - 1) * 200) =
+          length-take 200 behind ∙ ap (min 200) (length-drop ((k - 1) * 200) segments) in
+          let near : place < 200 = omega (arith, around.0, around.1, some) in
+          let inside : place < length (take 200 behind) = omega (arith, long, within_all, near, whole) in
+          let found : get_or (take 200 behind) place [] ≡ octets =
+          get_or-take 200 behind place [] near
+          ∙ get_or-drop ((k - 1) * 200) segments place []
+          ∙ ap (λ (n : ℕ). get_or segments n []) whole
+          ∙ get_or_from_slice_get segments i octets [] segment in
+          slice_get-get_or (take 200 behind) place [] inside
+          ∙ ap (λ (o : List ℕ). let found : Option (List ℕ) = Some o in found) found
+
       in_index : ListsDigest by seq (Offers object) x octets
       in_index =
-          let place : ℕ = i - (k - 1) * 200 in
-          let near : place < 200 = omega (arith, around.0, around.1, some) in
-          let whole : (k - 1) * 200 + place ≡ i = omega (arith, around.0) in
           let not_first : (k == 0) ≡ false = ne_eqb k 0 (λ e. omega (arith, e, some)) in
           ap (λ (b : Bool). slice_get (cond b (listed_digests by seq (Offers object) 0)
           (unwrap_or (option_and_then (λ (o : List ℕ). index_in o (listed_in n (k - 1)))
@@ -135,11 +139,7 @@ module _ (by : Publisher) (is_publisher : IsPublisher by) (seq : ℕ) (low : seq
           index_is
           ∙ ap (λ (o : Option (List (List ℕ))). slice_get (unwrap_or o []) place) index_read
           ∙ slice_get-map sha256 (listed_by segments (k - 1)) place
-          ∙ ap (option_map sha256)
-          (at_take 200 (drop ((k - 1) * 200) segments) place near
-          ∙ at_drop ((k - 1) * 200) segments place
-          ∙ ap (slice_get segments) whole
-          ∙ segment)
+          ∙ ap (option_map sha256) listed_there
 
     of_segment : ListsDigest by seq (Offers object) x octets
     of_segment = go (index_packets n == 0) refl where

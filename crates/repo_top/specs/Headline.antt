@@ -235,6 +235,14 @@ PrintsCatalogues = (given : Given) (lines reports : List (List ℕ)) (r : Reache
     → (label report : List ℕ) (new : Reached) → IsCatalogueLine given r label report new
     → IsCatalogueOf (group_at given r) (labels_at r) label report
 
+-- Behind any lines that change nothing it prints the catalogue as it was before them.
+abbrev pub PrintsLater : Type 0
+PrintsLater = (given : Given) (lines reports : List (List ℕ)) (r : Reached) → AreTakenFirst given lines reports r
+    → (between told : List (List ℕ)) (later : Reached) → LinesAreTaken given r between told later
+    → list_all (λ line. changes_nothing (line_of line)) between ≡ true
+    → (label report : List ℕ) (new : Reached) → IsCatalogueLine given later label report new
+    → IsCatalogueOf (group_at given r) (labels_at r) label report
+
 -- Each member's catalogue is the join of all publications, which is every object that none of them withdraws; and that
 -- is what `catalogue` lines print, behind any lines that change nothing.
 pub record IsJoined (given : Given) (r : Reached) : Type 0 where

@@ -25,8 +25,8 @@ listed_digests by seq post x =
     (option_and_then (λ octets. index_in octets (listed_in (shape_in post).segments (x - 1))) (packet_at by seq post x))
     []
 
--- Where the digest of part `x` stands in the part that lists it: the record lists the parts from the first on, each index
--- packet the next 200 segments.
+-- Where the digest of part `x` stands in the part that lists it: the record lists the parts from the first on, each
+-- index packet the next 200 segments.
 abbrev pub place_listed : Shape → ℕ → ℕ
 place_listed shape x =
     if parent_number shape x == 0 then x - 1

@@ -26,7 +26,7 @@ pub record IsLeftToList (before behind : World) (m : ℕ) (pair : Pair) : Type 0
   pub undeleted : member_hides (member behind m) pair ≡ false
   pub not_withdrawn : HoldsNoWithdrawal (logs behind) (member behind m) pair
 
--- Right after a `settle` line each member lists exactly that.
+-- Right after a `settle` line each member lists just that.
 abbrev pub SettledListWhatIsHeld : Type 0
 SettledListWhatIsHeld = (given : Given) (lines reports : List (List ℕ)) (r : Reached)
     → AreTakenFirst given lines reports r → (report : List ℕ) (new : Reached) → IsSettleLine given r report new
@@ -34,13 +34,14 @@ SettledListWhatIsHeld = (given : Given) (lines reports : List (List ℕ)) (r : R
     → (lists pair (catalogue_at (group_at given new) m) ≡ true)
     ↔ IsLeftToList (group_at given r) (group_at given new) m pair
 
--- The same of an object that belongs in the join of all publications, which no publication withdraws.
+-- The same in the words of the join: the object belongs in the join of all publications, so that no publication
+-- withdraws it.
 pub record IsLeftOfJoin (before behind : World) (m : ℕ) (pair : Pair) : Type 0 where
   pub joins : BelongsInJoin (logs behind) pair
   pub held : IsHeldAmong before pair
   pub undeleted : member_hides (member behind m) pair ≡ false
 
--- That is the same, since no withdrawal is deleted and so each comes to all in a settle.
+-- That is what each member lists too: no withdrawal is ever deleted, so each of them comes to all in a settle.
 abbrev pub SettledListWhatIsLeft : Type 0
 SettledListWhatIsLeft = (given : Given) (lines reports : List (List ℕ)) (r : Reached)
     → AreTakenFirst given lines reports r → (report : List ℕ) (new : Reached) → IsSettleLine given r report new
@@ -75,9 +76,10 @@ pub record IsToldOfAll (given : Given) (lines : List (List ℕ)) (last : Reached
   pub stated : Says line (said verb.Deliver (Number sync ∷ Text (label_at (labels_at last) m) ∷ []))
   pub tells : slice_index (sent_at (group_at given here) sync).vector p ≡ last_of (logs (group_at given last)) p
 
--- Where each member is told of all that each other publishes, and nothing is wanted or hidden in the end, each catalogue
--- is the join of all publications, and is printed so, with no settle.
+-- Where each member is told of all that each other has published, if it has published at all, and nothing is wanted or
+-- hidden in the end, each catalogue is the join of all publications, and is printed so, with no settle.
 abbrev pub ToldMembersJoin : Type 0
 ToldMembersJoin = (given : Given) (lines reports : List (List ℕ)) (r : Reached) → AreTakenFirst given lines reports r
-    → ((m p : ℕ) → m < length (labels_at r) → p < length (labels_at r) → m ≢ p → IsToldOfAll given lines r m p)
+    → ((m p : ℕ) → m < length (labels_at r) → m ≢ p → 0 < last_of (logs (group_at given r)) p
+    → IsToldOfAll given lines r m p)
     → NothingWanted (group_at given r) → NothingHidden (group_at given r) → IsJoined given r

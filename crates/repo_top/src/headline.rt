@@ -1,6 +1,7 @@
 ghost use Rattle.std.specs.Prelude.{ℕ, List};
 ghost use Rattle.repo_top.specs.Headline.{BeginsWithReports, EachIsTaken, HidesByDeletionAlone, IsToldBy};
-ghost use Rattle.repo_top.specs.Headline.{PrintsCatalogues, ReachSoundGroups, SettlesJoin, TellingChangesNothing};
+ghost use Rattle.repo_top.specs.Headline.{PrintsCatalogues, PrintsLater, ReachSoundGroups, SettlesJoin};
+ghost use Rattle.repo_top.specs.Headline.{TellingChangesNothing};
 ghost use Rattle.repo_top.specs.HeldPackets.{EntriesTellOfDumped, MembersHoldChecked};
 ghost use Rattle.repo_top.specs.Judging.{Given};
 ghost use Rattle.repo_top.specs.Labels.{MembersHaveLabels};
@@ -30,9 +31,11 @@ pub fn lines_reach_sound_groups()
 {}
 
 /// In every story a printed catalogue lists exactly the objects that the member published or wholly holds, undeleted
-/// and not known withdrawn, each once under its publisher and number, in order, with what it tells of the object.
+/// and not known withdrawn, each once under its publisher and number, in order, with what it tells of the object. Until
+/// a line changes something the same is printed.
 pub fn printed_catalogues_list_what_is_held()
-    ensures { PrintsCatalogues }
+    ensures held { PrintsCatalogues }
+    ensures later { PrintsLater }
 {}
 
 /// In every story each number of a member that a report is made of is that of a member that a line declared, whose
@@ -64,9 +67,9 @@ pub fn listed_objects_stay_listed()
     ensures { ListedStay }
 {}
 
-/// Where lines deliver to each member a sync Interest that tells of the last publication of each other, and in the end
-/// nothing is wanted or deleted, every member's catalogue is the join of all publications, and is printed so, without
-/// any `settle` line.
+/// Where lines deliver to each member, for each other that published, a sync Interest that tells of its last
+/// publication, and in the end nothing is wanted or deleted, every member's catalogue is the join of all publications,
+/// and is printed so, without any `settle` line.
 pub fn told_members_join_without_a_settle()
     ensures { ToldMembersJoin }
 {}
