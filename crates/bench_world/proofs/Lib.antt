@@ -32,7 +32,7 @@ mod ClientKeys
 mod Orders
 mod IssuedLemmas
 mod Stepping
-mod Coming
+pub mod Coming
 mod TakenOut
 mod Asked
 mod Answerable

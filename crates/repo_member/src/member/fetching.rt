@@ -44,6 +44,14 @@ impl Member {
         self.held.release(f)
     }
 
+    /// The part that the fetcher claims, if it claims one. It takes no memory.
+    pub fn claimed(&self, f: u8) -> Option<Part>
+        requires { IsFetcher f }
+        ensures { result ≡ claim_of (alone_plan self.now) f }
+    {
+        self.held.claimed(f)
+    }
+
     /// The want of the fetcher's part, with the Interest that asks for it.
     pub fn want(&self, alloc: Global, g: &Group, f: u8) -> Result<Want, WantFault>
         requires fetcher { IsFetcher f }
