@@ -19,10 +19,10 @@ use Rattle.bench_world.specs.Worlds.{in_groups, AreTrueMembers, MembersAreNumber
 -- ---- a fetcher's claim
 
 -- Octets are compared with the packet of a published part, which its publisher has.
-pub record CanCompare (g : GroupKeys) (ls : Logs) (publisher : Alone) (t : Part) : Type 0 where
+pub record CanCompare (g : GroupKeys) (ls : Logs) (p : Alone) (t : Part) : Type 0 where
   pub logs : AreLogs g ls
-  pub publisher : IsTrueMember g ls publisher
-  pub number : publisher.number ≡ t.publisher
+  pub publisher : IsTrueMember g ls p
+  pub number : p.number ≡ t.publisher
   pub part : IsPublishedPart ls t
 
 -- A member's fetcher may claim a part.
@@ -32,14 +32,14 @@ pub record CanWant (g : GroupKeys) (ls : Logs) (f : ℕ) (a : Alone) : Type 0 wh
   pub fetcher : IsFetcher f
 
 -- It claims the part of this want, which this publisher has.
-pub record CanTake (g : GroupKeys) (ls : Logs) (f : ℕ) (want : WantedPart) (publisher asker : Alone) : Type 0 where
+pub record CanTake (g : GroupKeys) (ls : Logs) (f : ℕ) (w : WantedPart) (p a : Alone) : Type 0 where
   pub logs : AreLogs g ls
-  pub publisher : IsTrueMember g ls publisher
-  pub number : publisher.number ≡ want.part.publisher
-  pub asker : IsTrueMember g ls asker
+  pub publisher : IsTrueMember g ls p
+  pub number : p.number ≡ w.part.publisher
+  pub asker : IsTrueMember g ls a
   pub fetcher : IsFetcher f
-  pub claim : claim_of (alone_plan asker) f ≡ Some want.part
-  pub want : want ≡ true_want g ls want.part
+  pub claim : claim_of (alone_plan a) f ≡ Some w.part
+  pub want : w ≡ true_want g ls w.part
 
 -- The member of this number may get a packet for its fetcher's claim.
 pub record CanGetAt (g : GroupKeys) (ls : Logs) (f m : ℕ) (ms : List Alone) : Type 0 where
