@@ -7,6 +7,7 @@ mod faults;
 mod generated;
 mod inspected;
 mod joined;
+mod kinds;
 mod refused;
 mod rows;
 mod seeded;

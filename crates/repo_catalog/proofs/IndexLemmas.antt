@@ -6,7 +6,6 @@ use Rattle.std.specs.Ordering.{eq_by_cmp, is_eq, nat_cmp, ordering_then}
 use Rattle.std.specs.declared.cmp.Ordering.{Ordering}
 use Rattle.std.specs.declared.cmp.Ordering.TheVariants.{Less, Equal, Greater}
 use Rattle.std.proofs.lemmas.Bool.Decides.{nat_tests}
-use Rattle.std.proofs.lemmas.List.Folds.{list_any-append}
 use Rattle.repo_plan.specs.Parts.{Pair, pair_cmp}
 use Rattle.repo_plan.proofs.Orders.{exact_pairs}
 use Rattle.sorted_lists.specs.SortedList.{contains}
@@ -16,7 +15,7 @@ use Rattle.repo_catalog.specs.Entries.{publication_of, is_of, entry_of, lists, w
 use Rattle.repo_catalog.specs.Entries.{IsCatalogue}
 use Rattle.repo_catalog.specs.NameKeys.{Key, key_cmp, key_of, hash_of, has_hash, is_key}
 use Rattle.repo_catalog.proofs.LawLemmas.{adds_one, removes_one}
-use Rattle.repo_catalog.proofs.ManyLemmas.{removes_all}
+use Rattle.repo_catalog.proofs.ManyLemmas.{removes_all, one_more_gone}
 
 -- ---- keys are the same where hashes and publications are
 
@@ -81,15 +80,6 @@ is_key-without x es q there =
     (λ t. ap (λ (p : Pair). entry_of p es) (eq_same exact_pairs q.1 (publication_of x) t) ∙ there))
 
 -- ---- many less, one by one
-
-one_more_gone : (gone : List Pair) (p q : Pair)
-    → contains pair_cmp (gone ++ p ∷ []) q ≡ (contains pair_cmp gone q || eq_by_cmp pair_cmp q p)
-one_more_gone gone p q =
-    list_any-append (eq_by_cmp pair_cmp q) gone (p ∷ [])
-    ∙ ap (λ (b : Bool). contains pair_cmp gone q || b) (or_false (eq_by_cmp pair_cmp q p)) where
-      or_false : (b : Bool) → (b || false) ≡ b
-      or_false true = refl
-      or_false false = refl
 
 -- a publication that has an entry goes too
 listed_gone : (h : ℕ) (x : Entry) (c b : Bool) (o : Option Entry) → (b ≡ true → o ≡ Some x)

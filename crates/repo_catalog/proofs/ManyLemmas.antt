@@ -1,17 +1,18 @@
 -- What a catalogue has after many entries are added or removed.
-use Rattle.std.proofs.Common.{◌≡◌, ℕ, ◌≤◌, Bool, true, false, cond, not, ◌&&◌, List, [], ◌∷◌, ◌++◌, map, Option}
+use Rattle.std.proofs.Common.{◌≡◌, ℕ, ◌≤◌, Bool, true, false, cond, not, ◌&&◌, ◌||◌, List, [], ◌∷◌, ◌++◌, map, Option}
 use Rattle.std.proofs.Common.{Some, None, refl, sym, ap, subst, ◌∙◌, inl, inr, suc, zero, get_or, length, ◌<◌, arith}
 use Rattle.std.proofs.Common.{add-one}
 use Rattle.std.specs.Prelude.{is_some}
 use Rattle.std.specs.List.{filter, Contains}
 use Rattle.std.specs.List.Sorted.{IsPermutation, IsSortedByKey}
 use Rattle.std.specs.Option.{option_or}
-use Rattle.std.specs.Ordering.{is_eq, is_lt}
+use Rattle.std.specs.Ordering.{eq_by_cmp, is_eq, is_lt}
 use Rattle.std.specs.declared.cmp.Ordering.{Ordering}
 use Rattle.std.specs.declared.cmp.Ordering.TheVariants.{Less, Equal, Greater}
 use Rattle.std.proofs.lemmas.Bool.{true≢false}
 use Rattle.std.proofs.lemmas.List.{append-nil}
 use Rattle.std.proofs.lemmas.List.Elements.{filter-append}
+use Rattle.std.proofs.lemmas.List.Folds.{list_any-append}
 use Rattle.std.proofs.lemmas.List.Sums.{length-filter}
 use Rattle.std.proofs.lemmas.List.Sorted.{IsPermutation-sym, Contains-permutation, sum_by-IsPermutation}
 use Rattle.repo_plan.specs.Parts.{Pair, pair_cmp}
@@ -20,8 +21,8 @@ use Rattle.sorted_lists.specs.SortedList.{contains, Rises}
 use Rattle.sorted_lists.proofs.Orders.{greater_back}
 use Rattle.sorted_lists.proofs.Sets.{In, before_more, eq_same, eq_itself, rises_filter}
 use Rattle.repo_catalog.specs.declared.entry.Entry.{Entry}
-use Rattle.repo_catalog.specs.Entries.{publication_of, is_of, entry_of, lists, with_entry, with_entries, without_all}
-use Rattle.repo_catalog.specs.Entries.{IsCatalogue, AreApart}
+use Rattle.repo_catalog.specs.Entries.{publication_of, is_of, entry_of, lists, with_entry, with_entries, without}
+use Rattle.repo_catalog.specs.Entries.{without_all, IsCatalogue, AreApart}
 use Rattle.repo_catalog.proofs.EntryLemmas.{with_entry_rises}
 use Rattle.repo_catalog.proofs.LawLemmas.{adds_one, entries_tell_all}
 
@@ -91,6 +92,53 @@ module _ (gone : List Pair) (k : Pair) where
 pub removes_all : (gone : List Pair) (es : List Entry) (k : Pair)
     → entry_of k (without_all gone es) ≡ cond (contains pair_cmp gone k) None (entry_of k es)
 removes_all gone es k = removes gone k es
+
+-- the publications that go gain one
+pub one_more_gone : (gone : List Pair) (p q : Pair)
+    → contains pair_cmp (gone ++ p ∷ []) q ≡ (contains pair_cmp gone q || eq_by_cmp pair_cmp q p)
+one_more_gone gone p q =
+    list_any-append (eq_by_cmp pair_cmp q) gone (p ∷ [])
+    ∙ ap (λ (b : Bool). contains pair_cmp gone q || b) (or_false (eq_by_cmp pair_cmp q p)) where
+      or_false : (b : Bool) → (b || false) ≡ b
+      or_false true = refl
+      or_false false = refl
+
+eq_back : (p q : Pair) → eq_by_cmp pair_cmp p q ≡ eq_by_cmp pair_cmp q p
+eq_back p q = go (eq_by_cmp pair_cmp p q) refl (eq_by_cmp pair_cmp q p) refl where
+  go : (a : Bool) → eq_by_cmp pair_cmp p q ≡ a → (b : Bool) → eq_by_cmp pair_cmp q p ≡ b → a ≡ b
+  go true s true t = refl
+  go true s false t =
+      sym (eq_itself exact_pairs p)
+      ∙ ap (λ (z : Pair). eq_by_cmp pair_cmp z p) (eq_same exact_pairs p q s)
+      ∙ t
+  go false s true t =
+      sym s
+      ∙ ap (λ (z : Pair). eq_by_cmp pair_cmp z q) (sym (eq_same exact_pairs q p t))
+      ∙ eq_itself exact_pairs q
+  go false s false t = refl
+
+pub without_none : (es : List Entry) → without_all [] es ≡ es
+without_none [] = refl
+without_none (x ∷ xs) = ap (λ (ys : List Entry). x ∷ ys) (without_none xs)
+
+pub without_one_more : (gone : List Pair) (p : Pair) (es : List Entry)
+    → without p (without_all gone es) ≡ without_all (gone ++ p ∷ []) es
+without_one_more gone p [] = refl
+without_one_more gone p (x ∷ xs) =
+    go (contains pair_cmp gone (publication_of x)) (without_one_more gone p xs)
+    ∙ sym (ap (λ (c : Bool). cond (not c) (x ∷ rest) rest)
+    (one_more_gone gone p (publication_of x)
+    ∙ ap (λ (b : Bool). contains pair_cmp gone (publication_of x) || b) (eq_back (publication_of x) p))) where
+      rest : List Entry
+      rest = without_all (gone ++ p ∷ []) xs
+
+      left : List Entry
+      left = without_all gone xs
+
+      go : (a : Bool) → without p left ≡ rest
+          → without p (cond (not a) (x ∷ left) left) ≡ cond (not (a || is_of p x)) (x ∷ rest) rest
+      go true h = h
+      go false h = ap (λ (ys : List Entry). cond (not (is_of p x)) (x ∷ ys) ys) h
 
 abbrev stays : List Pair → Pair → Bool
 stays gone p = not (contains pair_cmp gone p)

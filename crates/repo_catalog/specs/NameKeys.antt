@@ -1,9 +1,10 @@
 -- The keys under which publications are found by their objects' names.
-use Rattle.std.specs.Prelude.{ℕ, ◌≡◌, ◌≢◌, ◌==◌, Bool, true, false, List, Option, Some, None}
+use Rattle.std.specs.Prelude.{ℕ, ◌≡◌, ◌≢◌, ◌==◌, Bool, true, false, List, take, Option, Some, None}
+use Rattle.std.specs.Int.{w64, from_be_bytes}
 use Rattle.std.specs.Ordering.{nat_cmp, ordering_then}
 use Rattle.std.specs.declared.cmp.Ordering.{Ordering}
 use Rattle.std.specs.declared.cmp.Ordering.TheVariants.{Less}
-use Rattle.std.specs.Hash.FoldHasher as folding
+use Rattle.sha2.specs.Sha256.{sha256}
 use Rattle.ndn_name.specs.Names.{Component, encoding}
 use Rattle.repo_plan.specs.Parts.{Pair, pair_cmp}
 use Rattle.sorted_lists.specs.SortedList.{contains}
@@ -23,9 +24,9 @@ pub record KeyList : Type 0 where
   pub keys : List Key
   pub spare : ℕ
 
--- The hash of a name's octets, as std's hash maps take it.
+-- The front of the SHA-256 of a name's octets: its first eight octets, as a number.
 unfoldable pub hash_of : List Component → ℕ
-hash_of name = folding.finish (folding.write folding.initial (encoding name))
+hash_of name = from_be_bytes w64 (take 8 (sha256 (encoding name)))
 
 -- The key of an entry.
 abbrev pub key_of : Entry → Key

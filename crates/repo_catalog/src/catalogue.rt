@@ -18,6 +18,9 @@ use ndn_name::NameView;
 use std::alloc::{AllocError, Global};
 use std::marker::Model;
 
+// So many entries are removed one by one. Each moves what stands behind it, which takes less than a test of each.
+const FEW: usize = 4;
+
 /// The objects that a member lists, in order of publisher and number, at most one for each pair of them, and room for
 /// more.
 #[derive(Debug, Drop)]
@@ -129,8 +132,30 @@ impl Catalogue {
         true
     }
 
-    /// Removes the entries of many publications, which are in order, in one pass. It takes no memory.
+    /// Removes the entries of many publications, which are in order, in one pass. Where they are few, only what stands
+    /// behind each is moved, and nothing else is read. It takes no memory.
     pub fn remove_all(&mut self, publications: &[(u32, u16)])
+        requires { Rises pair_cmp publications.now }
+        ensures { self.new ≡ record self.old { entries = without_all publications.now self.old.entries } }
+    {
+        if publications.len() <= FEW {
+            self.remove_each(publications);
+        } else {
+            self.remove_in_one_pass(publications);
+        }
+    }
+
+    // The same, one by one.
+    fn remove_each(&mut self, publications: &[(u32, u16)])
+        ensures { self.new ≡ record self.old { entries = without_all publications.now self.old.entries } }
+    {
+        for &(publisher, seq) in publications {
+            self.remove(publisher, seq);
+        }
+    }
+
+    // The same, in one pass over all entries.
+    fn remove_in_one_pass(&mut self, publications: &[(u32, u16)])
         requires { Rises pair_cmp publications.now }
         ensures { self.new ≡ record self.old { entries = without_all publications.now self.old.entries } }
     {

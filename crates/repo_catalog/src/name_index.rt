@@ -8,8 +8,8 @@ ghost use Rattle.repo_catalog.specs.NameKeys.{Key, key_cmp, key_of, hash_of, IsF
 use crate::entry::Entry;
 use ndn_name::NameView;
 use sorted_lists::SortedMap;
+use sha2::{Digest, Sha256};
 use std::alloc::{AllocError, Global};
-use std::hash::{FoldHasher, Hasher};
 use std::marker::Model;
 
 // The hash of an object's name, then the publication. A number has 32 bits here, so that there is always one behind it.
@@ -84,13 +84,14 @@ impl NameIndex {
     }
 }
 
-// The hash of a name's octets. Its seed is fixed, so others can choose names that tie: octets decide in the end.
+// The front of the SHA-256 of a name's octets. Others can choose names, but hardly many whose fronts are the same.
+// Octets decide in the end.
+#[tactic(auto, unfolding(crate::specs::NameKeys::hash_of))]
 pub(crate) fn name_hash(name: &NameView<'_>) -> u64
     ensures { result ≡ hash_of name.now }
 {
-    let mut hasher = FoldHasher::default();
-    hasher.write(name.octets());
-    hasher.finish()
+    let digest = Sha256::digest(name.octets());
+    u64::from_be_bytes(*digest.first_chunk().unwrap())
 }
 
 // The key of an entry.

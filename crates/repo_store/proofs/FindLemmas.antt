@@ -5,7 +5,7 @@ use Rattle.std.specs.Prelude.{◌||◌, IsSome, IsTrue}
 use Rattle.std.specs.List.{find, starts_with}
 use Rattle.std.specs.Bool.{Decides, nat_eq}
 use Rattle.std.specs.Cmp.{unsigned_Decides}
-use Rattle.std.proofs.lemmas.Bool.{true≢false, or_cases, or_left, or_right}
+use Rattle.std.proofs.lemmas.Bool.{true≢false, and_from, and_parts, or_cases, or_left, or_right}
 use Rattle.std.proofs.lemmas.Slice.Eq.{slice_eq-Decides, starts_is}
 use Rattle.sha2.specs.Sha256.{sha256}
 use Rattle.ndn_tlv.specs.Spelling.{element}
@@ -19,6 +19,7 @@ use Rattle.sorted_lists.specs.SortedList.{Rises, keys}
 use Rattle.sorted_lists.specs.Members.{In}
 use Rattle.sorted_lists.specs.Least.{Passes}
 use Rattle.sorted_lists.proofs.Lookups.{find-revalued}
+use Rattle.sorted_lists.proofs.Sets.{in_append}
 use Rattle.sorted_lists.proofs.LeastOnes.{lesser_first, first_same, find_first, first_is_one}
 use Rattle.repo_plan.specs.Parts.{part_cmp}
 use Rattle.repo_plan.proofs.Orders.{exact_parts}
@@ -28,7 +29,8 @@ use Rattle.repo_store.specs.Places.{IsPacket}
 use Rattle.repo_store.specs.Kept.{packet_name, Slots, at, octets_at, Held, entries_of, KeptState}
 use Rattle.repo_store.specs.Slots.{is_full_name, has_full_name, KeptIsSound}
 use Rattle.repo_store.specs.Indexes.{name_of, asks, is_asked, held_part, lesser, IsFirstOf, satisfies_held}
-use Rattle.repo_store.specs.NameLayers.{all_of, IsIndexOf}
+use Rattle.repo_store.specs.NameLayers.{IsIndexOf, is_kept, is_kept_and_asked}
+use Rattle.repo_store.proofs.NameLayerLemmas.{kept_held, held_kept}
 use Rattle.repo_store.proofs.SlotLemmas.{octets_of}
 
 -- in order of the parts, it is the first that passes
@@ -43,6 +45,43 @@ module _ (slots : Slots) (test : List ℕ → Bool) where
       find-revalued part_cmp (octets_at slots) test held
       ∙ ap (option_map (λ (h : Held). octets_at slots h.1))
       (first_is_one exact_parts held passes (find passes held) r rises (find_first exact_parts passes held rises) first)
+
+-- ---- what is first in the layers of names is first of what is held
+
+module _ (k : KeptState) (asked : List ℕ) (p : Bool) (l : Names) (index : IsIndexOf k.slots k.held l) where
+  abbrev test : Held → Bool
+  test = is_asked k.slots asked p
+
+  abbrev InLayers : Held → Type 0
+  InLayers h =
+      Passes l.settled.items test h ⊎ (Passes l.recent.items test h
+      ⊎ Passes l.waiting.items (is_kept_and_asked k asked p) h)
+
+  from_layers : (h : Held) → InLayers h → Passes k.held test h
+  from_layers h (inl s) = (index.settled h s.0, s.1)
+  from_layers h (inr (inl r)) = (index.recent h r.0, r.1)
+  from_layers h (inr (inr w)) =
+      let both = and_parts (test h) (is_kept k.held h) w.1 in
+      (kept_held k.held h both.1, both.0)
+
+  to_layers : (h : Held) → Passes k.held test h → InLayers h
+  to_layers h q = elim (in_append l.settled.items (l.recent.items ++ l.waiting.items) h (index.all h q.0)) [
+    | inl s ↦ inl (s, q.1)
+    | inr b ↦ inr (elim (in_append l.recent.items l.waiting.items h b) [
+      | inl r ↦ inl (r, q.1)
+      | inr w ↦ inr (w, and_from (test h) (is_kept k.held h) q.1 (held_kept k.held h index.rises q.0))
+    ])
+  ]
+
+  pub first_of_layers : (a b c : Option Held) → IsFirstOf l.settled.items test a → IsFirstOf l.recent.items test b
+      → IsFirstOf l.waiting.items (is_kept_and_asked k asked p) c → IsFirstOf k.held test (lesser a (lesser b c))
+  first_of_layers a b c settled recent waiting =
+      first_same exact_parts held_part InLayers (Passes k.held test) from_layers to_layers (lesser a (lesser b c))
+      (lesser_first exact_parts held_part (Passes l.settled.items test)
+      (λ h. Passes l.recent.items test h ⊎ Passes l.waiting.items (is_kept_and_asked k asked p) h) a (lesser b c)
+      settled
+      (lesser_first exact_parts held_part (Passes l.recent.items test)
+      (Passes l.waiting.items (is_kept_and_asked k asked p)) b c recent waiting))
 
 -- ---- what the tests of names say
 
@@ -132,25 +171,22 @@ module _ (slots : Slots) (name : List Component) (asked : List ℕ) (is_name : I
         ap (λ (o : Option (List ℕ)). asks asked p (name_of o) || is_full_name asked o) e
         ∙ test_asked name asked octets packet is_name spelled p
 
-    pub answer_found : (k : KeptState) (names : Names) (p : Bool) (a b : Option Held) → slots ≡ k.slots → KeptIsSound k
-        → IsIndexOf slots k.held names → IsFirstOf (all_of names) (is_asked slots asked p) a
-        → IsFirstOf k.held (has_full_name slots asked) b
+    pub answer_found : (k : KeptState) (p : Bool) (a b : Option Held) → slots ≡ k.slots → KeptIsSound k
+        → IsFirstOf k.held (is_asked slots asked p) a → IsFirstOf k.held (has_full_name slots asked) b
         → IsFirstOf k.held (satisfies_held slots name p) (lesser a b)
-    answer_found k names p a b is sound index named full =
+    answer_found k p a b is sound named full =
         first_same exact_parts held_part
-        (λ h. Passes (all_of names) (is_asked slots asked p) h ⊎ Passes k.held (has_full_name slots asked) h)
+        (λ h. Passes k.held (is_asked slots asked p) h ⊎ Passes k.held (has_full_name slots asked) h)
         (Passes k.held (satisfies_held slots name p))
         (λ h e. elim e [
-          | inl x ↦
-              let i = index.same.there h x.0 in
-              (i, sym (agrees h i) ∙ or_left (is_asked slots asked p h) (has_full_name slots asked h) x.1)
+          | inl x ↦ (x.0, sym (agrees h x.0) ∙ or_left (is_asked slots asked p h) (has_full_name slots asked h) x.1)
           | inr y ↦ (y.0, sym (agrees h y.0) ∙ or_right (is_asked slots asked p h) (has_full_name slots asked h) y.1)
         ])
         (λ h e. elim (or_cases (is_asked slots asked p h) (has_full_name slots asked h) (agrees h e.0 ∙ e.1)) [
-          | inl x ↦ inl (index.same.back h e.0, x)
+          | inl x ↦ inl (e.0, x)
           | inr y ↦ inr (e.0, y)
         ]) (lesser a b)
-        (lesser_first exact_parts held_part (Passes (all_of names) (is_asked slots asked p))
+        (lesser_first exact_parts held_part (Passes k.held (is_asked slots asked p))
         (Passes k.held (has_full_name slots asked)) a b named full)
       where
         agrees : (h : Held) → In h k.held

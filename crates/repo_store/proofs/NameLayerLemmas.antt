@@ -1,16 +1,18 @@
 -- What the layers of names have, and how they change.
-use Rattle.std.proofs.Common.{◌≡◌, ℕ, ◌<◌, ◌≤◌, Bool, true, false, not, List, [], ◌∷◌, ◌++◌, Option, Result}
-use Rattle.std.proofs.Common.{Ok, Err, append_assoc, refl, sym, ap, subst, ◌∙◌, arith}
+use Rattle.std.proofs.Common.{◌≡◌, ℕ, ◌<◌, ◌≤◌, ◌==◌, inl, inr, Bool, true, false, not, List, [], ◌∷◌, ◌++◌, Option}
+use Rattle.std.proofs.Common.{Some, None, Result, Ok, Err, append_assoc, refl, sym, ap, subst, ◌∙◌, arith}
 use Rattle.std.specs.Prelude.{◌&&◌, ◌||◌, max, OnOk, OnErr}
 use Rattle.std.specs.List.{filter}
+use Rattle.std.proofs.lemmas.Bool.{true≢false}
+use Rattle.std.proofs.lemmas.Bool.Decides.{nat_tests}
 use Rattle.std.proofs.lemmas.List.{append-nil}
-use Rattle.std.proofs.lemmas.List.Elements.{filter-append}
-use Rattle.sorted_lists.specs.SortedList.{keys, contains}
+use Rattle.sorted_lists.specs.SortedList.{Rises, keys, contains, value_of}
 use Rattle.sorted_lists.specs.Members.{In, HaveSame}
 use Rattle.sorted_lists.proofs.Sets.{in_filter, append_left, append_right, in_map, contains_in, contains-filter}
-use Rattle.sorted_lists.proofs.Sets.{keys-filter}
-use Rattle.sorted_lists.proofs.Members.{in_filtered, same_itself, same_is, same_back, same_then, same_append}
-use Rattle.sorted_lists.proofs.Members.{same_more, same_last, same_filter}
+use Rattle.sorted_lists.proofs.Sets.{keys-filter, rises_filter, in_append}
+use Rattle.sorted_lists.proofs.Lookups.{there_value, value_there}
+use Rattle.sorted_lists.proofs.Members.{in_filtered, same_itself, same_is, same_then, same_append}
+use Rattle.sorted_lists.proofs.Members.{same_last}
 use Rattle.sorted_lists.proofs.Climbs.{climbs_same, climbs_filter}
 use Rattle.repo_plan.specs.declared.part.Part.{Part}
 use Rattle.repo_plan.specs.Parts.{Pair, part_cmp}
@@ -22,7 +24,7 @@ use Rattle.repo_store.specs.Kept.{Slots, at, Held, KeptState}
 use Rattle.repo_store.specs.Slots.{held_outside_all}
 use Rattle.repo_store.specs.Indexes.{name_of, Key, key_cmp, key_in, AreInOrder, GainsOne}
 use Rattle.repo_store.specs.NameLayers.{all_of, LayersAreInOrder, HasRoom, HasSame, IsMerged, IsIndexOf, is_left}
-use Rattle.repo_store.specs.NameLayers.{left_of}
+use Rattle.repo_store.specs.NameLayers.{left_of, is_slot, is_kept, WaitsStill}
 use Rattle.repo_store.proofs.IndexLemmas.{exact_keys}
 
 -- ---- what the layers have
@@ -70,29 +72,102 @@ order_same old new held same climbs =
 
 -- ---- the names of what is held
 
-pub index_none : (slots : Slots) (l : Names) → l.settled.items ≡ [] → l.recent.items ≡ [] → l.waiting.items ≡ []
-    → IsIndexOf slots [] l
-index_none slots l settled recent waiting = record {
+pub index_none : (slots : Slots) (l : Names) → l.settled.items ≡ [] → l.recent.items ≡ [] → IsIndexOf slots [] l
+index_none slots l settled recent = record {
+  rises = tt;
   in_order = record {
     settled = subst (AreInOrder slots) (sym settled) tt;
     recent = subst (AreInOrder slots) (sym recent) tt;
   };
-  same = same_is (all_of l) [] (λ i. settled i ++ (recent i ++ waiting i));
+  settled = λ h i. subst (In h) settled i;
+  recent = λ h i. subst (In h) recent i;
+  all = λ h i. absurd i;
 }
 
--- layers that have the same, of the same
-pub index_moved : (slots : Slots) (held : List Held) (index moved : Names) → LayersAreInOrder slots moved
-    → HaveSame (all_of moved) (all_of index) → IsIndexOf slots held index → IsIndexOf slots held moved
-index_moved slots held index moved in_order same indexed =
-    record { in_order = in_order; same = same_then same indexed.same }
+-- layers that have what is held, and nothing else
+pub index_same : (slots : Slots) (held : List Held) (l : Names) → Rises part_cmp (keys held)
+    → LayersAreInOrder slots l → HaveSame (all_of l) held → IsIndexOf slots held l
+index_same slots held l rises in_order same =
+    let settled = l.settled.items in
+    let recent = l.recent.items in
+    let waiting = l.waiting.items in
+    record {
+      rises = rises;
+      in_order = in_order;
+      settled = λ h i. same.there h (append_left settled (recent ++ waiting) h i);
+      recent = λ h i. same.there h (append_right settled (recent ++ waiting) h (append_left recent waiting h i));
+      all = same.back;
+    }
 
 pub index_kept : (slots : Slots) (held : List Held) (index moved : Names) → HasSame index moved
     → IsIndexOf slots held index → IsIndexOf slots held moved
-index_kept slots held index moved same indexed =
-    index_moved slots held index moved (record {
-      settled = subst (AreInOrder slots) (sym same.settled) indexed.in_order.settled;
-      recent = subst (AreInOrder slots) (sym same.recent) indexed.in_order.recent;
-    }) (same_is (all_of moved) (all_of index) (λ i. same.settled i ++ (same.recent i ++ same.waiting i))) indexed
+index_kept slots held index moved same indexed = record {
+  rises = indexed.rises;
+  in_order = record {
+    settled = subst (AreInOrder slots) (sym same.settled) indexed.in_order.settled;
+    recent = subst (AreInOrder slots) (sym same.recent) indexed.in_order.recent;
+  };
+  settled = λ h i. indexed.settled h (subst (In h) same.settled i);
+  recent = λ h i. indexed.recent h (subst (In h) same.recent i);
+  all = λ h i.
+      subst (In h) (sym (λ j. same.settled j ++ (same.recent j ++ same.waiting j))) (indexed.all h i);
+}
+
+-- ---- what is kept
+
+is_this_slot : (slot other : ℕ) → (other == slot) ≡ true → other ≡ slot
+is_this_slot slot other e = grind (arith, nat_tests, e)
+
+its_own_slot : (slot : ℕ) → (slot == slot) ≡ true
+its_own_slot slot = grind (arith, nat_tests)
+
+pub kept_held : (held : List Held) (h : Held) → is_kept held h ≡ true → In h held
+kept_held held h e = go (value_of part_cmp held h.0) refl e where
+  go : (o : Option ℕ) → value_of part_cmp held h.0 ≡ o → is_slot h.1 o ≡ true → In h held
+  go None s t = absurd (true≢false (sym t))
+  go (Some other) s t =
+      subst (λ (n : ℕ). In (h.0, n) held) (is_this_slot h.1 other t) (there_value exact_parts held h.0 other s)
+
+pub held_kept : (held : List Held) (h : Held) → Rises part_cmp (keys held) → In h held → is_kept held h ≡ true
+held_kept held h rises i = ap (is_slot h.1) (value_there exact_parts held h rises i) ∙ its_own_slot h.1
+
+-- what is left of the layers where what is held no more waits no more
+pub index_looked_through : (slots : Slots) (held : List Held) (index after : Names) → IsIndexOf slots held index
+    → after.settled.items ≡ index.settled.items → after.recent.items ≡ index.recent.items
+    → after.waiting.items ≡ filter (is_kept held) index.waiting.items → HaveSame (all_of after) held
+index_looked_through slots held index after indexed settled_is recent_is waiting_is = same_then
+    (same_is (all_of after) (settled ++ (recent ++ waits)) (λ j. settled_is j ++ (recent_is j ++ waiting_is j)))
+    (record {
+      there = λ h i. elim (in_append settled (recent ++ waits) h i) [
+        | inl s ↦ indexed.settled h s
+        | inr b ↦ elim (in_append recent waits h b) [
+          | inl r ↦ indexed.recent h r
+          | inr w ↦ kept_held held h (in_filtered (is_kept held) waiting h w).1
+        ]
+      ];
+      back = λ h i. elim (in_append settled (recent ++ waiting) h (indexed.all h i)) [
+        | inl s ↦ append_left settled (recent ++ waits) h s
+        | inr b ↦
+            append_right settled (recent ++ waits) h (elim (in_append recent waiting h b) [
+              | inl r ↦ append_left recent waits h r
+              | inr w ↦
+                  append_right recent waits h
+                  (in_filter (is_kept held) waiting h w (held_kept held h indexed.rises i))
+            ])
+      ];
+    })
+  where
+    settled : List Held
+    settled = index.settled.items
+
+    recent : List Held
+    recent = index.recent.items
+
+    waiting : List Held
+    waiting = index.waiting.items
+
+    waits : List Held
+    waits = filter (is_kept held) waiting
 
 -- whether a part that was held still is, however that is found out
 looked_up : (pairs : List Pair) (held : List Held) (h : Held) → In h held
@@ -130,27 +205,26 @@ module _ (old new : Slots) (held : List Held) (index : Names) (indexed : IsIndex
   abbrev waiting : List Held
   waiting = index.waiting.items
 
-  in_settled : (h : Held) → In h settled → In h held
-  in_settled h i = indexed.same.there h (append_left settled (recent ++ waiting) h i)
-
-  in_recent : (h : Held) → In h recent → In h held
-  in_recent h i =
-      indexed.same.there h (append_right settled (recent ++ waiting) h (append_left recent waiting h i))
-
   -- one more is held, and waits
   pub index_more : (more : List Held) (after : Names) (h : Held) → ((o : Held) → In o held → at new o.1 ≡ at old o.1)
-      → after.settled.items ≡ settled → after.recent.items ≡ recent → GainsOne h held more
-      → GainsOne h (all_of index) (all_of after) → IsIndexOf new more after
-  index_more more after h same settled_is recent_is gains gained = record {
+      → Rises part_cmp (keys more) → after.settled.items ≡ settled → after.recent.items ≡ recent
+      → GainsOne h held more → GainsOne h (all_of index) (all_of after) → IsIndexOf new more after
+  index_more more after h same rises settled_is recent_is gains gained = record {
+    rises = rises;
     in_order = record {
       settled =
           subst (AreInOrder new) (sym settled_is)
-          (order_same old new settled (λ o i. same o (in_settled o i)) indexed.in_order.settled);
+          (order_same old new settled (λ o i. same o (indexed.settled o i)) indexed.in_order.settled);
       recent =
           subst (AreInOrder new) (sym recent_is)
-          (order_same old new recent (λ o i. same o (in_recent o i)) indexed.in_order.recent);
+          (order_same old new recent (λ o i. same o (indexed.recent o i)) indexed.in_order.recent);
     };
-    same = same_then gained (same_then (same_more h indexed.same) (same_back gains));
+    settled = λ o i. gains.back o (inr (indexed.settled o (subst (In o) settled_is i)));
+    recent = λ o i. gains.back o (inr (indexed.recent o (subst (In o) recent_is i)));
+    all = λ o i. gained.back o (elim (gains.there o i) [
+      | inl e ↦ inl e
+      | inr j ↦ inr (indexed.all o j)
+    ]);
   }
 
   -- ---- what is left
@@ -162,33 +236,60 @@ module _ (old new : Slots) (held : List Held) (index : Names) (indexed : IsIndex
     abbrev stays : Held → Bool
     stays h = is_left pairs left h.0
 
-    all_left : HaveSame (filter stays (all_of index)) left
-    all_left =
-        same_filter stays (λ (h : Held). not (is_in_any pairs h.0)) indexed.same (λ h i. left_outside pairs held h i)
+    abbrev out : Held → Bool
+    out h = not (is_in_any pairs h.0)
+
+    stays_held : (xs : List Held) → ((h : Held) → In h xs → In h held) → (h : Held) → In h (filter stays xs)
+        → In h left
+    stays_held xs among h i =
+        let both = in_filtered stays xs h i in
+        let j = among h both.0 in
+        in_filter out held h j (sym (left_outside pairs held h j) ∙ both.1)
 
     layer_left : (xs after : List Held) → ((h : Held) → In h xs → In h held) → after ≡ left_of pairs left xs
         → AreInOrder old xs → AreInOrder new after
     layer_left xs after among is climbs =
         subst (AreInOrder new) (sym is)
-        (order_same old new (filter stays xs) (λ h i.
-        let both = in_filtered stays xs h i in
-        let j = among h both.0 in
-        same h (in_filter (λ (o : Held). not (is_in_any pairs o.0)) held h j
-        (sym (left_outside pairs held h j) ∙ both.1)))
+        (order_same old new (filter stays xs) (λ h i. same h (stays_held xs among h i))
         (climbs_filter exact_keys (key_in old) stays xs climbs))
 
+    left_stays : (xs : List Held) (h : Held) → In h left → In h xs → In h (filter stays xs)
+    left_stays xs h i j =
+        let both = in_filtered out held h i in
+        in_filter stays xs h j (left_outside pairs held h both.0 ∙ both.1)
+
+    left_rises : Rises part_cmp (keys left)
+    left_rises =
+        subst (Rises part_cmp) (sym (keys-filter exact_parts (λ t. not (is_in_any pairs t)) held))
+        (rises_filter exact_parts.total (λ t. not (is_in_any pairs t)) (keys held) indexed.rises)
+
     pub index_left : (after : Names) → after.settled.items ≡ left_of pairs left settled
-        → after.recent.items ≡ left_of pairs left recent → after.waiting.items ≡ left_of pairs left waiting
+        → after.recent.items ≡ left_of pairs left recent → WaitsStill left waiting after.waiting.items
         → IsIndexOf new left after
-    index_left after settled_is recent_is waiting_is = record {
+    index_left after settled_is recent_is waits = record {
+      rises = left_rises;
       in_order = record {
-        settled = layer_left settled after.settled.items in_settled settled_is indexed.in_order.settled;
-        recent = layer_left recent after.recent.items in_recent recent_is indexed.in_order.recent;
+        settled = layer_left settled after.settled.items indexed.settled settled_is indexed.in_order.settled;
+        recent = layer_left recent after.recent.items indexed.recent recent_is indexed.in_order.recent;
       };
-      same = same_then (same_is (all_of after) (filter stays (all_of index))
-          ((λ i. settled_is i ++ (recent_is i ++ waiting_is i))
-          ∙ ap (λ (xs : List Held). filter stays settled ++ xs) (sym (filter-append stays recent waiting))
-          ∙ sym (filter-append stays settled (recent ++ waiting)))) all_left;
+      settled = λ h i. stays_held settled indexed.settled h (subst (In h) settled_is i);
+      recent = λ h i. stays_held recent indexed.recent h (subst (In h) recent_is i);
+      all = λ h i.
+          elim (in_append settled (recent ++ waiting) h (indexed.all h (in_filtered out held h i).0)) [
+            | inl s ↦
+                append_left after.settled.items (after.recent.items ++ after.waiting.items) h
+                (subst (In h) (sym settled_is) (left_stays settled h i s))
+            | inr b ↦
+                append_right after.settled.items (after.recent.items ++ after.waiting.items) h
+                (elim (in_append recent waiting h b) [
+                  | inl r ↦
+                      append_left after.recent.items after.waiting.items h
+                      (subst (In h) (sym recent_is) (left_stays recent h i r))
+                  | inr w ↦
+                      append_right after.recent.items after.waiting.items h
+                      (waits h w (held_kept left h left_rises i))
+                ])
+          ];
     }
 
 -- room is made in both, or in the names alone

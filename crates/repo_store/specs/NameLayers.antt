@@ -1,14 +1,15 @@
 -- The names of what is held, in layers: what is settled, what came last in front of others, and what waits.
-use Rattle.std.specs.Prelude.{◌≡◌, ℕ, ◌+◌, ◌≤◌, Bool, not, List, [], ◌∷◌, ◌++◌, vec_len, vec_capacity}
+use Rattle.std.specs.Prelude.{◌≡◌, ℕ, ◌+◌, ◌≤◌, ◌==◌, Bool, true, false, not, ◌&&◌, List, [], ◌∷◌, ◌++◌, Option}
+use Rattle.std.specs.Prelude.{Some, None, vec_len, vec_capacity}
 use Rattle.std.specs.List.{filter}
-use Rattle.sorted_lists.specs.SortedList.{contains, keys}
-use Rattle.sorted_lists.specs.Members.{HaveSame}
+use Rattle.sorted_lists.specs.SortedList.{Rises, contains, keys, value_of}
+use Rattle.sorted_lists.specs.Members.{In, HaveSame}
 use Rattle.repo_plan.specs.declared.part.Part.{Part}
 use Rattle.repo_plan.specs.Parts.{Pair, part_cmp}
 use Rattle.repo_plan.specs.Plan.{is_in}
 use Rattle.repo_store.specs.declared.names.Names.{Names}
-use Rattle.repo_store.specs.Kept.{Slots, Held}
-use Rattle.repo_store.specs.Indexes.{AreInOrder}
+use Rattle.repo_store.specs.Kept.{Slots, Held, KeptState}
+use Rattle.repo_store.specs.Indexes.{is_asked, AreInOrder}
 
 -- All that the layers have.
 abbrev pub all_of : Names → List Held
@@ -37,10 +38,30 @@ pub record IsMerged (slots : Slots) (settled recent merged : List Held) : Type 0
   pub in_order : AreInOrder slots merged
   pub same : HaveSame merged (settled ++ recent)
 
--- The names of what is held: the same, in their layers.
+-- Whether this is the slot.
+abbrev pub is_slot : ℕ → Option ℕ → Bool
+is_slot slot None = false
+is_slot slot (Some other) = other == slot
+
+-- Whether it is held: its part is, in its slot.
+abbrev pub is_kept : List Held → Held → Bool
+is_kept held h = is_slot h.1 (value_of part_cmp held h.0)
+
+-- Whether it is held, and its name is asked for.
+abbrev pub is_kept_and_asked : KeptState → List ℕ → Bool → Held → Bool
+is_kept_and_asked k asked can_be_prefix h = is_asked k.slots asked can_be_prefix h && is_kept k.held h
+
+-- What waits and is held waits still.
+abbrev pub WaitsStill : List Held → List Held → List Held → Type 0
+WaitsStill held old new = (h : Held) → In h old → is_kept held h ≡ true → In h new
+
+-- The names of what is held, in their layers. Of what waits some may be held no more.
 pub record IsIndexOf (slots : Slots) (held : List Held) (index : Names) : Type 0 where
+  pub rises : Rises part_cmp (keys held)
   pub in_order : LayersAreInOrder slots index
-  pub same : HaveSame (all_of index) held
+  pub settled : (h : Held) → In h index.settled.items → In h held
+  pub recent : (h : Held) → In h index.recent.items → In h held
+  pub all : (h : Held) → In h held → In h (all_of index)
 
 -- Whether a part that was held still is, where all parts of these publications were dropped: with one publication that
 -- is compared, with more the part is looked up.

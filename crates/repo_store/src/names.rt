@@ -1,8 +1,9 @@
 ghost use Rattle.std.specs.Prelude.{◌≡◌, ◌+◌, ◌≤◌, ℕ, [], ◌++◌, length, OnOk, vec_len, vec_capacity};
+ghost use Rattle.std.specs.List.{filter};
 ghost use Rattle.sorted_lists.specs.Members.{HaveSame};
 ghost use Rattle.repo_store.specs.Indexes.{is_asked, AreInOrder, IsFirstOf, GainsOne};
 ghost use Rattle.repo_store.specs.NameLayers.{all_of, LayersAreInOrder, HasRoom, HasSame, IsMerged};
-ghost use Rattle.repo_store.specs.NameLayers.{is_left, left_of};
+ghost use Rattle.repo_store.specs.NameLayers.{is_left, left_of, is_kept, is_kept_and_asked, IsIndexOf, WaitsStill};
 
 use crate::index::{Index, insert, is_asked};
 use crate::kept::{Held, Kept, lesser};
@@ -12,7 +13,8 @@ use std::mem;
 
 // The names of what is held. What is put waits, and no name is read, until an asker comes. Of what was put in its
 // place then most is settled, and what came last is recent until it is merged with that. So few others are moved for
-// each that comes, in whatever order they do.
+// each that comes, in whatever order they do. What is dropped may go on waiting, and is passed over: so to drop one
+// part takes no walk over all that wait.
 #[derive(Drop)]
 pub(crate) struct Names {
     settled: Vec<Held>,
@@ -20,6 +22,8 @@ pub(crate) struct Names {
     // Both are merged into this.
     merged: Vec<Held>,
     waiting: Vec<Held>,
+    // So many parts were dropped since those that wait were looked through for such.
+    dropped: usize,
 }
 
 impl Names {
@@ -34,6 +38,7 @@ impl Names {
             recent: Vec::new(alloc),
             merged: Vec::new(alloc),
             waiting: Vec::new(alloc),
+            dropped: 0,
         }
     }
 
@@ -74,10 +79,11 @@ impl Names {
         self.waiting.push(held).unwrap();
     }
 
-    // What has this name, or begins with it where that is asked for, of the least part. Of what waits all is read.
+    // What is held of this name, or of one that begins with it where that is asked for, of the least part. All that
+    // waits is read.
     pub(crate) fn first(&self, kept: &Kept, asked: &[u8], can_be_prefix: bool) -> Option<Held>
-        requires { LayersAreInOrder kept.now.slots self.now }
-        ensures { IsFirstOf (all_of self.now) (is_asked kept.now.slots asked.now can_be_prefix) result }
+        requires { IsIndexOf kept.now.slots kept.now.held self.now }
+        ensures { IsFirstOf kept.now.held (is_asked kept.now.slots asked.now can_be_prefix) result }
     {
         let settled = Index {
             held: &self.settled,
@@ -92,8 +98,30 @@ impl Names {
         lesser(settled.first(asked, can_be_prefix), ordered)
     }
 
-    // What waits is put in its place. There is room for that.
+    // What waits and is held is put in its place. There is room for that.
     pub(crate) fn order(&mut self, kept: &Kept)
+        requires index { IsIndexOf kept.now.slots kept.now.held self.old }
+        requires room { HasRoom self.old 0 }
+        ensures index { IsIndexOf kept.now.slots kept.now.held self.new }
+        ensures room { (n : ℕ) → HasRoom self.old n → HasRoom self.new n }
+    {
+        self.forget_dropped(kept);
+        self.place_waiting(kept);
+    }
+
+    // What is held no more waits no more.
+    fn forget_dropped(&mut self, kept: &Kept)
+        ensures settled { self.new.settled.items ≡ self.old.settled.items }
+        ensures recent { self.new.recent.items ≡ self.old.recent.items }
+        ensures waiting { self.new.waiting.items ≡ filter (is_kept kept.now.held) self.old.waiting.items }
+        ensures room { (n : ℕ) → HasRoom self.old n → HasRoom self.new n }
+    {
+        self.waiting.retain(|held| is_kept(kept, held));
+        self.dropped = 0;
+    }
+
+    // What waits is put in its place. There is room for that.
+    fn place_waiting(&mut self, kept: &Kept)
         requires in_order { LayersAreInOrder kept.now.slots self.old }
         requires room { HasRoom self.old 0 }
         ensures in_order { LayersAreInOrder kept.now.slots self.new }
@@ -130,30 +158,51 @@ impl Names {
         self.recent.clear();
     }
 
-    // Drops what is held of these publications, whose parts are kept no more.
-    pub(crate) fn drop_all(&mut self, kept: &Kept, pairs: &[(u32, u16)])
+    // Drops what is held of these publications, so many parts, which are kept no more. They go on waiting until as many
+    // were dropped as half of what waits.
+    pub(crate) fn drop_all(&mut self, kept: &Kept, pairs: &[(u32, u16)], parts: usize)
         ensures settled { self.new.settled.items ≡ left_of pairs.now kept.now.held self.old.settled.items }
         ensures recent { self.new.recent.items ≡ left_of pairs.now kept.now.held self.old.recent.items }
-        ensures waiting { self.new.waiting.items ≡ left_of pairs.now kept.now.held self.old.waiting.items }
+        ensures waiting { WaitsStill kept.now.held self.old.waiting.items self.new.waiting.items }
         ensures room { (n : ℕ) → HasRoom self.old n → HasRoom self.new n }
     {
         retain(&mut self.settled, kept, pairs);
         retain(&mut self.recent, kept, pairs);
-        retain(&mut self.waiting, kept, pairs);
+        self.dropped = self.dropped.saturating_add(parts);
+        if self.dropped > self.waiting.len() / 2 {
+            self.forget_dropped(kept);
+        }
     }
 }
 
-// What has this name, or begins with it where that is asked for, of the least part. All is read.
+// What is kept of this name, or of one that begins with it where that is asked for, of the least part. All is read.
 fn first_of(held: &[Held], kept: &Kept, asked: &[u8], can_be_prefix: bool) -> Option<Held>
-    ensures { IsFirstOf held.now (is_asked kept.now.slots asked.now can_be_prefix) result }
+    ensures { IsFirstOf held.now (is_kept_and_asked kept.now asked.now can_be_prefix) result }
 {
     let mut least = None;
     for next in held {
-        if is_asked(kept, asked, can_be_prefix, next) {
+        if is_kept_and_asked(kept, asked, can_be_prefix, next) {
             least = lesser(least, Some(*next));
         }
     }
     least
+}
+
+// Whether it is kept and asked for.
+fn is_kept_and_asked(kept: &Kept, asked: &[u8], can_be_prefix: bool, held: &Held) -> bool
+    ensures { result ≡ is_kept_and_asked kept.now asked.now can_be_prefix held.now }
+{
+    is_asked(kept, asked, can_be_prefix, held) && is_kept(kept, held)
+}
+
+// Whether it is kept: its part is, in its slot.
+fn is_kept(kept: &Kept, held: &Held) -> bool
+    ensures { result ≡ is_kept kept.now.held held.now }
+{
+    match kept.slot_of(held.0) {
+        Some(slot) => slot == held.1,
+        None => false,
+    }
 }
 
 // What is in order gains all of these, for which there is room. Where they come in order too, little is moved.

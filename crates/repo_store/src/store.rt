@@ -1,4 +1,4 @@
-ghost use Rattle.std.specs.Prelude.{◌≡◌, ◌↔◌, ◌-◌, ◌<◌, [], length, max, not, option_map, Ok, Err, IsOk, IfOk};
+ghost use Rattle.std.specs.Prelude.{◌≡◌, ◌-◌, ◌<◌, [], length, max, not, option_map, Ok, Err, IsOk, IfOk};
 ghost use Rattle.std.specs.Prelude.{OnOk, OnErr, MatchResult};
 ghost use Rattle.sha2.specs.Sha256.{sha256};
 ghost use Rattle.ndn_data.specs.Data.{data_of};
@@ -206,7 +206,8 @@ impl Store {
         self.drop_all(&[(publisher, seq)])
     }
 
-    /// The same for many publications, which takes one pass over the store. A publication may stand twice.
+    /// The same for many publications, which takes one pass over what is in order of its name. A publication may stand
+    /// twice.
     pub fn drop_all(&mut self, pairs: &[(u32, u16)]) -> usize
         ensures number { result ≡ length (packets_in_any pairs.now self.old.packets) }
         ensures dropped { self.new ≡ record self.old {
@@ -214,7 +215,7 @@ impl Store {
         } }
     {
         let number = self.kept.drop_all(pairs);
-        self.names.drop_all(&self.kept, pairs);
+        self.names.drop_all(&self.kept, pairs, number);
         number
     }
 }

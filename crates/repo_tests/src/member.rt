@@ -4,6 +4,7 @@ ghost use Rattle.repo_member.specs.Groups.{HaveKeys, IsKey, IsPlainNodeName};
 
 mod commands;
 mod fetched;
+mod withdrawn;
 mod worked;
 
 use ndn_name::Name;
@@ -116,6 +117,7 @@ fn numbers_are_spent(rt: HostRuntime) {
     spend_all(&rt, &g, &mut alice);
     assert_eq!(rt; (alice.log_len(), alice.next_draw()), (65_535, 65_536));
     assert_eq!(rt; alice.catalogue().entries().len(), 65_535);
+    withdrawn::refuses_for_numbers(&rt, &g, &mut alice);
 }
 
 // Publishes an object without contents under each number.
@@ -197,6 +199,14 @@ fn print_refusals(rt: &(impl Abort + AllocGlobal)) {
     let all = "all numbers are spent: the log has 65535 publications";
     print(rt, &spent, all);
     print(rt, &PublishRefusal::NoMemory, "out of memory");
+    let none = WithdrawRefusal::NoSuchNumber { seq: 3 };
+    print(
+        rt,
+        &none,
+        "there is no object of number 3 that is not withdrawn",
+    );
+    print(rt, &WithdrawRefusal::NumbersSpent { log: 65_535 }, all);
+    print(rt, &WithdrawRefusal::NoMemory, "out of memory");
     let ahead = HearRefusal::OwnNumberAhead { own: 0, told: 5 };
     let more = "5 publications of this member are told, and it made 0";
     print(rt, &ahead, more);

@@ -4,7 +4,7 @@ ghost use Rattle.ndn_name.specs.Names.{encoding};
 mod contents;
 mod hostile;
 
-use crate::worked::{FULL_ASKED, RECORD, RECORD_ASKED, RECORD_DIGEST, SEGMENT};
+use crate::worked::{FULL_ASKED, RECORD, RECORD_ASKED, RECORD_DIGEST, SEGMENT, WITHDRAWAL};
 use contents::CONTENTS;
 use hostile::{FOR_THE_RECORD, FOR_THE_SEGMENT};
 use ndn_data::{DataView, write_signed};
@@ -298,7 +298,7 @@ fn worked_withdrawal_is_written(rt: HostRuntime) {
     let alice = short_name(&rt, "/alice");
     let group = short_name(&rt, "/g");
     let packet = withdrawal_packet(rt.alloc(), 1, 2, &alice, &group, KEY).expect(&rt, "memory");
-    assert!(rt; packet.len() == 77);
+    assert!(rt; packet.as_slice() == WITHDRAWAL.as_slice());
     let content = DataView::read(&packet).expect(&rt, "a packet").content;
     assert!(rt; content == [0x85, 1, 1].as_slice());
     let ring = ring_of(&rt, &alice, KEY);

@@ -80,13 +80,13 @@ object_name name h =
     and_both _ _ (and_both _ _ some (le_test (length (encoding name)) 400 h.2)) (no_digests name h.0)
 
 -- a content has no more pieces than it has octets for
-few_pieces : (size : ℕ) (content : List ℕ) → 1 ≤ size → length content ≤ 200 * size
-    → length (pieces size content) ≤ 200
+few_pieces : (size : ℕ) (content : List ℕ) → 1 ≤ size → length content ≤ 20000 * size
+    → length (pieces size content) ≤ 20000
 few_pieces size content some short =
     let times = div_ceil_times (length content) size some in
-    let fewer : div_ceil (length content) size * size < 201 * size = omega (arith, times.1) in
-    let count : div_ceil (length content) size < 201 =
-    lt_of_mul-lt-mul_right size {m = div_ceil (length content) size} {n = 201} fewer in
+    let fewer : div_ceil (length content) size * size < 20001 * size = omega (arith, times.1) in
+    let count : div_ceil (length content) size < 20001 =
+    lt_of_mul-lt-mul_right size {m = div_ceil (length content) size} {n = 20001} fewer in
     omega (
       arith,
       count,
@@ -126,11 +126,17 @@ publish_fits d e (Text m ∷ Named name ∷ Number size ∷ Octets content ∷ [
     object_name name of.1.0,
     of.1.1.0.0,
     of.1.1.0.1,
-    few_pieces size content of.1.1.0.0 (le_tested (length content) (200 * size) within),
+    few_pieces size content of.1.1.0.0 (le_tested (length content) (20000 * size) within),
   ),
   tt,
 )
 publish_fits d e values same of within known = tt
+
+withdraw_fits : FormFits verb.Withdraw
+withdraw_fits d e (Text m ∷ Number s ∷ []) same of within known =
+    let small : s ≤ 65535 = of.1.0.1 in
+    ((member_within d e same m (and_left _ _ known), omega arith), tt)
+withdraw_fits d e values same of within known = tt
 
 deliver_fits : FormFits verb.Deliver
 deliver_fits d e (Number k ∷ Text m ∷ []) same of within known = (member_within d e same m (and_left _ _ known), tt)
@@ -199,7 +205,7 @@ settle_fits d e values same of within known = tt
 dump_fits : FormFits verb.Dump
 dump_fits d e (Text m ∷ Text p ∷ Number s ∷ Number x ∷ []) same of within known =
     let small : s ≤ 65535 = of.1.1.0.1 in
-    let low : x ≤ 200 = of.1.1.1.0.1 in
+    let low : x ≤ 20100 = of.1.1.1.0.1 in
     ((member_within d e same m (and_left _ _ known), omega arith, omega arith), tt)
 dump_fits d e values same of within known = tt
 
@@ -263,6 +269,7 @@ form_fits verb.Group d e values same of within known = tt
 form_fits verb.Member d e values same of within known = tt
 form_fits verb.Client d e values same of within known = tt
 form_fits verb.Publish d e values same of within known = publish_fits d e values same of within known
+form_fits verb.Withdraw d e values same of within known = withdraw_fits d e values same of within known
 form_fits verb.Deliver d e values same of within known = deliver_fits d e values same of within known
 form_fits verb.Sync d e values same of within known = sync_fits d e values same of within known
 form_fits verb.Advance d e values same of within known = advance_fits d e values same of within known

@@ -11,10 +11,10 @@ use Rattle.sorted_lists.proofs.Sets.{In, from_map}
 use Rattle.repo_catalog.specs.declared.entry.Entry.{Entry}
 use Rattle.repo_catalog.specs.Entries.{lists, publication_of}
 use Rattle.group_model.specs.Publications.{Logs, Publication, published, published_entry}
-use Rattle.group_model.specs.Member.{Member, catalogue, catalogued, holds_all, member_hides}
+use Rattle.group_model.specs.Member.{Member, catalogue, catalogued, is_listed, member_hides}
 use Rattle.group_model.specs.World.{Outside, World, catalogue_at, logs, member}
 use Rattle.group_model.specs.Sound.{IsPublished, IsSoundGroup, IsSoundMember}
-use Rattle.group_model.specs.Catalogues.{IsWhollyHeld, ListsRightly}
+use Rattle.group_model.specs.Catalogues.{BelongsInCatalogue, ListsRightly}
 use Rattle.group_model.proofs.Lists.{from_filter, in_at}
 use Rattle.group_model.proofs.Parts.{IsIn, in_published}
 use Rattle.group_model.proofs.PublicLaws.{lists_those, lists_in_order}
@@ -40,10 +40,10 @@ told_entry : (ls : Logs) (m : Member) (e : Entry) → In e (catalogue ls m)
 told_entry ls m e among =
     let q : (q : Publication) × (In q (catalogued ls m)) × (e ≡ published_entry q) =
     from_map published_entry (catalogued ls m) e among in
-    let there : IsIn ls q.0 = in_published ls q.0 (from_filter (holds_all m) (published ls) q.0 q.1).0 in
+    let there : IsIn ls q.0 = in_published ls q.0 (from_filter (is_listed (published ls) m) (published ls) q.0 q.1).0 in
     let Tells : Entry → Type 0 = λ x. x ≡ published_entry (publication_at ls (publication_of x)) in
     let here : Tells (published_entry q.0) =
-    ap (λ o. published_entry (record { publisher = q.0.publisher; seq = q.0.seq; object = o })) there.object in
+    ap (λ o. published_entry (record { publisher = q.0.publisher; seq = q.0.seq; post = o })) there.post in
     subst Tells (sym q.2) here
 
 -- The member's own publications are held, unless it hides them.
@@ -67,15 +67,21 @@ list_exactly out w m sound there = record {
   exactly = λ pair.
       let lists_it : ListsRightly w m pair = lists_those out w sound m pair there in
       let to : lists pair (catalogue_at w m) ≡ true → IsToBeListed w m pair = λ listed.
-      let whole : IsWhollyHeld (logs w) (member w m) pair = lists_it.exactly.0 listed in
+      let belongs : BelongsInCatalogue (logs w) (member w m) pair = lists_it.exactly.0 listed in
       record {
-        published = whole.published;
+        published = belongs.published;
+        object = belongs.object;
         undeleted = not_hidden pair listed lists_it;
-        had = inr whole.held;
+        had = inr belongs.held;
+        not_withdrawn = belongs.not_withdrawn;
       } in
       let from : IsToBeListed w m pair → lists pair (catalogue_at w m) ≡ true = λ t.
-      lists_it.exactly.1
-      (record { published = t.published; held = held_by w m pair (sound.members m there) t }) in
+      lists_it.exactly.1 (record {
+        published = t.published;
+        object = t.object;
+        held = held_by w m pair (sound.members m there) t;
+        not_withdrawn = t.not_withdrawn;
+      }) in
       (to, from);
   in_order = lists_in_order (logs w) (member w m);
   told = λ k d inside. told_entry (logs w) (member w m) (get_or (catalogue_at w m) k d)

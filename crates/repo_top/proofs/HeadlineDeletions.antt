@@ -7,6 +7,7 @@ use Rattle.std.proofs.lemmas.List.{length-set}
 use Rattle.repo_plan.specs.declared.part.Part.{Part}
 use Rattle.svs_sync.specs.declared.fired.Fired.{Fired}
 use Rattle.svs_sync.specs.declared.fired.Fired.TheVariants.{Early, Quiet, Send}
+use Rattle.repo_object.specs.Objects.Post.{Offers, Withdraws}
 use Rattle.repo_process.specs.Processes.{BlockState, closed, object_of}
 use Rattle.repo_process.specs.Processes.BlockState.{Unknown, Already, Waiting, Whole}
 use Rattle.repo_command.specs.declared.command.Command.{Command}
@@ -30,18 +31,15 @@ use Rattle.script_lang.specs.declared.verb.Verb.TheVariants as verb
 use Rattle.script_lang.specs.Kinds.{Value, Text, Number, Named, Octets}
 use Rattle.script_lang.specs.Forms.{Stated}
 use Rattle.script_lang.specs.Lines.{line_of}
-use Rattle.script_lang.specs.Checking as checking
-use Rattle.script_lang.specs.Checking.{Declared, after_by, after_group, after_line, party}
+use Rattle.script_lang.specs.Checking.{Declared}
 use Rattle.script_lang.proofs.Conditions.{and_left, and_right}
 use Rattle.bench_world.specs.EventValues.{EventValue, group_event}
 use Rattle.repo_top.specs.SaidEvents.{said_by, said_event}
-use Rattle.repo_top.specs.Judging.{Given, State, acted_by, acted_if, found_world, outside_of, says, taken_by}
-use Rattle.repo_top.specs.Judging.{with_client, with_group, declaring_member}
+use Rattle.repo_top.specs.Judging.{Given, State, found_world, outside_of}
 use Rattle.repo_top.specs.Story.{Reached, nothing_reached}
 use Rattle.repo_top.specs.Headline.{LinesAreTaken, HidesByDeletionAlone, deletes, deletes_nothing, group_at}
-use Rattle.repo_top.proofs.HeadlineGroups.{IsSoundState, LineTaken, acted_said, declares_group, event_line, may}
-use Rattle.repo_top.proofs.HeadlineGroups.{nothing, opened, says_state, sound_beginning, sound_line, stating}
-use Rattle.repo_top.proofs.HeadlineGroups.{taken_line}
+use Rattle.repo_top.proofs.HeadlineGroups.{IsSoundState, LineTaken, opened, sound_beginning, sound_line, taken_line}
+use Rattle.repo_top.proofs.HeadlineEvents.{LineSteps, declares, line_steps, steps, still}
 
 -- ---- events
 
@@ -124,7 +122,7 @@ blocking out w j process (Waiting p) = one w (with_process_at w j process p) j _
 blocking out w j process (Whole p) = λ i inside.
     let v : World = with_process_at w j process (closed p) in
     let kept : length v.members ≡ length w.members = length-set w.members j _ in
-    one v (after_publish out v j (object_of p)) j _ refl refl i (omega (arith, kept, inside))
+    one v (after_publish out v j (Offers (object_of p))) j _ refl refl i (omega (arith, kept, inside))
     ∙ one w v j _ refl refl i inside
 
 -- An event that no member's deletion comes with.
@@ -135,7 +133,8 @@ IsNoDeletionEvent _ = Unit {0}
 
 pub hides_as_before : (out : Outside) (w : World) (e : Event) → IsNoDeletionEvent e
     → HidesAsBefore w (after_event out w e)
-hides_as_before out w (Event.Publish j o) spares = one w (after_publish out w j o) j _ refl refl
+hides_as_before out w (Event.Publish j o) spares = one w (after_publish out w j (Offers o)) j _ refl refl
+hides_as_before out w (Event.Withdraw j seq) spares = one w (after_publish out w j (Withdraws seq)) j _ refl refl
 hides_as_before out w (Event.Deliver k j) spares = delivering out w j (sent_at w k).vector
 hides_as_before out w (Event.Sync k) spares = none_changes w w refl
 hides_as_before out w (Event.Advance ms) spares = none_changes w (after_event out w (Event.Advance ms)) refl
@@ -173,6 +172,7 @@ undeleting : (g : GroupKeys) (form : Verb) (d : Declared) (values : List Value) 
 undeleting g verb.Delete d values only = cc
 undeleting g verb.Order d values only = cc
 undeleting g verb.Publish d (Text m ∷ Named name ∷ Number size ∷ Octets content ∷ []) only = tt
+undeleting g verb.Withdraw d (Text m ∷ Number s ∷ []) only = tt
 undeleting g verb.Deliver d (Number k ∷ Text m ∷ []) only = tt
 undeleting g verb.Sync d (Number k ∷ []) only = tt
 undeleting g verb.Advance d (Number ms ∷ []) only = tt
@@ -210,93 +210,30 @@ opening_hides f [] j each = refl
 opening_hides f (x ∷ xs) zero each = each x
 opening_hides f (x ∷ xs) (suc j) each = opening_hides f xs j each
 
-module _ (given : Given) (s : State) (sound : IsSoundState given s) (line : List ℕ) (stated : Stated) (d : Declared)
-    (report : List ℕ) (new : State) (read_as : line_of line ≡ Ok (Some stated))
-    (after : after_line s.declared stated ≡ Ok d) (sound_new : IsSoundState given new) where
-  event_hides : checking.after_event s.declared stated ≡ Ok d → deletes stated.verb ≡ false
-      → acted_if given s d (said_event d stated) ≡ says report new
-      → NothingHidden (found_world given s) → NothingHidden (found_world given new)
-  event_hides taken only is nothing_hidden j inside =
-      let acts = acted_said given s d stated report new (said_event d stated) refl is in
-      let out : Outside = outside_of given s.keys in
-      let w : World = found_world given s in
-      let declares = event_line s.declared d stated taken in
-      let count : length d.members ≡ length s.declared.members = ap (λ (x : Declared). length x.members) declares.is in
-      let kept : length new.declared.members ≡ length d.members =
-      ap (λ (x : State). length x.declared.members) acts.2.next in
-      let before : j < length w.members = omega (arith, inside, count, kept, sound.many, sound_new.many) in
-      let spares : IsNoDeletionEvent (group_event s.keys acts.0) =
-      undeleting_some s.keys (said_event d stated) acts.0 acts.1 (undeleting s.keys stated.verb d stated.values only) in
-      ap (λ (x : State). (member (found_world given x) j).hidden) acts.2.next
-      ∙ hides_as_before out w (group_event s.keys acts.0) spares j before ∙ nothing_hidden j before
-
-  -- A declaration comes before all events.
-  early : new.declared ≡ d → d.events ≡ false → NothingHidden (found_world given new)
-  early same no_events j inside =
-      let none : new.world ≡ None = sound_new.begun (ap (λ (x : Declared). x.events) same ∙ no_events) in
-      ap (λ (w : World). (member w j).hidden) (opened given new none)
-      ∙ opening_hides _ (numbers_from 0 (length new.keys.members.names)) j (λ x. refl)
-
-  group_declared : (values : List Value) → with_group s d values ≡ says report new → new.declared ≡ d
-  group_declared (Named name ∷ []) is = ap (λ (x : State). x.declared) (says_state report [] new _ is)
-  group_declared values is = cc
-
-  member_declared : (values : List Value) → declaring_member s d values ≡ says report new → new.declared ≡ d
-  member_declared (Text label ∷ Named node ∷ Octets key ∷ []) is =
-      ap (λ (x : State). x.declared) (says_state report [] new _ is)
-  member_declared values is = cc
-
-  client_declared : (values : List Value) → with_client s d values ≡ says report new → new.declared ≡ d
-  client_declared (Text label ∷ Named node ∷ Octets key ∷ []) is =
-      ap (λ (x : State). x.declared) (says_state report [] new _ is)
-  client_declared values is = cc
-
-  group_early : after_group s.declared ≡ Ok d → d.events ≡ false
-  group_early taken =
-      let declares = declares_group s.declared d taken in
-      ap (λ (x : Declared). x.events) declares.is ∙ sound.uneventful declares.first
-
-  member_early : (values : List Value) → after_by s.declared stated verb.Member values ≡ Ok d
-      → declaring_member s d values ≡ says report new → d.events ≡ false
-  member_early (Text label ∷ Named node ∷ Octets key ∷ []) taken is =
-      let m = may s.declared d (record s.declared { members = s.declared.members ++ party label node ∷ [] })
-      (party label node) (length s.declared.members) taken in
-      ap (λ (x : Declared). x.events) m.1 ∙ m.0.before
-  member_early values taken is = cc
-
-  client_early : (values : List Value) → after_by s.declared stated verb.Client values ≡ Ok d
-      → with_client s d values ≡ says report new → d.events ≡ false
-  client_early (Text label ∷ Named node ∷ Octets key ∷ []) taken is =
-      let m = may s.declared d (record s.declared { clients = s.declared.clients ++ party label node ∷ [] })
-      (party label node) (length s.declared.clients) taken in
-      ap (λ (x : Declared). x.events) m.1 ∙ m.0.before
-  client_early values taken is = cc
-
-  form_hides : (form : Verb) → deletes stated.verb ≡ false → after_by s.declared stated form stated.values ≡ Ok d
-      → taken_by form given s d stated ≡ says report new
-      → NothingHidden (found_world given s) → NothingHidden (found_world given new)
-  unfolding acted_by
-  form_hides verb.Group only taken is nothing_hidden = early (group_declared stated.values is) (group_early taken)
-  form_hides verb.Member only taken is nothing_hidden =
-      early (member_declared stated.values is) (member_early stated.values taken is)
-  form_hides verb.Client only taken is nothing_hidden =
-      early (client_declared stated.values is) (client_early stated.values taken is)
-  form_hides form only taken is nothing_hidden = event_hides taken only is nothing_hidden
-
 stated_keeps : (r : Result (Option Stated) LineFault) (stated : Stated) → r ≡ Ok (Some stated)
     → deletes_nothing r ≡ true → deletes stated.verb ≡ false
 stated_keeps r stated is keeps =
     let spares : not (deletes stated.verb) ≡ true = subst (λ x. deletes_nothing x ≡ true) is keeps in
     not_true (deletes stated.verb) spares
 
-line_hides : (given : Given) (s : State) (line report : List ℕ) (new : State) → LineTaken given s line report new
-    → deletes_nothing (line_of line) ≡ true → IsSoundState given s → IsSoundState given new
-    → NothingHidden (found_world given s) → NothingHidden (found_world given new)
-line_hides given s line report new (nothing is same) keeps sound sound_new nothing_hidden =
+line_hides : (given : Given) (s : State) (line : List ℕ) (new : State) → IsSoundState given s → IsSoundState given new
+    → LineSteps given s line new → deletes_nothing (line_of line) ≡ true → NothingHidden (found_world given s)
+    → NothingHidden (found_world given new)
+line_hides given s line new sound sound_new (still same) keeps nothing_hidden =
     subst (λ (x : State). NothingHidden (found_world given x)) (sym same) nothing_hidden
-line_hides given s line report new (stating stated d is after taken) keeps sound sound_new nothing_hidden =
-    form_hides given s sound line stated d report new is after sound_new stated.verb
-    (stated_keeps (line_of line) stated is keeps) after taken nothing_hidden
+line_hides given s line new sound sound_new (declares early none) keeps nothing_hidden j inside =
+    ap (λ (w : World). (member w j).hidden) (opened given new (sound_new.begun none))
+    ∙ opening_hides _ (numbers_from 0 (length new.keys.members.names)) j (λ x. refl)
+line_hides given s line new sound sound_new (steps stated d e read said step) keeps nothing_hidden j inside =
+    let w : World = found_world given s in
+    let count : length new.declared.members ≡ length s.declared.members = ap length step.members in
+    let before : j < length w.members = omega (arith, inside, count, sound.many, sound_new.many) in
+    let only : deletes stated.verb ≡ false = stated_keeps (line_of line) stated read keeps in
+    let spares : IsNoDeletionEvent (group_event s.keys e) =
+    undeleting_some s.keys (said_event d stated) e said (undeleting s.keys stated.verb d stated.values only) in
+    ap (λ (x : World). (member x j).hidden) step.group
+    ∙ hides_as_before (outside_of given s.keys) w (group_event s.keys e) spares j before
+    ∙ nothing_hidden j before
 
 lines_hide : (given : Given) (r : Reached) (lines reports : List (List ℕ)) (last : Reached)
     → LinesAreTaken given r lines reports last → list_all (λ line. deletes_nothing (line_of line)) lines ≡ true
@@ -311,8 +248,9 @@ lines_hide given r (line ∷ lines) (report ∷ reports) last taken keep sound n
     let sound_next : IsSoundState given next.state =
     sound_line given r.state line report next.state here sound in
     lines_hide given next lines reports last taken.2 (and_right (deletes_nothing (line_of line)) _ keep) sound_next
-    (line_hides given r.state line report next.state here (and_left (deletes_nothing (line_of line)) _ keep) sound
-    sound_next nothing_hidden)
+    (line_hides given r.state line next.state sound sound_next
+    (line_steps given r.state line report next.state here sound) (and_left (deletes_nothing (line_of line)) _ keep)
+    nothing_hidden)
 
 pub hides_by_deletion_alone : HidesByDeletionAlone
 hides_by_deletion_alone given lines reports r taken keep =

@@ -68,6 +68,7 @@ not_said refusals.Refusal.FetcherBusy report new h = cc
 not_said refusals.Refusal.FetcherIdle report new h = cc
 not_said refusals.Refusal.NumbersSpent report new h = cc
 not_said refusals.Refusal.Foreign report new h = cc
+not_said refusals.Refusal.NoSuchNumber report new h = cc
 
 pub says_report : (report told : List ℕ) (new s : State) → says told s ≡ says report new → report ≡ told
 says_report report told new s h = cc

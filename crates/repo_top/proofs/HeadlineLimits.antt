@@ -1,6 +1,6 @@
--- What is published in a script is within the limits of objects: an event that a line states publishes an object, or
--- begins or goes on with an insertion that is within them.
-use Rattle.std.proofs.Common.{◌≡◌, ◌∙◌, inl, inr, ℕ, zero, suc, ◌+◌, ◌<◌, Bool, true, false, cond, not, ◌&&◌, ◌||◌}
+-- What is published in a script is within the limits: an event that a line states publishes an object within those of
+-- objects, withdraws an earlier one, or begins or goes on with an insertion that is within them.
+use Rattle.std.proofs.Common.{◌≡◌, ◌∙◌, inl, inr, ℕ, zero, suc, ◌+◌, ◌-◌, ◌<◌, Bool, true, false, cond, not, ◌&&◌, ◌||◌}
 use Rattle.std.proofs.Common.{List, [], ◌∷◌, ◌++◌}
 use Rattle.std.proofs.Common.{eqb, length, get_or, set, map, Option, Some, None, Result, Ok, Err, refl, sym, ap, subst}
 use Rattle.std.proofs.Common.{arith}
@@ -8,7 +8,7 @@ use Rattle.std.specs.Prelude.{is_some, nat_le, unwrap_or}
 use Rattle.std.specs.Cmp.{second_so}
 use Rattle.std.specs.List.{All, list_any}
 use Rattle.std.specs.Ordering.{eq_by_cmp, nat_cmp}
-use Rattle.std.proofs.lemmas.Bool.{false≢true, leb-false}
+use Rattle.std.proofs.lemmas.Bool.{and_parts, false≢true, leb-false, leb-true}
 use Rattle.std.proofs.lemmas.List.{get_or-map, get_or-set_same, length-map, length-set, map-set}
 use Rattle.std.proofs.lemmas.List.Elements.{All-cons, All-head, All-nil, All-push, All-tail}
 use Rattle.std.proofs.lemmas.Cmp.{nat_cmp_total}
@@ -18,13 +18,14 @@ use Rattle.sorted_lists.proofs.Orders.{Exact, nat_itself, nat_same}
 use Rattle.sorted_lists.proofs.Sets.{In, value_of-with_value}
 use Rattle.svs_sync.specs.declared.fired.Fired.{Fired}
 use Rattle.svs_sync.specs.declared.fired.Fired.TheVariants.{Early, Quiet, Send}
-use Rattle.repo_object.specs.Objects.{NamedContents, IsContent, IsObject}
+use Rattle.repo_object.specs.Objects.{Post, IsContent, IsObject, IsPost, offered, withdraws_number}
+use Rattle.repo_object.specs.Objects.Post.{Offers, Withdraws}
 use Rattle.repo_process.specs.Processes.{Process, BlockState, block_in, closed, has_block, has_index, indexes}
 use Rattle.repo_process.specs.Processes.{is_whole, object_of, starting, with_block, with_it}
 use Rattle.repo_process.specs.Processes.BlockState.{Unknown, Already, Waiting, Whole}
 use Rattle.repo_command.specs.declared.command.Command.{Command}
 use Rattle.repo_command.specs.declared.command.Command.TheVariants.{Insert, Check, Delete}
-use Rattle.group_model.specs.Publications.{Publication, last_of, pair_in}
+use Rattle.group_model.specs.Publications.{Publication, has_unwithdrawn, last_of, no_post, pair_in}
 use Rattle.group_model.specs.Commands.{is_equal_command}
 use Rattle.group_model.specs.Member.{Member, catalogued_under, member_hides_all, member_hides_too}
 use Rattle.group_model.specs.Changes.{member_starts, publishes}
@@ -36,7 +37,8 @@ use Rattle.group_model.specs.Steps.{after_block, after_came, after_claiming, aft
 use Rattle.group_model.specs.Steps.{after_fire, after_hear, after_order, after_publish, after_settle, block_at, came_as}
 use Rattle.group_model.specs.Steps.{came_from, can_start, claim_at, drawn, tells_too_much, timer_at, to_claim}
 use Rattle.group_model.specs.Steps.{tried_once, with_process_at}
-use Rattle.group_model.specs.Refusals.{Refusal, EventIsTaken, has_issued, if_spent, if_unissued, if_whole, unless}
+use Rattle.group_model.specs.Refusals.{Refusal, EventIsTaken, has_issued, if_no_object_or_spent, if_spent, if_unissued}
+use Rattle.group_model.specs.Refusals.{if_whole, unless}
 use Rattle.group_model.proofs.Lists.{each_all}
 use Rattle.group_model.proofs.Settles.{settle_each, logs_settled}
 use Rattle.group_model.proofs.Worlds.{same_logs}
@@ -213,18 +215,21 @@ module _ (g : GroupKeys) where
     issued = subst (All IsBegunWithin) (sym issued) h.issued;
   }
 
-  -- one publishes an object
-  publishing : (out : Outside) (w : World) (j : ℕ) (o : NamedContents) → j < length w.members → IsObject o
-      → length (member w j).log < 65535 → IsLimited g w → IsLimited g (after_publish out w j o)
-  publishing out w j o there is_object few h =
-      let m : Member = publishes (drawn out w j) w.moment j o (member w j) in
+  -- one publishes an object or a withdrawal
+  publishing : (out : Outside) (w : World) (j : ℕ) (post : Post) → j < length w.members
+      → IsPost (length (member w j).log + 1) post → length (member w j).log < 65535 → IsLimited g w
+      → IsLimited g (after_publish out w j post)
+  publishing out w j post there is_post few h =
+      let m : Member = publishes (drawn out w j) w.moment j post (member w j) in
       let log_at : get_or (logs w) j [] ≡ (member w j).log =
       get_or-map (λ (x : Member). x.log) w.members j no_member [] there in
       let count : length (logs w) ≡ length w.members = length-map w.members (λ (x : Member). x.log) in
       let last : last_of (logs w) j ≡ length (member w j).log = ap length log_at in
-      let grown : AreLogs g (set (logs w) j ((member w j).log ++ o ∷ [])) =
-      subst (AreLogs g) (ap (λ (l : List NamedContents). set (logs w) j (l ++ o ∷ [])) log_at)
-      (logs_grow g (logs w) j o h.are (omega (arith, there, count)) is_object (omega (arith, last, few))) in
+      let its_number : IsPost (last_of (logs w) j + 1) post =
+      subst (λ (n : ℕ). IsPost (n + 1) post) (sym last) is_post in
+      let grown : AreLogs g (set (logs w) j ((member w j).log ++ post ∷ [])) =
+      subst (AreLogs g) (ap (λ (l : List Post). set (logs w) j (l ++ post ∷ [])) log_at)
+      (logs_grow g (logs w) j post h.are (omega (arith, there, count)) its_number (omega (arith, last, few))) in
       record {
         are = subst (AreLogs g) (sym (map-set (λ (x : Member). x.log) w.members j m)) grown;
         insertions = within_set w.members j m h.insertions (h.insertions j);
@@ -341,16 +346,39 @@ module _ (g : GroupKeys) where
       let same : (member v j).log ≡ (member w j).log =
       ap (λ (m : Member). m.log) (get_or-set_same w.members j _ no_member there) in
       let few : length (member w j).log < 65535 = has_room w j taken in
-      publishing out v j (object_of p) (omega (arith, kept, there)) within.1
-      (subst (λ (log : List NamedContents). length log < 65535) (sym same) few)
+      publishing out v j (Offers (object_of p)) (omega (arith, kept, there)) within.1
+      (subst (λ (log : List Post). length log < 65535) (sym same) few)
       (keeping w j process (closed p) (closed_within p within.0) h)
+
+  -- ---- withdrawals
+
+  -- What is withdrawn was published before, and there is a number for its withdrawal.
+  withdrawing : (out : Outside) (w : World) (j seq : ℕ) → j < length w.members → if_no_object_or_spent w j seq ≡ None
+      → IsLimited g w → IsLimited g (after_publish out w j (Withdraws seq))
+  withdrawing out w j seq there taken h = go (has_unwithdrawn log seq) refl taken where
+    log : List Post
+    log = (member w j).log
+
+    go : (b : Bool) → has_unwithdrawn log seq ≡ b → cond b (if_spent w j) (Some Refusal.NoSuchNumber) ≡ None
+        → IsLimited g (after_publish out w j (Withdraws seq))
+    go true is k =
+        let object : Bool = is_some (offered (get_or log (seq - 1) no_post)) in
+        let once : Bool = not (list_any (λ o. withdraws_number o seq) log) in
+        let places : (nat_le 1 seq && nat_le seq (length log)) ≡ true =
+        (and_parts (nat_le 1 seq && nat_le seq (length log)) (object && once) is).0 in
+        let both = and_parts (nat_le 1 seq) (nat_le seq (length log)) places in
+        let low : 1 ≤ seq = leb-true 1 seq both.0 in
+        let high : seq ≤ length log = leb-true seq (length log) both.1 in
+        publishing out w j (Withdraws seq) there (omega (arith, low), omega (arith, high)) (has_room w j k) h
+    go false is k = cc
 
   -- ---- any event
 
   pub limited_after : (out : Outside) (w : World) (e : Event) → BringsWithin e → EventIsTaken out w e → IsLimited g w
       → IsLimited g (after_event out w e)
   limited_after out w (Event.Publish j o) within taken h =
-      publishing out w j o taken.named within (has_room w j taken.taken) h
+      publishing out w j (Offers o) taken.named within (has_room w j taken.taken) h
+  limited_after out w (Event.Withdraw j seq) within taken h = withdrawing out w j seq taken.named taken.taken h
   limited_after out w (Event.Deliver k j) within taken h = delivering out w j (sent_at w k).vector h
   limited_after out w (Event.Sync k) within taken h = h
   limited_after out w (Event.Advance ms) within taken h = none w (after_event out w (Event.Advance ms)) refl refl h

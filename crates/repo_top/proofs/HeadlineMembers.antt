@@ -70,6 +70,7 @@ valid_by verb.Publish d (Text m ∷ Named name ∷ Number size ∷ Octets conten
     object_name name words.1.0.0 words.1.0.1 of.1.0
 valid_by verb.Insert d (Text m ∷ Text client ∷ Named name ∷ Number first ∷ Number last ∷ []) words of =
     object_name name words.1.1.0.0 words.1.1.0.1 of.1.1.0
+valid_by verb.Withdraw d (Text m ∷ Number s ∷ []) words of = tt
 valid_by verb.Deliver d (Number k ∷ Text m ∷ []) words of = tt
 valid_by verb.Sync d (Number k ∷ []) words of = tt
 valid_by verb.Advance d (Number ms ∷ []) words of = tt

@@ -22,7 +22,7 @@ use Rattle.bench_world.specs.EventValues.{EventValue, group_event}
 use Rattle.repo_top.specs.SaidEvents.{party_number, said_by, said_event}
 use Rattle.repo_top.specs.Judging.{Given, State, acted_by, acted_if, found_world, outside_of, says, taken_by}
 use Rattle.repo_top.specs.Story.{Reached}
-use Rattle.repo_top.specs.Headline.{LinesAreTaken, IsCatalogueOf, IsSameGroup, IsSettleLine, SettlesJoin}
+use Rattle.repo_top.specs.Headline.{LinesAreTaken, IsCatalogueOf, IsJoined, IsSameGroup, IsSettleLine, SettlesJoin}
 use Rattle.repo_top.specs.Headline.{TellingChangesNothing, changes_nothing, group_at, labels_at, only_tells}
 use Rattle.repo_top.specs.Headline.{printed_entries}
 use Rattle.repo_top.proofs.HeadlineGroups.{IsActed, IsSoundState, LineTaken, acts_so, acted_said, event_line, nothing}
@@ -31,19 +31,26 @@ use Rattle.repo_top.proofs.HeadlineCatalogues.{catalogue_line}
 
 -- ---- the settle
 
-joined : (given : Given) (r : Reached) (report : List ℕ) (new : Reached) → IsSoundState given r.state
-    → IsSettleLine given r report new → NothingHidden (group_at given new) → AllJoined (group_at given new)
+-- The group is what a settle makes of it.
+pub settled_group : (given : Given) (r : Reached) (report : List ℕ) (new : Reached) → IsSettleLine given r report new
+    → group_at given new ≡ after_event (outside_of given r.state.keys) (group_at given r) group.Event.Settle
 unfolding acted_by
-joined given r report new sound l nothing_hidden =
+settled_group given r report new l =
     let s : State = r.state in
-    let out : Outside = outside_of given s.keys in
-    let w : World = found_world given s in
     let t = stated_taken given s l.line report new.state (said verb.Settle (Number l.workers ∷ [])) l.stated
     (taken_line given r l.line report new l.taken) in
     let acts : IsActed given s t.d (EventValue.Settle l.workers) report new.state =
     acts_so given s t.d (EventValue.Settle l.workers) report new.state t.is in
-    let settled : group_at given new ≡ after_event out w group.Event.Settle = ap (found_world given) acts.next in
-    subst AllJoined (sym settled) (settle_joins out w sound.sound (subst NothingHidden settled nothing_hidden))
+    ap (found_world given) acts.next
+
+joined : (given : Given) (r : Reached) (report : List ℕ) (new : Reached) → IsSoundState given r.state
+    → IsSettleLine given r report new → NothingHidden (group_at given new) → AllJoined (group_at given new)
+joined given r report new sound l nothing_hidden =
+    let out : Outside = outside_of given r.state.keys in
+    let settled : group_at given new ≡ after_event out (group_at given r) group.Event.Settle =
+    settled_group given r report new l in
+    subst AllJoined (sym settled)
+    (settle_joins out (group_at given r) sound.sound (subst NothingHidden settled nothing_hidden))
 
 -- ---- lines that only tell
 
@@ -143,15 +150,19 @@ printed_join given r later label report all same c =
     same.labels
     ∙ ap (printed_entries (labels_at r) label) (all c.number there)
 
+-- Where the catalogues are joined `catalogue` lines print the join.
+pub shows_join : (given : Given) (r : Reached) → IsSoundState given r.state → AllJoined (group_at given r)
+    → IsJoined given r
+shows_join given r sound all = record {
+  all = all;
+  shown = λ between told later go_on tell label text last c.
+      printed_join given r later label text all (lines_tell given r between told later go_on tell)
+      (catalogue_line given later (sound_lines given r between told later go_on sound) label text last c);
+}
+
 pub settles_join : SettlesJoin
 settles_join given lines reports r taken report new l nothing_hidden =
     let sound : IsSoundState given r.state = sound_from_start given lines reports r taken in
     let after : IsSoundState given new.state =
     sound_lines given r (l.line ∷ []) (report ∷ []) new (new, l.taken, refl) sound in
-    let all : AllJoined (group_at given new) = joined given r report new sound l nothing_hidden in
-    record {
-      all = all;
-      shown = λ between told later go_on tell label text last c.
-          printed_join given new later label text all (lines_tell given new between told later go_on tell)
-          (catalogue_line given later (sound_lines given new between told later go_on after) label text last c);
-    }
+    shows_join given new after (joined given r report new sound l nothing_hidden)

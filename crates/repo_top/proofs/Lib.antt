@@ -11,10 +11,13 @@ pub mod HeadlineGroups
 pub mod HeadlineNames
 pub mod HeadlineCatalogues
 pub mod HeadlineSettles
+pub mod HeadlineEvents
 pub mod HeadlineDeletions
+pub mod HeadlineListings
 pub mod DeclaredGroups
 pub mod HeadlineLimits
 pub mod HeadlineMembers
+pub mod ListedDigests
 pub mod HeadlineChecks
 pub mod HeadlineShown
 pub mod WorkerLaws

@@ -85,6 +85,7 @@ event_beyond : (why : group.Refusal) → IsBeyondGrammar (event_refused why)
 event_beyond group.Refusal.NoSuchPacket = tt
 event_beyond group.Refusal.FetcherBusy = tt
 event_beyond group.Refusal.FetcherIdle = tt
+event_beyond group.Refusal.NoSuchNumber = tt
 event_beyond group.Refusal.NumbersSpent = tt
 event_beyond group.Refusal.Foreign = tt
 

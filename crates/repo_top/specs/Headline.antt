@@ -2,16 +2,18 @@
 -- What stands in the report of a `catalogue` line is said in the words of the group that the lines before it reach: its
 -- members, what they published, hold and have deleted.
 use Rattle.std.specs.Prelude.{ℕ, ◌+◌, ◌≡◌, ◌≤◌, ◌<◌, ◌⊎◌, ◌↔◌, Bool, true, false, not, List, [], ◌∷◌, ◌++◌, map, length}
-use Rattle.std.specs.Prelude.{Option, Some, None, Result, Ok, Err}
+use Rattle.std.specs.Prelude.{Option, Some, None, is_some, Result, Ok, Err}
 use Rattle.std.specs.List.{All, IsDistinct, concat, list_all}
 use Rattle.std.specs.Str.{bytes_eq}
 use Rattle.repo_plan.specs.Parts.{Pair, part_of}
+use Rattle.repo_object.specs.Objects.{offered}
 use Rattle.repo_catalog.specs.declared.entry.Entry.{Entry}
 use Rattle.repo_catalog.specs.Entries.{IsCatalogue, lists, publication_of}
-use Rattle.group_model.specs.Publications.{Logs, Publication, count, join_of, object_at, published_entry}
+use Rattle.group_model.specs.Publications.{Logs, Publication, count, join_of, post_at, published_entry}
 use Rattle.group_model.specs.Member.{member_holds, member_hides}
 use Rattle.group_model.specs.World.{World, catalogue_at, logs, member}
 use Rattle.group_model.specs.Sound.{IsPublished, IsSoundGroup}
+use Rattle.group_model.specs.Catalogues.{HoldsNoWithdrawal}
 use Rattle.group_model.specs.Laws.{AllJoined, NothingHidden}
 use Rattle.repo_member.specs.InGroup.{AreLogs}
 use Rattle.script_lang.specs.declared.line_fault.LineFault.{LineFault}
@@ -105,7 +107,7 @@ abbrev pub labels_at : Reached → List (List ℕ)
 labels_at r = map party_label r.state.declared.members
 
 -- A sound group of the declared members, no two under one label. Behind the group's line, what they published is what
--- members of that group can publish: objects within the limits.
+-- members of that group can publish: objects within the limits, and withdrawals of earlier numbers.
 pub record IsGroupOfLines (given : Given) (r : Reached) : Type 0 where
   pub sound : IsSoundGroup (group_at given r)
   pub members : length (group_at given r).members ≡ length (labels_at r)
@@ -121,17 +123,19 @@ Says line stated = line_of line ≡ Ok (Some stated)
 
 -- The publication of a publisher and a number.
 abbrev pub publication_at : Logs → Pair → Publication
-publication_at logs pair = record { publisher = pair.0; seq = pair.1; object = object_at logs pair }
+publication_at logs pair = record { publisher = pair.0; seq = pair.1; post = post_at logs pair }
 
 abbrev pub HoldsAllOf : World → ℕ → Pair → Type 0
 HoldsAllOf w m pair = (x : ℕ) → x ≤ count (logs w) pair → member_holds (member w m) (part_of pair x) ≡ true
 
--- What a member's catalogue is to list: an object that was published, that the member hasn't deleted, and that it
--- published itself or wholly holds.
+-- What a member's catalogue is to list: an object that was published, that the member hasn't deleted, that it published
+-- itself or wholly holds, and of whose withdrawals it holds no record.
 pub record IsToBeListed (w : World) (m : ℕ) (pair : Pair) : Type 0 where
   pub published : IsPublished (logs w) pair
+  pub object : is_some (offered (post_at (logs w) pair)) ≡ true
   pub undeleted : member_hides (member w m) pair ≡ false
   pub had : (pair.0 ≡ m) ⊎ HoldsAllOf w m pair
+  pub not_withdrawn : HoldsNoWithdrawal (logs w) (member w m) pair
 
 -- Entries list just that, each once under its publisher and number, in order; and each tells of its object.
 pub record ListExactly (w : World) (m : ℕ) (entries : List Entry) : Type 0 where
@@ -224,14 +228,15 @@ abbrev pub TellingChangesNothing : Type 0
 TellingChangesNothing = (given : Given) (r : Reached) (line report : List ℕ) (new : Reached)
     → LineIsTaken given r line report new → changes_nothing (line_of line) ≡ true → IsSameGroup given r new
 
--- A `catalogue` line prints exactly the undeleted objects that the member published or wholly holds.
+-- A `catalogue` line prints exactly the objects that the member published or wholly holds, undeleted and not known
+-- withdrawn.
 abbrev pub PrintsCatalogues : Type 0
 PrintsCatalogues = (given : Given) (lines reports : List (List ℕ)) (r : Reached) → AreTakenFirst given lines reports r
     → (label report : List ℕ) (new : Reached) → IsCatalogueLine given r label report new
     → IsCatalogueOf (group_at given r) (labels_at r) label report
 
--- Each member's catalogue is the join of all publications; and that is what `catalogue` lines print, behind any lines
--- that change nothing.
+-- Each member's catalogue is the join of all publications, which is every object that none of them withdraws; and that
+-- is what `catalogue` lines print, behind any lines that change nothing.
 pub record IsJoined (given : Given) (r : Reached) : Type 0 where
   pub all : AllJoined (group_at given r)
   pub shown : (lines reports : List (List ℕ)) (later : Reached) → LinesAreTaken given r lines reports later

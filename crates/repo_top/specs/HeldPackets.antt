@@ -1,35 +1,34 @@
 -- What the members of a script hold: packets that pass their checks, and entries that tell what is in them.
-use Rattle.std.specs.Prelude.{ℕ, ◌≡◌, ◌<◌, true, List, map, length, Option, Some, None, Result, Ok, Err, IsOk}
-use Rattle.std.specs.Prelude.{if◌then◌else◌}
+use Rattle.std.specs.Prelude.{ℕ, ◌≡◌, ◌+◌, ◌<◌, true, List, map, length, Option, Some, None, IsOk, if◌then◌else◌}
 use Rattle.std.specs.List.{All, concat}
 use Rattle.std.specs.Option.{option_and_then}
 use Rattle.sha2.specs.Sha256.{sha256}
-use Rattle.ndn_name.specs.declared.fault.PacketFault.{PacketFault}
-use Rattle.ndn_data.specs.Data.{Data, data_of}
 use Rattle.sorted_lists.specs.Range.{numbers_from}
 use Rattle.repo_plan.specs.declared.part.Part.{Part}
-use Rattle.repo_plan.specs.Parts.{Pair, part_of}
-use Rattle.repo_object.specs.Verdict.{ring_verdict}
+use Rattle.repo_plan.specs.Parts.{Pair, pair_of, part_of, index_packets}
+use Rattle.repo_object.specs.Verdict.{content_in, ring_verdict}
 use Rattle.repo_catalog.specs.declared.entry.Entry.{Entry}
 use Rattle.repo_catalog.specs.Entries.{publication_of}
-use Rattle.group_model.specs.Publications.{Logs}
+use Rattle.group_model.specs.Publications.{Logs, post_at}
 use Rattle.group_model.specs.Member.{member_holds}
 use Rattle.group_model.specs.World.{World, catalogue_at, logs, member}
-use Rattle.repo_member.specs.Groups.{GroupKeys}
+use Rattle.repo_member.specs.Groups.{GroupKeys, publisher_at}
 use Rattle.repo_member.specs.InGroup.{true_packet}
 use Rattle.repo_member.specs.TrueMembers.{true_want}
 use Rattle.repo_top.specs.Judging.{Given}
 use Rattle.repo_top.specs.Story.{Reached}
 use Rattle.repo_top.specs.Headline.{AreTakenFirst, group_at}
+use Rattle.repo_top.specs.ListedDigests.{ListsDigest}
 
 -- ---- what is held was checked
 
 -- There is a packet of the part, and it passes for the want of that part: by the name, by the key and the signature of
--- its publisher, and for a segment by the digest that the publication's record lists.
+-- its publisher, and for every part but a record by its digest, which the record or an index packet lists.
 pub record PassesItsChecks (g : GroupKeys) (logs : Logs) (t : Part) : Type 0 where
   pub octets : List ℕ
   pub its : true_packet g logs t ≡ Some octets
   pub passes : IsOk (ring_verdict (true_want g logs t) g.members.ring octets)
+  pub listed : 0 < t.part → ListsDigest (publisher_at g t.publisher) t.seq (post_at logs (pair_of t)) t.part octets
 
 -- So does that of each part that a member holds.
 abbrev pub HoldsChecked : GroupKeys → World → ℕ → Type 0
@@ -46,17 +45,13 @@ MembersHoldChecked = (given : Given) (lines reports : List (List ℕ)) (r : Reac
 abbrev pub dumped : GroupKeys → World → ℕ → Part → Option (List ℕ)
 dumped g w m t = if member_holds (member w m) t then true_packet g (logs w) t else None
 
--- The content of the Data that octets are.
-abbrev pub content_read : Result Data PacketFault → Option (List ℕ)
-content_read (Ok d) = Some d.content
-content_read (Err fault) = None
-
-abbrev pub content_in : List ℕ → Option (List ℕ)
-content_in octets = content_read (data_of octets)
-
--- The contents of the first so many segments of a publication that are dumped, in order. Part 0 is the record.
+-- The contents of the segments of a publication that has so many, as they are dumped, in order. Part 0 is the record.
+-- The index packets come next, `k` of them where `k` is `index_packets segments`, and segment `i`, counted from 0, is
+-- part `k + 1 + i`.
 abbrev pub dumped_contents : GroupKeys → World → ℕ → Pair → ℕ → List (Option (List ℕ))
-dumped_contents g w m pair n = map (λ x. option_and_then content_in (dumped g w m (part_of pair x))) (numbers_from 1 n)
+dumped_contents g w m pair segments =
+    map (λ x. option_and_then content_in (dumped g w m (part_of pair x)))
+    (numbers_from (index_packets segments + 1) segments)
 
 abbrev pub all_there : List (List ℕ) → List (Option (List ℕ))
 all_there contents = map (λ content. Some content) contents

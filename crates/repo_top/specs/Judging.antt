@@ -66,6 +66,7 @@ abbrev pub event_refused : group.Refusal → Verdict
 event_refused group.Refusal.NoSuchPacket = refused refusal.NoSuchPacket
 event_refused group.Refusal.FetcherBusy = refused refusal.FetcherBusy
 event_refused group.Refusal.FetcherIdle = refused refusal.FetcherIdle
+event_refused group.Refusal.NoSuchNumber = refused refusal.NoSuchNumber
 event_refused group.Refusal.NumbersSpent = refused refusal.NumbersSpent
 event_refused group.Refusal.Foreign = foreign
 

@@ -20,6 +20,8 @@ pub mod Forms
 pub mod Answers
 pub mod Headline
 pub mod ToldMembers
+pub mod Listings
+pub mod ListedDigests
 pub mod HeldPackets
 pub mod ShownCatalogues
 pub mod Workers

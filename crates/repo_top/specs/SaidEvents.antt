@@ -18,6 +18,7 @@ party_number label parties = position_or_len (λ (p : Party). bytes_eq p.label l
 abbrev pub said_by : Verb → Declared → List Value → Option EventValue
 said_by verb.Publish d (Text m ∷ Named name ∷ Number size ∷ Octets content ∷ []) =
     Some (EventValue.Publish (party_number m d.members) name size content)
+said_by verb.Withdraw d (Text m ∷ Number s ∷ []) = Some (EventValue.Withdraw (party_number m d.members) s)
 said_by verb.Deliver d (Number k ∷ Text m ∷ []) = Some (EventValue.Deliver k (party_number m d.members))
 said_by verb.Sync d (Number k ∷ []) = Some (EventValue.Sync k)
 said_by verb.Advance d (Number ms ∷ []) = Some (EventValue.Advance ms)

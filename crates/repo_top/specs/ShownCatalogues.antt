@@ -16,8 +16,8 @@ use Rattle.repo_top.specs.Headline.{labels_at}
 use Rattle.repo_top.specs.HeldPackets.{HoldsChecked}
 
 -- A text shows the catalogue of the member with this label, as it is behind these lines: first come their reports, then
--- that catalogue, and then the rest. It lists exactly the objects that the member published or wholly holds and hasn't
--- deleted, and what the member holds passed its checks.
+-- that catalogue, and then the rest. It lists exactly the objects that the member published or wholly holds, undeleted
+-- and not known withdrawn, and what the member holds passed its checks.
 pub record ShowsCatalogue (given : Given) (before : List (List ℕ)) (label text : List ℕ) : Type 0 where
   pub here : Reached
   pub reports : List (List ℕ)
@@ -28,7 +28,7 @@ pub record ShowsCatalogue (given : Given) (before : List (List ℕ)) (label text
   pub shown : IsCatalogueOf (group_at given here) (labels_at here) label report
   pub checked : HoldsChecked here.state.keys (group_at given here) shown.number
 
--- The catalogue that it shows is the join of all publications.
+-- The catalogue that it shows is the join of all publications: every object that none of them withdraws.
 pub record ShowsJoin (given : Given) (before : List (List ℕ)) (label text : List ℕ) : Type 0 where
   pub catalogue : ShowsCatalogue given before label text
   pub joined : catalogue_at (group_at given catalogue.here) catalogue.shown.number

@@ -26,11 +26,12 @@ check_stop check_fault.Limit = Refused refusal.Limit
 check_stop check_fault.TooLarge = Refused refusal.TooLarge
 check_stop check_fault.NoMemory = NoMemory
 
--- The refusal of an event that has this number. There are four.
+-- The refusal of an event that has this number. There are five.
 abbrev pub step_refusal : ℕ → Option Refusal
 step_refusal number =
     if number == 5 then Some refusal.NoSuchPacket else if number == 6 then Some refusal.FetcherBusy
-    else if number == 7 then Some refusal.FetcherIdle else if number == 8 then Some refusal.NumbersSpent else None
+    else if number == 7 then Some refusal.FetcherIdle else if number == 8 then Some refusal.NumbersSpent
+    else if number == 14 then Some refusal.NoSuchNumber else None
 
 abbrev pub step_stop : StepFault → Option Stop
 step_stop (step_fault.Refused number) = option_map (λ why. Refused why) (step_refusal number)

@@ -8,7 +8,7 @@ use Rattle.script_report.specs.Texts.{settle_text, feed_kept_text, feed_refused_
 use Rattle.script_report.specs.Texts.{hear_steady_text, hear_suppressed_text, hear_refused_text, ask_found_text}
 use Rattle.script_report.specs.Texts.{ask_none_text, ask_refused_text, command_text, block_300_text, block_404_text}
 use Rattle.script_report.specs.Texts.{block_200_text, block_published_text, vector_text, catalogue_text, summary_text}
-use Rattle.script_report.specs.Texts.{traffic_text}
+use Rattle.script_report.specs.Texts.{traffic_text, withdraw_text}
 use Rattle.bench_world.specs.EventValues.{Told}
 use Rattle.repo_top.specs.Labels.{label_at}
 use Rattle.repo_top.specs.RefusalTexts.{hear_refusal_text, part_refusal_text, packet_fault_text}
@@ -19,6 +19,7 @@ publisher_label labels e = label_at labels e.publisher
 
 abbrev pub told_text : List (List ℕ) → Told → List ℕ
 told_text labels (Told.Publish m seq segments sync) = publish_text (label_at labels m) seq segments sync
+told_text labels (Told.Withdraw m seq withdrawn sync) = withdraw_text (label_at labels m) seq withdrawn sync
 told_text labels (Told.DeliverSteady k m) = deliver_steady_text k (label_at labels m)
 told_text labels (Told.DeliverSuppressed k m) = deliver_suppressed_text k (label_at labels m)
 told_text labels (Told.Sync k octets) = sync_text k octets

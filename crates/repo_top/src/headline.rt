@@ -5,6 +5,7 @@ ghost use Rattle.repo_top.specs.HeldPackets.{EntriesTellOfDumped, MembersHoldChe
 ghost use Rattle.repo_top.specs.Judging.{Given};
 ghost use Rattle.repo_top.specs.Labels.{MembersHaveLabels};
 ghost use Rattle.repo_top.specs.Lines.{lines};
+ghost use Rattle.repo_top.specs.Listings.{ListedStay, SettledListWhatIsHeld, SettledListWhatIsLeft, ToldMembersJoin};
 ghost use Rattle.repo_top.specs.ShownCatalogues.{CatalogueLinesShow, SettleLinesShow};
 ghost use Rattle.repo_top.specs.Story.{nothing_reached, story_of};
 ghost use Rattle.repo_top.specs.ToldMembers.{ReportsTellOfMembers};
@@ -21,14 +22,15 @@ pub fn stories_are_their_lines()
 {}
 
 /// Behind any lines that are taken the group is sound, its members are those that the lines declared, no two under one
-/// label, and what they published is within the limits of objects. Lines that only tell of the group leave it as it is.
+/// label, and what they published is within the limits of publications. Lines that only tell of the group leave it as
+/// it is.
 pub fn lines_reach_sound_groups()
     ensures sound { ReachSoundGroups }
     ensures unchanged { TellingChangesNothing }
 {}
 
-/// In every story a printed catalogue lists exactly the objects that the member published or wholly holds and hasn't
-/// deleted, each once under its publisher and number, in order, with what it tells of the object.
+/// In every story a printed catalogue lists exactly the objects that the member published or wholly holds, undeleted
+/// and not known withdrawn, each once under its publisher and number, in order, with what it tells of the object.
 pub fn printed_catalogues_list_what_is_held()
     ensures { PrintsCatalogues }
 {}
@@ -40,30 +42,53 @@ pub fn printed_labels_are_declared()
     ensures labels { MembersHaveLabels }
 {}
 
-/// Right after a `settle` line, where nothing is deleted, every member's catalogue is the join of all publications, and
-/// `catalogue` lines print that until a line changes something. Nothing is deleted where no line was taken that can
-/// delete.
+/// Right after a `settle` line, where nothing is deleted, every member's catalogue is the join of all publications,
+/// less what was withdrawn, and `catalogue` lines print that until a line changes something. Nothing is deleted where
+/// no line was taken that can delete.
 pub fn a_settle_line_joins()
     ensures joins { SettlesJoin }
     ensures undeleted { HidesByDeletionAlone }
 {}
 
+/// Right after a `settle` line, whatever was deleted, each member lists exactly the objects of which the members held
+/// every part between them before it, that it hasn't deleted and of which it holds no withdrawal. These are the objects
+/// of the join of all publications that were held so and that it hasn't deleted.
+pub fn settled_catalogues_list_what_was_held()
+    ensures held { SettledListWhatIsHeld }
+    ensures left { SettledListWhatIsLeft }
+{}
+
+/// In every story what a member lists it lists from then on, with the same object, until it deletes it or holds the
+/// record of a withdrawal of it.
+pub fn listed_objects_stay_listed()
+    ensures { ListedStay }
+{}
+
+/// Where lines deliver to each member a sync Interest that tells of the last publication of each other, and in the end
+/// nothing is wanted or deleted, every member's catalogue is the join of all publications, and is printed so, without
+/// any `settle` line.
+pub fn told_members_join_without_a_settle()
+    ensures { ToldMembersJoin }
+{}
+
 /// In every story the packet of each part that a member holds passes for the want of that part: by its name, its
-/// publisher's key and signature, and for a segment the digest that the publication's record lists.
+/// publisher's key and signature, and for every part but a record its digest, which stands at its place in the
+/// publication's record or in the index packet that lists it.
 pub fn held_parts_passed_their_checks()
     ensures { MembersHoldChecked }
 {}
 
 /// In every story each entry of a catalogue tells what the dumped segments of its publication have: their contents,
-/// joined, have the entry's number of octets, and their SHA-256 is its digest.
+/// joined, have the entry's number of octets, and their SHA-256 is its digest. Behind the record, which is part 0, come
+/// the index packets, one for each 200 segments where there are more than 200, and then the segments.
 pub fn entries_tell_what_dumps_show()
     ensures { EntriesTellOfDumped }
 {}
 
 /// Where the story of an input is done and one of its lines says `catalogue` and a label, the text is the reports of
-/// the lines before it, then the entries of exactly the objects that the member published or wholly fetched and checked
-/// and hasn't deleted, then the rest. Right after a `settle` line, where nothing was deleted, these are all objects
-/// that were published.
+/// the lines before it, then the entries of exactly the objects that the member published or wholly fetched and
+/// checked, undeleted and not known withdrawn, then the rest. Right after a `settle` line, where nothing was deleted,
+/// these are all objects that were published and not withdrawn.
 pub fn catalogue_lines_show_what_is_held()
     ensures held { CatalogueLinesShow }
     ensures settled { SettleLinesShow }

@@ -36,6 +36,11 @@ pub fn small_stories()
         "publish alice /doc 1 text:abc\ndeliver 1 bob\nvector bob\nclaim bob 1\ncatalogue bob\ndeliver 2 bob\n")
         (codes "publish alice 1 segments 3 sync 1\ndeliver 1 bob steady\nvector bob alice=1 bob=0\n"
         ++ codes "claim bob 1 part alice 1 0\ncatalogue bob 0\nrefused 9 5 NoSuchPacket\n") (Refused 9 5) }
+    ensures withdrawn { (given : Given)
+        → Reports given (codes "group /g\nmember alice /alice 6b31\npublish alice /doc 1 text:\nwithdraw alice 1\n"
+        ++ codes "catalogue alice\nwithdraw alice 1\n")
+        (codes "publish alice 1 segments 0 sync 1\nwithdraw alice 2 of 1 sync 2\ncatalogue alice 0\n"
+        ++ codes "refused 6 14 NoSuchNumber\n") (Refused 6 14) }
 {}
 
 /// One publication that reaches two catalogues, worked out.

@@ -33,8 +33,10 @@ mod writing;
 pub use failed::Failed;
 pub use headline::{
     a_settle_line_joins, catalogue_lines_show_what_is_held, entries_tell_what_dumps_show,
-    held_parts_passed_their_checks, lines_reach_sound_groups, printed_catalogues_list_what_is_held,
-    printed_labels_are_declared, stories_are_their_lines, workers_make_no_difference,
+    held_parts_passed_their_checks, lines_reach_sound_groups, listed_objects_stay_listed,
+    printed_catalogues_list_what_is_held, printed_labels_are_declared,
+    settled_catalogues_list_what_was_held, stories_are_their_lines,
+    told_members_join_without_a_settle, workers_make_no_difference,
 };
 pub use laws::{
     first_story, lines_are_the_input, small_inspections, small_scripts, small_stories,

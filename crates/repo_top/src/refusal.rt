@@ -28,6 +28,8 @@ pub(crate) enum Refusal {
     Late,
     // The octets of an inspection are no elements.
     BadPacket,
+    // The member has no object of this number, or has withdrawn it.
+    NoSuchNumber,
 }
 
 impl Refusal {
@@ -47,6 +49,7 @@ impl Refusal {
             Refusal::TooLarge => 10,
             Refusal::Late => 11,
             Refusal::BadPacket => 12,
+            Refusal::NoSuchNumber => 14,
         }
     }
 
@@ -66,6 +69,7 @@ impl Refusal {
             Refusal::TooLarge => "TooLarge",
             Refusal::Late => "Late",
             Refusal::BadPacket => "BadPacket",
+            Refusal::NoSuchNumber => "NoSuchNumber",
         }
     }
 }

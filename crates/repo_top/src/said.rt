@@ -26,6 +26,10 @@ pub(crate) fn said(words: &Words, line: Line) -> Option<Event>
             size,
             content,
         },
+        Line::Withdraw { m, s } => Event::Withdraw {
+            m: member(words, &m),
+            s,
+        },
         Line::Deliver { k, m } => Event::Deliver {
             k,
             m: member(words, &m),

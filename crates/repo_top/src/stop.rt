@@ -71,7 +71,7 @@ impl From<CheckFault> for Stop {
     }
 }
 
-// A step is refused for one of four reasons, which it tells by their numbers.
+// A step is refused for one of five reasons, which it tells by their numbers.
 pub(crate) fn step_stop(fault: StepFault) -> Stop
     requires { IsSome (step_stop fault) }
     ensures { step_stop fault ≡ Some result }
@@ -81,6 +81,7 @@ pub(crate) fn step_stop(fault: StepFault) -> Stop
         StepFault::Refused { number: 6 } => Stop::Refused(Refusal::FetcherBusy),
         StepFault::Refused { number: 7 } => Stop::Refused(Refusal::FetcherIdle),
         StepFault::Refused { number: 8 } => Stop::Refused(Refusal::NumbersSpent),
+        StepFault::Refused { number: 14 } => Stop::Refused(Refusal::NoSuchNumber),
         StepFault::Refused { .. } => unreachable!(),
         StepFault::Foreign => Stop::Foreign,
         StepFault::NoMemory => Stop::NoMemory,

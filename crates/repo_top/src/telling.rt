@@ -18,7 +18,7 @@ use script_report::{
     put_dump_hex, put_dump_none, put_feed_kept, put_feed_refused, put_fetch, put_fire_early,
     put_fire_quiet, put_fire_sent, put_hear_refused, put_hear_steady, put_hear_suppressed,
     put_insert, put_lose, put_order, put_publish, put_restart, put_settle, put_status, put_summary,
-    put_sync, put_traffic, put_vector,
+    put_sync, put_traffic, put_vector, put_withdraw,
 };
 use std::alloc::{AllocError, Global};
 
@@ -40,6 +40,12 @@ pub(crate) fn put_happened(
             segments,
             sync,
         } => put_publish(report, label(labels, *m), *seq, *segments, *sync),
+        Happened::Withdraw {
+            m,
+            seq,
+            withdrawn,
+            sync,
+        } => put_withdraw(report, label(labels, *m), *seq, *withdrawn, *sync),
         Happened::DeliverSteady { k, m } => put_deliver_steady(report, *k, label(labels, *m)),
         Happened::DeliverSuppressed { k, m } => {
             put_deliver_suppressed(report, *k, label(labels, *m))

@@ -4,11 +4,10 @@ use Rattle.std.proofs.Common.{◌∙◌, arith}
 use Rattle.std.specs.Str.{bytes_eq}
 use Rattle.std.proofs.lemmas.Slice.Eq.{bytes_eq-Decides}
 use Rattle.script_lang.specs.declared.verb.Verb.{Verb}
-use Rattle.script_lang.specs.declared.verb.Verb.TheVariants.{Group, Member, Client, Mirror, Publish, Withdraw}
-use Rattle.script_lang.specs.declared.verb.Verb.TheVariants.{Deliver, Sync, Advance, Fire, Restart, Vector, Catalogue}
-use Rattle.script_lang.specs.declared.verb.Verb.TheVariants.{Claim, Lose, Answer, Fetch, Settle, Dump, Hear, Order, Ask}
-use Rattle.script_lang.specs.declared.verb.Verb.TheVariants.{Feed, Insert, Block, Status, Delete, Watch, Told, Mdeliver}
-use Rattle.script_lang.specs.declared.verb.Verb.TheVariants.{Mfetch, Mcatalogue, Summary, Traffic}
+use Rattle.script_lang.specs.declared.verb.Verb.TheVariants.{Group, Member, Client, Publish, Withdraw, Deliver, Sync}
+use Rattle.script_lang.specs.declared.verb.Verb.TheVariants.{Advance, Fire, Restart, Vector, Catalogue, Claim, Lose}
+use Rattle.script_lang.specs.declared.verb.Verb.TheVariants.{Answer, Fetch, Settle, Dump, Hear, Order, Ask, Feed}
+use Rattle.script_lang.specs.declared.verb.Verb.TheVariants.{Insert, Block, Status, Delete, Summary, Traffic}
 use Rattle.script_lang.specs.Forms.{form}
 use Rattle.script_lang.specs.Lines.{verb_named, verb_of_word, verbs, says_nothing}
 use Rattle.script_lang.specs.Texts.{IsWord}
@@ -18,7 +17,6 @@ unfolding verb_named
 verb_back Group = refl
 verb_back Member = refl
 verb_back Client = refl
-verb_back Mirror = refl
 verb_back Publish = refl
 verb_back Withdraw = refl
 verb_back Deliver = refl
@@ -42,11 +40,6 @@ verb_back Insert = refl
 verb_back Block = refl
 verb_back Status = refl
 verb_back Delete = refl
-verb_back Watch = refl
-verb_back Told = refl
-verb_back Mdeliver = refl
-verb_back Mfetch = refl
-verb_back Mcatalogue = refl
 verb_back Summary = refl
 verb_back Traffic = refl
 
@@ -54,7 +47,6 @@ pub verb_is_word : (verb : Verb) → IsWord (form verb).word
 verb_is_word Group = record { some = omega arith; graphic = refl }
 verb_is_word Member = record { some = omega arith; graphic = refl }
 verb_is_word Client = record { some = omega arith; graphic = refl }
-verb_is_word Mirror = record { some = omega arith; graphic = refl }
 verb_is_word Publish = record { some = omega arith; graphic = refl }
 verb_is_word Withdraw = record { some = omega arith; graphic = refl }
 verb_is_word Deliver = record { some = omega arith; graphic = refl }
@@ -78,11 +70,6 @@ verb_is_word Insert = record { some = omega arith; graphic = refl }
 verb_is_word Block = record { some = omega arith; graphic = refl }
 verb_is_word Status = record { some = omega arith; graphic = refl }
 verb_is_word Delete = record { some = omega arith; graphic = refl }
-verb_is_word Watch = record { some = omega arith; graphic = refl }
-verb_is_word Told = record { some = omega arith; graphic = refl }
-verb_is_word Mdeliver = record { some = omega arith; graphic = refl }
-verb_is_word Mfetch = record { some = omega arith; graphic = refl }
-verb_is_word Mcatalogue = record { some = omega arith; graphic = refl }
 verb_is_word Summary = record { some = omega arith; graphic = refl }
 verb_is_word Traffic = record { some = omega arith; graphic = refl }
 
@@ -90,7 +77,6 @@ pub speaks : (verb : Verb) (rest : List ℕ) → says_nothing ((form verb).word 
 speaks Group rest = refl
 speaks Member rest = refl
 speaks Client rest = refl
-speaks Mirror rest = refl
 speaks Publish rest = refl
 speaks Withdraw rest = refl
 speaks Deliver rest = refl
@@ -114,11 +100,6 @@ speaks Insert rest = refl
 speaks Block rest = refl
 speaks Status rest = refl
 speaks Delete rest = refl
-speaks Watch rest = refl
-speaks Told rest = refl
-speaks Mdeliver rest = refl
-speaks Mfetch rest = refl
-speaks Mcatalogue rest = refl
 speaks Summary rest = refl
 speaks Traffic rest = refl
 

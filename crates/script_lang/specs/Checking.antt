@@ -11,15 +11,13 @@ use Rattle.script_lang.specs.declared.check_fault.CheckFault.{CheckFault}
 use Rattle.script_lang.specs.declared.check_fault.CheckFault.TheVariants.{NoGroup, Late, UnknownLabel, Duplicate, Limit}
 use Rattle.script_lang.specs.declared.check_fault.CheckFault.TheVariants.{TooLarge, NoMemory}
 use Rattle.script_lang.specs.declared.verb.Verb.{Verb}
-use Rattle.script_lang.specs.declared.verb.Verb.TheVariants.{Group, Member, Client, Mirror, Publish, Withdraw}
-use Rattle.script_lang.specs.declared.verb.Verb.TheVariants.{Deliver, Sync, Advance, Fire, Restart, Vector, Catalogue}
-use Rattle.script_lang.specs.declared.verb.Verb.TheVariants.{Claim, Lose, Answer, Fetch, Settle, Dump, Hear, Order, Ask}
-use Rattle.script_lang.specs.declared.verb.Verb.TheVariants.{Feed, Insert, Block, Status, Delete, Watch, Told, Mdeliver}
-use Rattle.script_lang.specs.declared.verb.Verb.TheVariants.{Mfetch, Mcatalogue, Summary, Traffic}
-use Rattle.script_lang.specs.Kinds.{Value, Text, Anyone, Number, Named, Octets}
+use Rattle.script_lang.specs.declared.verb.Verb.TheVariants.{Group, Member, Client, Publish, Withdraw, Deliver, Sync}
+use Rattle.script_lang.specs.declared.verb.Verb.TheVariants.{Advance, Fire, Restart, Vector, Catalogue, Claim, Lose}
+use Rattle.script_lang.specs.declared.verb.Verb.TheVariants.{Answer, Fetch, Settle, Dump, Hear, Order, Ask, Feed}
+use Rattle.script_lang.specs.declared.verb.Verb.TheVariants.{Insert, Block, Status, Delete, Summary, Traffic}
+use Rattle.script_lang.specs.Kinds.{Value, Text, Number, Named, Octets}
 use Rattle.script_lang.specs.Forms.{Stated}
-use Rattle.script_lang.specs.Limits.{members_limit, mirrors_limit, listed_limit, contents_limit, parts_limit}
-use Rattle.script_lang.specs.Limits.{settles_limit}
+use Rattle.script_lang.specs.Limits.{members_limit, listed_limit, contents_limit, parts_limit, settles_limit}
 
 -- A label and a node name.
 pub record Party : Type 0 where
@@ -35,12 +33,11 @@ pub record LineTotals : Type 0 where
 abbrev pub line_totals : Sums → LineTotals
 line_totals s = record { contents = s.contents; parts = s.parts; settles = s.settles }
 
--- What the lines so far have declared. A mirror has a label alone.
+-- What the lines so far have declared.
 pub record Declared : Type 0 where
   pub group : Bool
   pub members : List Party
   pub clients : List Party
-  pub mirrors : List (List ℕ)
   pub events : Bool
   pub totals : LineTotals
 
@@ -60,18 +57,10 @@ party_place label parties = position (λ (p : Party). bytes_eq p.label label) pa
 abbrev pub has_label : List ℕ → List Party → Bool
 has_label label parties = list_any (λ (p : Party). bytes_eq p.label label) parties
 
--- The place of the first mirror with this label.
-abbrev pub mirror_place : List ℕ → List (List ℕ) → Option ℕ
-mirror_place label mirrors = position (λ mirror. bytes_eq mirror label) mirrors
-
-abbrev pub is_mirror : List ℕ → List (List ℕ) → Bool
-is_mirror label mirrors = list_any (λ mirror. bytes_eq mirror label) mirrors
-
 -- The labels among values.
 abbrev pub labels_in : List Value → List (List ℕ)
 labels_in [] = []
 labels_in (Text label ∷ values) = label ∷ labels_in values
-labels_in (Anyone ∷ values) = labels_in values
 labels_in (Number n ∷ values) = labels_in values
 labels_in (Named name ∷ values) = labels_in values
 labels_in (Octets octets ∷ values) = labels_in values
@@ -89,22 +78,17 @@ are_those d (m ∷ clients) = has_label m d.members && are_clients d clients
 abbrev pub are_members : Declared → List (List ℕ) → Bool
 are_members d labels = list_all (λ label. has_label label d.members) labels
 
-abbrev pub are_mirrors : Declared → List (List ℕ) → Bool
-are_mirrors d labels = list_all (λ label. is_mirror label d.mirrors) labels
-
--- What a form is: it declares the group, a member, a client or a mirror; it is an event whose labels are members'; it
--- is an event by a client's command, with the client's label behind the member's; or it is an event of a mirror.
+-- What a form is: it declares the group, a member or a client; it is an event whose labels are members'; or it is an
+-- event by a client's command, with the client's label behind the member's.
 pub data Sort : Type 0 where
   declaration : Sort
   event : Sort
   command : Sort
-  mirroring : Sort
 
 abbrev pub sort_of : Verb → Sort
 sort_of Group = declaration
 sort_of Member = declaration
 sort_of Client = declaration
-sort_of Mirror = declaration
 sort_of Publish = event
 sort_of Withdraw = event
 sort_of Deliver = event
@@ -128,11 +112,6 @@ sort_of Insert = command
 sort_of Block = event
 sort_of Status = command
 sort_of Delete = command
-sort_of Watch = event
-sort_of Told = event
-sort_of Mdeliver = mirroring
-sort_of Mfetch = mirroring
-sort_of Mcatalogue = mirroring
 sort_of Summary = event
 sort_of Traffic = event
 
@@ -141,7 +120,6 @@ abbrev pub are_known_of : Sort → Declared → List (List ℕ) → Bool
 are_known_of declaration d labels = false
 are_known_of event d labels = are_members d labels
 are_known_of command d labels = are_those d labels
-are_known_of mirroring d labels = are_mirrors d labels
 
 abbrev pub are_known_by : Verb → Declared → List (List ℕ) → Bool
 are_known_by verb d labels = are_known_of (sort_of verb) d labels
@@ -154,7 +132,6 @@ abbrev pub is_declaration : Sort → Bool
 is_declaration declaration = true
 is_declaration event = false
 is_declaration command = false
-is_declaration mirroring = false
 
 abbrev pub declares : Verb → Bool
 declares verb = is_declaration (sort_of verb)
@@ -179,7 +156,6 @@ abbrev pub adds : Verb → List Value → LineTotals
 adds Group values = nothing_added
 adds Member values = nothing_added
 adds Client values = nothing_added
-adds Mirror values = nothing_added
 adds Publish (m ∷ name ∷ Number size ∷ Octets content ∷ []) = record {
   contents = length content;
   parts = publication_parts (segments (length content) size);
@@ -210,11 +186,6 @@ adds Block (m ∷ process ∷ index ∷ Octets content ∷ []) =
 adds Block _ = nothing_added
 adds Status values = nothing_added
 adds Delete values = nothing_added
-adds Watch values = nothing_added
-adds Told values = nothing_added
-adds Mdeliver values = nothing_added
-adds Mfetch values = nothing_added
-adds Mcatalogue values = nothing_added
 adds Summary values = nothing_added
 adds Traffic values = nothing_added
 
@@ -241,10 +212,7 @@ is_party_among p parties =
     parties
 
 abbrev pub is_there : Declared → Party → Bool
-is_there d p = is_party_among p d.members || is_party_among p d.clients || is_mirror p.label d.mirrors
-
-abbrev pub is_label_there : Declared → List ℕ → Bool
-is_label_there d label = has_label label d.members || has_label label d.clients || is_mirror label d.mirrors
+is_there d p = is_party_among p d.members || is_party_among p d.clients
 
 -- Whether a member or client may be declared, where so many of its kind are there.
 abbrev pub may_declare : Declared → Party → ℕ → Result (Unit {0}) CheckFault
@@ -253,16 +221,6 @@ may_declare d p count =
     else if d.events then Err Late
     else if is_there d p then Err Duplicate
     else if nat_le members_limit count then Err Limit
-    else Ok tt
-
--- Whether a mirror may be declared of publishers with these labels.
-abbrev pub may_mirror : Declared → List ℕ → List (List ℕ) → Result (Unit {0}) CheckFault
-may_mirror d label publishers =
-    if not d.group then Err NoGroup
-    else if d.events then Err Late
-    else if not (are_members d publishers) then Err UnknownLabel
-    else if is_label_there d label then Err Duplicate
-    else if nat_le mirrors_limit (length d.mirrors) then Err Limit
     else Ok tt
 
 abbrev pub declared_then : Result (Unit {0}) CheckFault → Declared → Result Declared CheckFault
@@ -289,16 +247,12 @@ after_declaration d Member (Text label ∷ Named node ∷ key ∷ []) =
 after_declaration d Client (Text label ∷ Named node ∷ key ∷ []) =
     declared_then (may_declare d (party label node) (length d.clients))
     (record d { clients = d.clients ++ party label node ∷ [] })
-after_declaration d Mirror (Text label ∷ publisher ∷ prefix ∷ []) =
-    declared_then (may_mirror d label (labels_in (publisher ∷ [])))
-    (record d { mirrors = d.mirrors ++ label ∷ [] })
 after_declaration d verb values = Err NoMemory
 
 abbrev pub after_sort : Sort → Declared → Stated → Verb → List Value → Result Declared CheckFault
 after_sort declaration d s verb values = after_declaration d verb values
 after_sort event d s verb values = after_event d s
 after_sort command d s verb values = after_event d s
-after_sort mirroring d s verb values = after_event d s
 
 abbrev pub after_by : Declared → Stated → Verb → List Value → Result Declared CheckFault
 after_by d s verb values = after_sort (sort_of verb) d s verb values
@@ -312,45 +266,37 @@ nothing_declared = record {
   group = false;
   members = [];
   clients = [];
-  mirrors = [];
   events = false;
   totals = nothing_added;
 }
 
--- The forms that may be refused for what is in the group before a total is tested: they name the number of a sync
--- Interest, a fetcher, or a member that may have as many watchers as it can.
-abbrev pub asks_the_group_first : Verb → Bool
-asks_the_group_first Group = false
-asks_the_group_first Member = false
-asks_the_group_first Client = false
-asks_the_group_first Mirror = false
-asks_the_group_first Publish = false
-asks_the_group_first Withdraw = false
-asks_the_group_first Deliver = true
-asks_the_group_first Sync = true
-asks_the_group_first Advance = false
-asks_the_group_first Fire = false
-asks_the_group_first Restart = false
-asks_the_group_first Vector = false
-asks_the_group_first Catalogue = false
-asks_the_group_first Claim = true
-asks_the_group_first Lose = true
-asks_the_group_first Answer = true
-asks_the_group_first Fetch = false
-asks_the_group_first Settle = false
-asks_the_group_first Dump = false
-asks_the_group_first Hear = false
-asks_the_group_first Order = false
-asks_the_group_first Ask = false
-asks_the_group_first Feed = true
-asks_the_group_first Insert = false
-asks_the_group_first Block = false
-asks_the_group_first Status = false
-asks_the_group_first Delete = false
-asks_the_group_first Watch = true
-asks_the_group_first Told = false
-asks_the_group_first Mdeliver = true
-asks_the_group_first Mfetch = false
-asks_the_group_first Mcatalogue = false
-asks_the_group_first Summary = false
-asks_the_group_first Traffic = false
+-- The forms that name a packet's number or a fetcher: these may be refused for what the world lacks.
+abbrev pub names_packet_or_fetcher : Verb → Bool
+names_packet_or_fetcher Group = false
+names_packet_or_fetcher Member = false
+names_packet_or_fetcher Client = false
+names_packet_or_fetcher Publish = false
+names_packet_or_fetcher Withdraw = false
+names_packet_or_fetcher Deliver = true
+names_packet_or_fetcher Sync = true
+names_packet_or_fetcher Advance = false
+names_packet_or_fetcher Fire = false
+names_packet_or_fetcher Restart = false
+names_packet_or_fetcher Vector = false
+names_packet_or_fetcher Catalogue = false
+names_packet_or_fetcher Claim = true
+names_packet_or_fetcher Lose = true
+names_packet_or_fetcher Answer = true
+names_packet_or_fetcher Fetch = false
+names_packet_or_fetcher Settle = false
+names_packet_or_fetcher Dump = false
+names_packet_or_fetcher Hear = false
+names_packet_or_fetcher Order = false
+names_packet_or_fetcher Ask = false
+names_packet_or_fetcher Feed = true
+names_packet_or_fetcher Insert = false
+names_packet_or_fetcher Block = false
+names_packet_or_fetcher Status = false
+names_packet_or_fetcher Delete = false
+names_packet_or_fetcher Summary = false
+names_packet_or_fetcher Traffic = false

@@ -7,7 +7,6 @@ pub enum Verb {
     Group,
     Member,
     Client,
-    Mirror,
     Publish,
     Withdraw,
     Deliver,
@@ -31,20 +30,14 @@ pub enum Verb {
     Block,
     Status,
     Delete,
-    Watch,
-    Told,
-    Mdeliver,
-    Mfetch,
-    Mcatalogue,
     Summary,
     Traffic,
 }
 
-const VERBS: [(&str, Verb); 34] = [
+const VERBS: [(&str, Verb); 28] = [
     ("group", Verb::Group),
     ("member", Verb::Member),
     ("client", Verb::Client),
-    ("mirror", Verb::Mirror),
     ("publish", Verb::Publish),
     ("withdraw", Verb::Withdraw),
     ("deliver", Verb::Deliver),
@@ -68,11 +61,6 @@ const VERBS: [(&str, Verb); 34] = [
     ("block", Verb::Block),
     ("status", Verb::Status),
     ("delete", Verb::Delete),
-    ("watch", Verb::Watch),
-    ("told", Verb::Told),
-    ("mdeliver", Verb::Mdeliver),
-    ("mfetch", Verb::Mfetch),
-    ("mcatalogue", Verb::Mcatalogue),
     ("summary", Verb::Summary),
     ("traffic", Verb::Traffic),
 ];

@@ -66,14 +66,10 @@ answer_kept_text m f = line (codes "answer") (m ∷ decimal f ∷ codes "kept" �
 abbrev pub answer_none_text : List ℕ → ℕ → List ℕ
 answer_none_text m f = line (codes "answer") (m ∷ decimal f ∷ codes "none" ∷ [])
 
--- So many parts were planned, so many of them came, in so many attempts.
-abbrev pub fetched_text : List ℕ → List ℕ → ℕ → ℕ → ℕ → List ℕ
-fetched_text verb label planned kept attempts = line verb
-    (label ∷ codes "planned" ∷ decimal planned ∷ codes "kept" ∷ decimal kept
-    ∷ codes "attempts" ∷ decimal attempts ∷ [])
-
 abbrev pub fetch_text : List ℕ → ℕ → ℕ → ℕ → List ℕ
-fetch_text m planned kept attempts = fetched_text (codes "fetch") m planned kept attempts
+fetch_text m planned kept attempts = line (codes "fetch")
+    (m ∷ codes "planned" ∷ decimal planned ∷ codes "kept" ∷ decimal kept
+    ∷ codes "attempts" ∷ decimal attempts ∷ [])
 
 abbrev pub settle_text : ℕ → ℕ → List ℕ
 settle_text syncs kept = line (codes "settle")
@@ -162,28 +158,6 @@ entries_text (label ∷ labels) (e ∷ entries) = entry_text label e ++ entries_
 abbrev pub catalogue_text : List ℕ → ℕ → List (List ℕ) → List Entry → List ℕ
 catalogue_text m count labels entries =
     line (codes "catalogue") (m ∷ decimal count ∷ []) ++ entries_text labels entries
-
--- ---- watchers and mirrors
-
-abbrev pub watch_text : List ℕ → ℕ → List ℕ
-watch_text m w = line (codes "watch") (m ∷ decimal w ∷ [])
-
--- What a watcher is told: how many entries, and these.
-abbrev pub told_text : List ℕ → ℕ → ℕ → List (List ℕ) → List Entry → List ℕ
-told_text m w count labels entries =
-    line (codes "told") (m ∷ decimal w ∷ decimal count ∷ []) ++ entries_text labels entries
-
-abbrev pub mdeliver_text : ℕ → List ℕ → List ℕ
-mdeliver_text k l = line (codes "mdeliver") (decimal k ∷ l ∷ [])
-
-abbrev pub mfetch_text : List ℕ → ℕ → ℕ → ℕ → List ℕ
-mfetch_text l planned kept attempts = fetched_text (codes "mfetch") l planned kept attempts
-
-abbrev pub mcatalogue_text : List ℕ → ℕ → List (List ℕ) → List Entry → List ℕ
-mcatalogue_text l count labels entries =
-    line (codes "mcatalogue") (l ∷ decimal count ∷ []) ++ entries_text labels entries
-
--- ---- totals
 
 -- What a member holds.
 abbrev pub totals_text : List ℕ → ℕ → ℕ → ℕ → List ℕ

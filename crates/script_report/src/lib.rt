@@ -7,12 +7,10 @@ mod ending;
 mod events;
 mod laws;
 mod line;
-mod mirrors;
 mod parts;
 mod piece;
 mod readings;
 mod telling;
-mod watchers;
 
 pub use commands::{
     put_block_200, put_block_300, put_block_404, put_block_published, put_delete, put_insert,
@@ -24,7 +22,6 @@ pub use events::{
     put_fire_sent, put_publish, put_restart, put_sync, put_withdraw,
 };
 pub use laws::limits_are_these;
-pub use mirrors::{put_mcatalogue, put_mdeliver, put_mfetch};
 pub use parts::{
     put_answer_kept, put_answer_none, put_claim_none, put_claim_part, put_feed_kept,
     put_feed_refused, put_fetch, put_lose, put_settle,
@@ -34,4 +31,3 @@ pub use telling::{
     put_ask_found, put_ask_none, put_ask_refused, put_dump_hex, put_dump_none, put_hear_refused,
     put_hear_steady, put_hear_suppressed,
 };
-pub use watchers::{put_told, put_watch};

@@ -21,6 +21,10 @@ const A_AND_B: &str = "\
     entry alice 2 /b segments 1 octets 3 sha256 \
     ba7816bf8f01cfea414140de5dae2223b00361a396177a9cb410ff61f20015ad\n";
 
+const B: &str = "\
+    entry alice 2 /b segments 1 octets 3 sha256 \
+    ba7816bf8f01cfea414140de5dae2223b00361a396177a9cb410ff61f20015ad\n";
+
 const TWO_PUBLISHERS: &str = "\
     entry alice 1 /doc segments 3 octets 3 sha256 \
     ba7816bf8f01cfea414140de5dae2223b00361a396177a9cb410ff61f20015ad\n\
@@ -36,7 +40,7 @@ const INSERTED: &str = "\
     2cf24dba5fb0a30e26e83b2ac5b9e29e1b161e5c1fa7425e73043362938b9824\n";
 
 // Lines, each with all that was published when it was carried out, as it is catalogued.
-const STORIES: [&[(&str, &str)]; 4] = [
+const STORIES: [&[(&str, &str)]; 5] = [
     // Part after part is claimed and answered.
     &[
         ("publish alice /doc 1 text:abc", DOC),
@@ -78,6 +82,20 @@ const STORIES: [&[(&str, &str)]; 4] = [
         ("deliver 1 bob", A_AND_B),
         ("advance 100", A_AND_B),
         ("fire bob", A_AND_B),
+    ],
+    // An object is withdrawn, and the withdrawal comes to bob between the parts of the object.
+    &[
+        ("publish alice /a 10 text:abc", A),
+        ("publish alice /b 10 text:abc", A_AND_B),
+        ("withdraw alice 1", B),
+        ("deliver 3 bob", B),
+        ("claim bob 1", B),
+        ("answer bob 1 alice", B),
+        ("claim bob 1", B),
+        ("lose bob 1", B),
+        ("fetch bob 1 1 0", B),
+        ("catalogue bob", B),
+        ("fetch bob 1 1 0", B),
     ],
     // Two publish, one of them by an insertion, and one fetches of the other.
     &[

@@ -146,7 +146,7 @@ const ROWS: [(&str, &str, Status); 22] = [
          > publish alice 3 segments 2 sync 3\n\
          publish alice /i 4 fill:800:65\n\
          > publish alice 4 segments 200 sync 4\n\
-         publish alice /j 4 fill:801:65\n\
+         publish alice /j 1 fill:20001:65\n\
          > refused 8 4 Limit\n",
         Status::Refused { line: 8, number: 4 },
     ),

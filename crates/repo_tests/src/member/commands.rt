@@ -28,7 +28,7 @@ const NOT_TAKEN: [u8; 116] = [
 ];
 
 // The group of alice, bob and carol with the client carl.
-fn with_carl(rt: &(impl Abort + AllocGlobal)) -> Group
+pub(super) fn with_carl(rt: &(impl Abort + AllocGlobal)) -> Group
     ensures { length result.members.names ≡ 3 }
 {
     let mut g = three_members(rt);

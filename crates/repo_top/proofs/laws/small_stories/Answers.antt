@@ -47,3 +47,10 @@ unfolding decode_pairs digits number encoding behind_word component_of_text comp
     content_of filled_of hex_of label_of uri_of numeral_of verb_named values_of entries_text line labelled_numbers
     summary_text lines acted acted_by line_taken judged_line judged story_from
 returns-clause-published c = λ given. record { text_is = refl; ending_is = refl }
+
+pub returns-clause-withdrawn : goal.returns-clause-withdrawn
+unfolding decode_pairs digits number encoding behind_word component_of_text components_of_texts cut_at name_of_text
+    octets_of_digits unescaped covers join join_all after_all_kept after_kept after_sync_event after_sync_events
+    content_of filled_of hex_of label_of uri_of numeral_of verb_named values_of entries_text line labelled_numbers
+    summary_text lines acted acted_by line_taken judged_line judged story_from
+returns-clause-withdrawn c = λ given. record { text_is = refl; ending_is = refl }

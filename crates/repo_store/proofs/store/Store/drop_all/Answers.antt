@@ -7,7 +7,7 @@ use Rattle.repo_plan.specs.Parts.{part_cmp}
 use Rattle.repo_store.specs.StoreList.{StoreList, is_in_any, packets_in_any, packets_outside_all}
 use Rattle.repo_store.specs.Kept.{at, octets_at, Held, entries_of}
 use Rattle.repo_store.specs.Slots.{held_outside_all}
-use Rattle.repo_store.specs.NameLayers.{HasRoom, IsIndexOf, left_of}
+use Rattle.repo_store.specs.NameLayers.{HasRoom, IsIndexOf, WaitsStill, left_of}
 use Rattle.repo_store.proofs.StoreLemmas.{entries_same, lengths_in_any}
 use Rattle.repo_store.proofs.NameLayerLemmas.{index_left}
 use Rattle.repo_store.proofs.store.Store.drop_all.Goals as goal
@@ -28,7 +28,8 @@ invariant_of-self c =
           (index_left k.slots new.slots k.held names c.self.invariant.names pairs same c.drop_all.new.self
           (c.drop_all.ensures.settled ∙ left names.settled.items)
           (c.drop_all.ensures.recent ∙ left names.recent.items)
-          (c.drop_all.ensures.waiting ∙ left names.waiting.items));
+          (subst (λ (hs : List Held). WaitsStill hs names.waiting.items c.drop_all.new.self.waiting.items) held
+          c.drop_all.ensures.waiting));
       room =
           subst (HasRoom c.drop_all.new.self) (sym c.drop_all-number.ensures.spare)
           (c.drop_all.ensures.room k.spare c.self.invariant.room);

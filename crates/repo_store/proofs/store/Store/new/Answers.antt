@@ -8,6 +8,6 @@ pub invariant_of-result : goal.invariant_of-result
 invariant_of-result c = record {
   names =
       subst (λ (k : KeptState). IsIndexOf k.slots k.held c.new-2.result) (sym c.new.ensures)
-      (index_none [] c.new-2.result c.new-2.ensures.settled c.new-2.ensures.recent c.new-2.ensures.waiting);
+      (index_none [] c.new-2.result c.new-2.ensures.settled c.new-2.ensures.recent);
   room = subst (λ (k : KeptState). HasRoom c.new-2.result k.spare) (sym c.new.ensures) c.new-2.ensures.room;
 }

@@ -7,6 +7,7 @@ use Rattle.repo_plan.proofs.Orders.{exact_parts}
 use Rattle.repo_store.specs.StoreList.{StoreList, with_packet}
 use Rattle.repo_store.specs.Kept.{octets_at, Held, KeptState, entries_of}
 use Rattle.repo_store.specs.NameLayers.{IsIndexOf}
+use Rattle.sorted_lists.proofs.Sets.{rises_with_value}
 use Rattle.sorted_lists.proofs.Lookups.{none_where, same_with, keys-revalued, with_value-revalued}
 use Rattle.repo_store.proofs.StoreLemmas.{entries_same, put_there, put_fresh}
 use Rattle.repo_store.proofs.NameLayerLemmas.{fewer_room, index_more}
@@ -26,8 +27,9 @@ invariant_of-self c =
       names =
           subst (λ (xs : List Held). IsIndexOf new.slots xs after) (sym put.held)
           (index_more k.slots new.slots k.held names c.self.invariant.names (with_value part_cmp h.0 h.1 k.held) after h
-          (λ o i. put.keeps.others o.1 (put.sound.kept o i)) c.put-in-Some.ensures.settled c.put-in-Some.ensures.recent
-          gains c.put-in-Some.ensures.gains);
+          (λ o i. put.keeps.others o.1 (put.sound.kept o i))
+          (rises_with_value exact_parts h.0 h.1 k.held put.sound.rises) c.put-in-Some.ensures.settled
+          c.put-in-Some.ensures.recent gains c.put-in-Some.ensures.gains);
       room =
           c.put-in-Some.ensures.room new.spare
           (fewer_room names (new.spare + 1) k.spare

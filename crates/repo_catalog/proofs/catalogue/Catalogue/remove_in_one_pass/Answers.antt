@@ -6,7 +6,7 @@ use Rattle.repo_catalog.specs.declared.entry.Entry.{Entry}
 use Rattle.repo_catalog.specs.Entries.{EntryList, publication_of, without_all, IsCatalogue}
 use Rattle.repo_catalog.specs.NameKeys.{is_key}
 use Rattle.repo_catalog.proofs.ManyLemmas.{without_all_rises}
-use Rattle.repo_catalog.proofs.catalogue.Catalogue.remove_all.Goals as goal
+use Rattle.repo_catalog.proofs.catalogue.Catalogue.remove_in_one_pass.Goals as goal
 
 pub invariant_of-self : goal.invariant_of-self
 invariant_of-self c =
