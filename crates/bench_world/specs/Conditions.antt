@@ -1,4 +1,4 @@
--- What a claim's packet, a settle and a fetch need of their members, and of how many workers ask.
+-- What the packet of a claim, a fetch and a settle need of their members, and a fetch and a settle of their workers.
 use Rattle.std.specs.Prelude.{ℕ, ◌≡◌, ◌≤◌, ◌<◌, List, length, map, Option, Some, None}
 use Rattle.repo_plan.specs.declared.part.Part.{Part}
 use Rattle.repo_plan.specs.Calls.{IsFetcher}

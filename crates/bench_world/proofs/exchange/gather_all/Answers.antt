@@ -26,8 +26,7 @@ loop-j-init g c =
 
 pub gather_at-requires : goal.gather_at-requires
 gather_at-requires g c κs within =
-    let can = condition c.requires in
-    (
+    let can = condition c.requires in (
       within.0,
       (
         within.1,

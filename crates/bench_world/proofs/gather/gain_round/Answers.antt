@@ -7,8 +7,7 @@ use Rattle.bench_world.proofs.gather.gain_round.Goals as goal
 
 pub gain_phase-requires : goal.gain_phase-requires
 gain_phase-requires g c κs within =
-    let can = condition c.requires in
-    (
+    let can = condition c.requires in (
       within.0,
       (
         within.1,

@@ -5,8 +5,7 @@ use Rattle.bench_world.proofs.gather.gather.Goals as goal
 
 pub gain_round-requires : goal.gain_round-requires
 gain_round-requires g c κs within =
-    let can = condition c.requires in
-    (
+    let can = condition c.requires in (
       within.0,
       (
         within.1,
