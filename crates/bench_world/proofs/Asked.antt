@@ -6,7 +6,6 @@ use Rattle.std.specs.List.{remove, insert}
 use Rattle.repo_plan.specs.declared.part.Part.{Part}
 use Rattle.sorted_lists.specs.SortedList.{keys}
 use Rattle.repo_plan.specs.Plan.{claim_of}
-use Rattle.repo_plan.specs.Calls.{IsFetcher}
 use Rattle.repo_plan.specs.Parts.{pair_of}
 use Rattle.repo_object.specs.Wants.{WantedPart}
 use Rattle.repo_store.specs.Served.{served}
@@ -16,12 +15,12 @@ use Rattle.group_model.specs.Events.Came.{Nothing, Its, Another}
 use Rattle.repo_member.specs.Groups.{GroupKeys}
 use Rattle.repo_member.specs.Records.{Packet}
 use Rattle.repo_member.specs.Alone.{Alone, alone_plan}
-use Rattle.repo_member.specs.InGroup.{AreLogs}
 use Rattle.repo_member.specs.TrueMembers.{IsTrueMember, true_want, true_packets}
 use Rattle.repo_member.proofs.PublicLaws.{stores_those}
 use Rattle.bench_world.specs.declared.event.StepFault.{StepFault}
 use Rattle.bench_world.specs.declared.answering.Fed.{Fed}
-use Rattle.bench_world.specs.Worlds.{alone_at, AreTrueMembers, MembersAreNumbered}
+use Rattle.bench_world.specs.Worlds.{alone_at}
+use Rattle.bench_world.specs.Conditions.{CanTake, CanGetAt}
 use Rattle.bench_world.specs.Serving.{octets_as, judged_packet, found}
 use Rattle.bench_world.specs.Answering.{answered, claim_in, came_in, came_for, fed_as, kept_of, accepts_claimed}
 use Rattle.bench_world.specs.Answering.{after_claimed}
@@ -44,43 +43,34 @@ if_err (Err e) p f = f e p
 
 -- ---- a member and its claim
 
-module _ (g : GroupKeys) (logs : Logs) (ms : List Alone) (are : AreLogs g logs) (numbers : MembersAreNumbered ms)
-    (truly : AreTrueMembers g logs ms) (wide : length ms ≡ length logs)
-    (m : ℕ) (there : m < length ms) (f : ℕ) (want : WantedPart)
+module _ (g : GroupKeys) (logs : Logs) (f m : ℕ) (ms : List Alone) (can : CanGetAt g logs f m ms) (want : WantedPart)
     (claim : claim_of (alone_plan (alone_at ms m)) f ≡ Some want.part) where
   -- The publisher of what is claimed is another member.
   pub publisher_in : want.part.publisher < length ms
   publisher_in =
       let p =
       publisher_there logs (pair_of want.part)
-      (claim_published g logs (alone_at ms m) are (truly m there) f want.part claim).there in
-      omega (arith, p, wide)
+      (claim_published g logs (alone_at ms m) can.logs (can.truly m can.there) f want.part claim).there in
+      omega (arith, p, can.width)
 
   pub publisher_other : want.part.publisher ≢ m
   publisher_other same =
-      claim_of_another g logs (alone_at ms m) are (truly m there) f want.part claim (same ∙ sym (numbers m there))
+      claim_of_another g logs (alone_at ms m) can.logs (can.truly m can.there) f want.part claim
+      (same ∙ sym (can.numbers m can.there))
 
   module _ (want_is : want ≡ true_want g logs want.part) where
     -- So it can be asked for.
-    pub can_ask : IsFetcher f → (x p : Alone) → x ≡ alone_at ms m → p ≡ alone_at ms want.part.publisher
-        → AreLogs g logs
-        × (IsTrueMember g logs p
-        × (p.number ≡ want.part.publisher
-        × (IsTrueMember g logs x
-        × (IsFetcher f × (claim_of (alone_plan x) f ≡ Some want.part × want ≡ true_want g logs want.part)))))
-    can_ask fetcher x p x_is p_is = (
-      are,
-      (
-        subst (IsTrueMember g logs) (sym p_is) (truly want.part.publisher publisher_in),
-        (
-          ap (λ (a : Alone). a.number) p_is ∙ numbers want.part.publisher publisher_in,
-          (
-            subst (IsTrueMember g logs) (sym x_is) (truly m there),
-            (fetcher, (ap (λ (a : Alone). claim_of (alone_plan a) f) x_is ∙ claim, want_is)),
-          ),
-        ),
-      ),
-    )
+    pub can_take : (x p : Alone) → x ≡ alone_at ms m → p ≡ alone_at ms want.part.publisher
+        → CanTake g logs f want p x
+    can_take x p x_is p_is = record {
+      logs = can.logs;
+      publisher = subst (IsTrueMember g logs) (sym p_is) (can.truly want.part.publisher publisher_in);
+      number = ap (λ (a : Alone). a.number) p_is ∙ can.numbers want.part.publisher publisher_in;
+      asker = subst (IsTrueMember g logs) (sym x_is) (can.truly m can.there);
+      fetcher = can.fetcher;
+      claim = ap (λ (a : Alone). claim_of (alone_plan a) f) x_is ∙ claim;
+      want = want_is;
+    }
 
     -- What a member serves is what the group says that it gives.
     pub served_is : (q : ℕ) → q < length ms → (b : Alone) → b ≡ alone_at ms q
@@ -88,7 +78,7 @@ module _ (g : GroupKeys) (logs : Logs) (ms : List Alone) (are : AreLogs g logs) 
     served_is q other b b_is =
         ap (λ (a : Alone). judged_packet g logs want.part (found (served want.interest a.store))) b_is
         ∙ ap (λ (es : List Packet). judged_packet g logs want.part (found (served want.interest es)))
-        (stores_those g logs (alone_at ms q) (truly q other))
+        (stores_those g logs (alone_at ms q) (can.truly q other))
         ∙ ap (λ (w : WantedPart).
         judged_packet g logs want.part (found (served w.interest (true_packets g logs (keys (alone_at ms q).store)))))
         want_is
@@ -125,13 +115,13 @@ module _ (g : GroupKeys) (logs : Logs) (ms : List Alone) (are : AreLogs g logs) 
       pub members_so : {T E : Type 0} (r : Result T E) → OnOk r (y ≡ accepts_claimed g logs f want.part k x)
           → OnOk r (new ≡ set ms m (after_claimed g logs f (claim_in ms m f) came (alone_at ms m)))
       members_so r h = on_ok r h (λ e.
-          put_in ms mid new m y there mid_is new_is
+          put_in ms mid new m y can.there mid_is new_is
           ∙ ap (set ms m) (e ∙ ap (accepts_claimed g logs f want.part k) x_is
           ∙ ap (λ (c : Came). accepts_claimed g logs f want.part c (alone_at ms m)) same
           ∙ ap (λ (o : Option Part). after_claimed g logs f o came (alone_at ms m)) (sym claim)))
 
       pub still_so : {T E : Type 0} (r : Result T E) → OnErr r (y ≡ x) → OnErr r (new ≡ ms)
-      still_so r h = on_err r h (λ e. put_back ms mid new m y there mid_is new_is (e ∙ x_is))
+      still_so r h = on_err r h (λ e. put_back ms mid new m y can.there mid_is new_is (e ∙ x_is))
 
   -- It isn't refused for want of a claim.
   pub busy_so : {T : Type 0} (k : Came) (r : Result T StepFault)

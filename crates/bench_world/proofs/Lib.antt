@@ -1,3 +1,4 @@
+mod Bounded
 pub mod SetSums
 pub mod NextParts
 pub mod Attempts

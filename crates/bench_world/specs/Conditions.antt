@@ -1,15 +1,59 @@
--- What a settle and a fetch need of their members, where so many workers ask.
-use Rattle.std.specs.Prelude.{ℕ, ◌≡◌, ◌≤◌, ◌<◌, List, length, map, Option, None}
+-- What the packet of a claim, a fetch and a settle need of their members, and a fetch and a settle of their workers.
+use Rattle.std.specs.Prelude.{ℕ, ◌≡◌, ◌≤◌, ◌<◌, List, length, map, Option, Some, None}
+use Rattle.repo_plan.specs.declared.part.Part.{Part}
+use Rattle.repo_plan.specs.Calls.{IsFetcher}
+use Rattle.repo_plan.specs.Plan.{claim_of}
+use Rattle.repo_object.specs.Wants.{WantedPart}
 use Rattle.group_model.specs.Publications.{Logs}
 use Rattle.group_model.specs.World.{World}
 use Rattle.group_model.specs.World as group
-use Rattle.group_model.specs.Sound.{IsSoundGroup}
+use Rattle.group_model.specs.Sound.{IsSoundGroup, IsPublishedPart}
 use Rattle.group_model.specs.Settles.{learnt_member}
 use Rattle.repo_member.specs.Groups.{GroupKeys}
-use Rattle.repo_member.specs.Alone.{Alone}
-use Rattle.repo_member.specs.TrueMembers.{IsTrueMember}
+use Rattle.repo_member.specs.Alone.{Alone, alone_plan}
+use Rattle.repo_member.specs.InGroup.{AreLogs}
+use Rattle.repo_member.specs.TrueMembers.{IsTrueMember, true_want}
 use Rattle.bench_world.specs.Truth.{AreFewLogs, TriedFew, AllTriedFew}
 use Rattle.bench_world.specs.Worlds.{in_groups, AreTrueMembers, MembersAreNumbered}
+
+-- ---- a fetcher's claim
+
+-- Octets are compared with the packet of a published part, which its publisher has.
+pub record CanCompare (g : GroupKeys) (ls : Logs) (p : Alone) (t : Part) : Type 0 where
+  pub logs : AreLogs g ls
+  pub publisher : IsTrueMember g ls p
+  pub number : p.number ≡ t.publisher
+  pub part : IsPublishedPart ls t
+
+-- A member's fetcher may claim a part.
+pub record CanWant (g : GroupKeys) (ls : Logs) (f : ℕ) (a : Alone) : Type 0 where
+  pub logs : AreLogs g ls
+  pub truly : IsTrueMember g ls a
+  pub fetcher : IsFetcher f
+
+-- It claims the part of this want, which this publisher has.
+pub record CanTake (g : GroupKeys) (ls : Logs) (f : ℕ) (w : WantedPart) (p a : Alone) : Type 0 where
+  pub logs : AreLogs g ls
+  pub publisher : IsTrueMember g ls p
+  pub number : p.number ≡ w.part.publisher
+  pub asker : IsTrueMember g ls a
+  pub fetcher : IsFetcher f
+  pub claim : claim_of (alone_plan a) f ≡ Some w.part
+  pub want : w ≡ true_want g ls w.part
+
+-- The member of this number may get a packet for its fetcher's claim.
+pub record CanGetAt (g : GroupKeys) (ls : Logs) (f m : ℕ) (ms : List Alone) : Type 0 where
+  pub logs : AreLogs g ls
+  pub numbers : MembersAreNumbered ms
+  pub truly : AreTrueMembers g ls ms
+  pub width : length ms ≡ length ls
+  pub there : m < length ms
+  pub fetcher : IsFetcher f
+
+-- It may ask member `q` for it.
+pub record CanAskAt (g : GroupKeys) (ls : Logs) (f m q : ℕ) (ms : List Alone) : Type 0 where
+  pub get : CanGetAt g ls f m ms
+  pub other : q < length ms
 
 -- ---- one member and the others
 

@@ -1,17 +1,16 @@
 // Packets that come for what fetchers claim.
-ghost use Rattle.std.specs.Prelude.{◌≡◌, ◌⊎◌, ◌↔◌, ◌<◌, Ok, Err, Some, None, IfOk, IfErr, OnOk, OnErr};
-ghost use Rattle.std.specs.Prelude.{List, length, unwrap_or, option_map, slice_set, []};
+ghost use Rattle.std.specs.Prelude.{◌≡◌, ◌⊎◌, ◌↔◌, Ok, Err, Some, None, IfOk, IfErr, OnOk, OnErr};
+ghost use Rattle.std.specs.Prelude.{length, unwrap_or, option_map, slice_set, []};
 ghost use Rattle.std.specs.Str.{bytes_eq};
-ghost use Rattle.repo_plan.specs.Calls.{IsFetcher};
 ghost use Rattle.repo_plan.specs.Plan.{claim_of};
 ghost use Rattle.repo_store.specs.Served.{served};
 ghost use Rattle.group_model.specs.Publications.{Logs};
-ghost use Rattle.group_model.specs.Sound.{IsPublishedPart};
 ghost use Rattle.group_model.specs.Events.Came.{Another};
-ghost use Rattle.repo_member.specs.Alone.{Alone, alone_plan};
-ghost use Rattle.repo_member.specs.InGroup.{AreLogs, true_packet};
-ghost use Rattle.repo_member.specs.TrueMembers.{IsTrueMember, true_want};
-ghost use Rattle.bench_world.specs.Worlds.{alone_at, others_than, AreTrueMembers, MembersAreNumbered};
+ghost use Rattle.repo_member.specs.Alone.{alone_plan};
+ghost use Rattle.repo_member.specs.InGroup.{true_packet};
+ghost use Rattle.repo_member.specs.TrueMembers.{true_want};
+ghost use Rattle.bench_world.specs.Conditions.{CanCompare, CanWant, CanTake, CanGetAt, CanAskAt};
+ghost use Rattle.bench_world.specs.Worlds.{alone_at};
 ghost use Rattle.bench_world.specs.Serving.{octets_as, judged_packet, found};
 ghost use Rattle.bench_world.specs.Answering.{answered, claim_in, came_in, came_for, lender_of, fed_as, kept_of};
 ghost use Rattle.bench_world.specs.Answering.{accepts_claimed, after_claimed};
@@ -38,10 +37,7 @@ fn is_its_packet(
     octets: &[u8],
 ) -> Result<bool, AllocError>
     ghost logs: { Logs }
-    requires logs { AreLogs g.now logs }
-    requires publisher { IsTrueMember g.now logs publisher.now }
-    requires number { publisher.now.number ≡ part.publisher }
-    requires part { IsPublishedPart logs part }
+    requires { CanCompare g.now logs publisher.now part }
     ensures { IfOk result (λ same. same ≡ bytes_eq octets.now (unwrap_or (true_packet g.now logs part) [])) }
 {
     if let Some(packet) = publisher.packet(part) {
@@ -56,9 +52,7 @@ fn is_its_packet(
 // The want of what a fetcher claims.
 fn want_for(alloc: Global, g: &Group, member: &Member, f: u8) -> Result<Want, StepFault>
     ghost logs: { Logs }
-    requires logs { AreLogs g.now logs }
-    requires member { IsTrueMember g.now logs member.now }
-    requires fetcher { IsFetcher f }
+    requires { CanWant g.now logs f member.now }
     ensures claim { IfOk result (λ want. claim_of (alone_plan member.now) f ≡ Some want.part) }
     ensures want { IfOk result (λ want. want ≡ true_want g.now logs want.part) }
     ensures idle { (result ≡ Err (StepFault.Refused 7)) ↔ (claim_of (alone_plan member.now) f ≡ None) }
@@ -82,13 +76,7 @@ fn take(
     octets: &[u8],
 ) -> Result<Fed, StepFault>
     ghost logs: { Logs }
-    requires logs { AreLogs g.now logs }
-    requires publisher { IsTrueMember g.now logs publisher.now }
-    requires number { publisher.now.number ≡ want.now.part.publisher }
-    requires asker { IsTrueMember g.now logs asker.old }
-    requires fetcher { IsFetcher f }
-    requires claim { claim_of (alone_plan asker.old) f ≡ Some want.now.part }
-    requires want { want.now ≡ true_want g.now logs want.now.part }
+    requires { CanTake g.now logs f want.now publisher.now asker.old }
     ensures fed { IfOk result (λ fed. fed ≡ fed_as g.now logs octets.now want.now.part) }
     ensures asker { OnOk result (asker.new ≡ accepts_claimed g.now logs f want.now.part
         (octets_as g.now logs want.now.part octets.now) asker.old) }
@@ -132,13 +120,7 @@ fn take_served(
     packet: Option<&[u8]>,
 ) -> Result<Option<u64>, StepFault>
     ghost logs: { Logs }
-    requires logs { AreLogs g.now logs }
-    requires publisher { IsTrueMember g.now logs publisher.now }
-    requires number { publisher.now.number ≡ want.now.part.publisher }
-    requires asker { IsTrueMember g.now logs asker.old }
-    requires fetcher { IsFetcher f }
-    requires claim { claim_of (alone_plan asker.old) f ≡ Some want.now.part }
-    requires want { want.now ≡ true_want g.now logs want.now.part }
+    requires { CanTake g.now logs f want.now publisher.now asker.old }
     ensures kept { IfOk result (λ kept. answered g.now logs (Some want.now.part)
         (judged_packet g.now logs want.now.part (option_map (λ octets. octets.now) packet.entry)) ≡ Ok kept) }
     ensures asker { OnOk result (asker.new ≡ accepts_claimed g.now logs f want.now.part
@@ -169,13 +151,7 @@ fn ask_one(
     want: &Want,
 ) -> Result<Option<u64>, StepFault>
     ghost logs: { Logs }
-    requires logs { AreLogs g.now logs }
-    requires publisher { IsTrueMember g.now logs publisher.now }
-    requires number { publisher.now.number ≡ want.now.part.publisher }
-    requires asker { IsTrueMember g.now logs asker.old }
-    requires fetcher { IsFetcher f }
-    requires claim { claim_of (alone_plan asker.old) f ≡ Some want.now.part }
-    requires want { want.now ≡ true_want g.now logs want.now.part }
+    requires { CanTake g.now logs f want.now publisher.now asker.old }
     ensures kept { IfOk result (λ kept. answered g.now logs (Some want.now.part) (judged_packet g.now logs want.now.part
         (found (served want.now.interest (lender_of asker.old (option_map (λ a. a.now) lender.entry)).store)))
         ≡ Ok kept) }
@@ -210,13 +186,7 @@ pub(crate) fn ask(
     q: u32,
 ) -> Result<Option<u64>, StepFault>
     ghost logs: { Logs }
-    requires logs { AreLogs g.now logs }
-    requires numbers { MembersAreNumbered members.old.items }
-    requires members { AreTrueMembers g.now logs members.old.items }
-    requires width { length members.old.items ≡ length logs }
-    requires there { m < length members.old.items }
-    requires fetcher { IsFetcher f }
-    requires other { q < length members.old.items }
+    requires { CanAskAt g.now logs f m q members.old.items }
     ensures kept { IfOk result (λ kept. answered g.now logs (claim_in members.old.items m f)
         (came_in g.now logs members.old.items q (claim_in members.old.items m f)) ≡ Ok kept) }
     ensures members { OnOk result (members.new.items ≡ slice_set members.old.items m
@@ -253,12 +223,7 @@ pub(crate) fn feed(
     octets: &[u8],
 ) -> Result<Fed, StepFault>
     ghost logs: { Logs }
-    requires logs { AreLogs g.now logs }
-    requires numbers { MembersAreNumbered members.old.items }
-    requires members { AreTrueMembers g.now logs members.old.items }
-    requires width { length members.old.items ≡ length logs }
-    requires there { m < length members.old.items }
-    requires fetcher { IsFetcher f }
+    requires { CanGetAt g.now logs f m members.old.items }
     ensures fed { IfOk result
         (λ fed. option_map (fed_as g.now logs octets.now) (claim_in members.old.items m f) ≡ Some fed) }
     ensures kept { IfOk result (λ fed. answered g.now logs (claim_in members.old.items m f)

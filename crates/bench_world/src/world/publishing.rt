@@ -118,13 +118,13 @@ impl World {
             Err(refusal) => return Err(fault_of(refusal)),
         };
         vector[m as usize] = published.seq;
-        let k = self.sent.add_reserved(m, vector, published.sync);
+        let sync = self.sent.add_reserved(m, vector, published.sync);
         self.steps += 1;
         Ok(Happened::Withdraw {
             m,
             seq: u64::from(published.seq),
             withdrawn: u64::from(s),
-            sync: u64::from(k),
+            sync: u64::from(sync),
         })
     }
 }

@@ -17,30 +17,27 @@ same_part h = cc
 
 pub is_its_packet-requires : goal.is_its_packet-requires
 is_its_packet-requires g c =
-    let r = c.requires in (
-      r.0,
-      (
-        r.1.0,
-        (
-          r.1.1.0 ∙ ap (λ (t : Part). t.publisher) (sym c.part.ensures),
+    let r = c.requires in
+    record {
+      logs = r.logs;
+      publisher = r.publisher;
+      number = r.number ∙ ap (λ (t : Part). t.publisher) (sym c.part.ensures);
+      part =
           subst (IsPublishedPart g.logs) (sym c.part.ensures)
-              (claim_published c.args.g.now g.logs c.args.asker.now r.0 r.1.1.1.0 c.args.f c.args.want.now.part
-              r.1.1.1.1.1.0),
-        ),
-      ),
-    )
+          (claim_published c.args.g.now g.logs c.args.asker.now r.logs r.asker c.args.f c.args.want.now.part r.claim);
+    }
 
 pub check_part-requires : goal.check_part-requires
 check_part-requires g c =
     let r = c.requires in
     subst (λ (ring : List NamedKey). c.args.want.now.part.publisher < length ring) (sym c.members.ensures.ring)
-    (key_there c.args.g.now g.logs c.args.asker.now r.0 r.1.1.1.0 c.args.f c.args.want.now.part r.1.1.1.1.1.0)
+    (key_there c.args.g.now g.logs c.args.asker.now r.logs r.asker c.args.f c.args.want.now.part r.claim)
 
 pub accept_checked-requires-clause-checked : goal.accept_checked-requires-clause-checked
 accept_checked-requires-clause-checked g c =
     let r = c.requires in
-    checked_for_claim c.args.g.now g.logs c.args.asker.now r.0 r.1.1.1.0 c.args.f c.args.want.now.part r.1.1.1.1.1.0
-    c.args.octets.now c.in-Ok.checked c.args.want.now r.1.1.1.1.1.1
+    checked_for_claim c.args.g.now g.logs c.args.asker.now r.logs r.asker c.args.f c.args.want.now.part r.claim
+    c.args.octets.now c.in-Ok.checked c.args.want.now r.want
     (c.in-Ok.ensures.checked ∙ ap (λ ring. checked_part c.args.want.now ring c.args.octets.now) c.members.ensures.ring)
 
 pub returns-in-Ok-accept_checked-clause-asker : goal.returns-in-Ok-accept_checked-clause-asker
@@ -54,16 +51,16 @@ returns-in-Ok-accept_checked-clause-asker g c =
     let octets : c.in-Ok.checked.octets ≡ c.args.octets.now =
     ap (λ (x : CheckedPart). x.octets) c.in-Ok.ensures.checked in
     let part : c.in-Ok-accept_checked.field-0 ≡ c.args.want.now.part =
-    same_part (sym c.in-Ok-accept_checked.ensures.part ∙ r.1.1.1.1.1.0) in
+    same_part (sym c.in-Ok-accept_checked.ensures.part ∙ r.claim) in
     c.in-Ok-accept_checked.ensures.ok ∙ (λ i. alone_accepts c.args.f (part i) (octets i) c.args.asker.now)
-    ∙ accepts_its c.args.g.now g.logs c.args.asker.now r.0 r.1.1.1.0 c.args.f c.args.want.now.part r.1.1.1.1.1.0
+    ∙ accepts_its c.args.g.now g.logs c.args.asker.now r.logs r.asker c.args.f c.args.want.now.part r.claim
     c.args.octets.now same
 
 pub returns-in-Ok-accept_checked-clause-fed : goal.returns-in-Ok-accept_checked-clause-fed
 returns-in-Ok-accept_checked-clause-fed g c =
     let r = c.requires in
     passed_fed c.args.g.now g.logs c.args.want.now.part c.args.octets.now
-    (subst (λ (w : WantedPart). IsOk (ring_verdict w c.args.g.now.members.ring c.args.octets.now)) r.1.1.1.1.1.1
+    (subst (λ (w : WantedPart). IsOk (ring_verdict w c.args.g.now.members.ring c.args.octets.now)) r.want
     (subst (λ (ring : List NamedKey). IsOk (ring_verdict c.args.want.now ring c.args.octets.now))
     c.members.ensures.ring c.in-Ok.ensures.verdict))
 
@@ -75,5 +72,5 @@ returns-in-Ok-accept_checked-clause-kept g c =
     (sym c.part.ensures)
     ∙ sym c.in_ok-is_its_packet.ensures
     ∙ c.if-not-branch.false in
-    keeps_its c.args.g.now g.logs c.args.asker.now r.0 r.1.1.1.0 c.args.f c.args.want.now.part r.1.1.1.1.1.0
+    keeps_its c.args.g.now g.logs c.args.asker.now r.logs r.asker c.args.f c.args.want.now.part r.claim
     c.args.octets.now same

@@ -8,5 +8,5 @@ returns-in-Ok-clause-claim g c =
 
 pub returns-in-Ok-clause-want : goal.returns-in-Ok-clause-want
 returns-in-Ok-clause-want g c =
-    want_true c.args.g.now g.logs c.args.member.now c.requires.0 c.requires.1.0 c.args.f c.in-Ok.want
+    want_true c.args.g.now g.logs c.args.member.now c.requires.logs c.requires.truly c.args.f c.in-Ok.want
     c.in-Ok.ensures.want

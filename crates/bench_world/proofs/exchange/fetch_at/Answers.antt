@@ -15,13 +15,15 @@ use Rattle.bench_world.proofs.PutBack.{others_true}
 use Rattle.bench_world.proofs.TakenOut.{put_in, put_back}
 use Rattle.bench_world.proofs.GroupFetches.{planned_are, came_are, attempts_are, members_are, fetched_all_truly}
 use Rattle.bench_world.proofs.GroupFetches.{fetched_numbers}
+use Rattle.bench_world.proofs.Bounded.{condition}
 use Rattle.bench_world.proofs.exchange.fetch_at.Goals as goal
 
 pub fetch-fetched-requires : goal.fetch-fetched-requires
 fetch-fetched-requires g c κs within =
+    let can = condition c.requires in
     let here =
     c.remove-member.ensures.value
-    ∙ get_or_default c.args.members.now.items c.args.j c.remove-member.result nobody c.requires.1.1.1.1.there in (
+    ∙ get_or_default c.args.members.now.items c.args.j c.remove-member.result nobody can.there in (
       within.0,
       (
         within.1,
@@ -30,18 +32,17 @@ fetch-fetched-requires g c κs within =
           (
             c.requires.1.1.1.0,
             record {
-              workers = c.requires.1.1.1.1.workers;
-              tries = c.requires.1.1.1.1.tries;
-              logs = c.requires.1.1.1.1.logs;
+              workers = can.workers;
+              tries = can.tries;
+              logs = can.logs;
               others =
                   subst (AreTrueMembers c.args.g.now (logs g.begun)) (sym c.as_slice.ensures.value)
                   (others_true c.args.g.now (logs g.begun) c.args.members.now.items c.remove-member.new.self.items
-                  c.args.j
-                  c.requires.1.1.1.1.truly c.remove-member.ensures.items);
+                  c.args.j can.truly c.remove-member.ensures.items);
               truly =
                   subst (IsTrueMember c.args.g.now (logs g.begun)) (sym here)
-                  (c.requires.1.1.1.1.truly c.args.j c.requires.1.1.1.1.there);
-              tried = subst TriedFew (sym here) (c.requires.1.1.1.1.tried c.args.j c.requires.1.1.1.1.there);
+                  (can.truly c.args.j can.there);
+              tried = subst TriedFew (sym here) (can.tried c.args.j can.there);
             },
           ),
         ),
@@ -50,141 +51,146 @@ fetch-fetched-requires g c κs within =
 
 pub returns-in-Ok-fetched-clause-members : goal.returns-in-Ok-fetched-clause-members
 returns-in-Ok-fetched-clause-members g c =
+    let can = condition c.requires in
     let ms = c.args.members.now.items in
     let others : c.as_slice.result.now ≡ others_than c.args.j ms =
     c.as_slice.ensures.value ∙ c.remove-member.ensures.items in
     let old : c.remove-member.result ≡ alone_at ms c.args.j =
-    c.remove-member.ensures.value ∙ get_or_default ms c.args.j c.remove-member.result nobody c.requires.1.1.1.1.there in
+    c.remove-member.ensures.value ∙ get_or_default ms c.args.j c.remove-member.result nobody can.there in
     let new_is =
     put_in ms c.remove-member.new.self.items c.insert.new.self.items c.args.j c.fetch-fetched.new.member
-    c.requires.1.1.1.1.there c.remove-member.ensures.items c.in-Ok.ensures.items
+    can.there c.remove-member.ensures.items c.in-Ok.ensures.items
     ∙ ap (set ms c.args.j)
     (c.in-Ok-fetched.ensures.new
     ∙ (λ i. alone_takes
     (fetched_all (attempt_comes (g.N.Net.passes c.args.net.now) c.args.j (Some c.args.loss)) (others i) c.args.tries
     (old i) (next_parts None (old i))) (old i))) in
-    members_are (g.N.Net.passes c.args.net.now) (λ _ _. 0) c.args.g.now g.begun c.requires.1.1.1.1.logs.are
-    c.args.members.now.items c.requires.1.1.1.1.begun c.requires.1.1.1.1.numbers
-    c.requires.1.1.1.1.truly c.args.j c.requires.1.1.1.1.there c.args.tries c.args.loss c.insert.new.self.items
+    members_are (g.N.Net.passes c.args.net.now) (λ _ _. 0) c.args.g.now g.begun can.logs.are
+    c.args.members.now.items can.begun can.numbers
+    can.truly c.args.j can.there c.args.tries c.args.loss c.insert.new.self.items
     new_is
 
 pub returns-in-Ok-fetched-clause-truly : goal.returns-in-Ok-fetched-clause-truly
 returns-in-Ok-fetched-clause-truly g c =
+    let can = condition c.requires in
     let ms = c.args.members.now.items in
     let others : c.as_slice.result.now ≡ others_than c.args.j ms =
     c.as_slice.ensures.value ∙ c.remove-member.ensures.items in
     let old : c.remove-member.result ≡ alone_at ms c.args.j =
-    c.remove-member.ensures.value ∙ get_or_default ms c.args.j c.remove-member.result nobody c.requires.1.1.1.1.there in
+    c.remove-member.ensures.value ∙ get_or_default ms c.args.j c.remove-member.result nobody can.there in
     let new_is =
     put_in ms c.remove-member.new.self.items c.insert.new.self.items c.args.j c.fetch-fetched.new.member
-    c.requires.1.1.1.1.there c.remove-member.ensures.items c.in-Ok.ensures.items
+    can.there c.remove-member.ensures.items c.in-Ok.ensures.items
     ∙ ap (set ms c.args.j)
     (c.in-Ok-fetched.ensures.new
     ∙ (λ i. alone_takes
     (fetched_all (attempt_comes (g.N.Net.passes c.args.net.now) c.args.j (Some c.args.loss)) (others i) c.args.tries
     (old i) (next_parts None (old i))) (old i))) in
-    fetched_all_truly (g.N.Net.passes c.args.net.now) (λ _ _. 0) c.args.g.now g.begun c.requires.1.1.1.1.logs.are
-    c.args.members.now.items c.requires.1.1.1.1.begun c.requires.1.1.1.1.numbers
-    c.requires.1.1.1.1.truly c.args.j c.requires.1.1.1.1.there c.args.tries c.args.loss c.insert.new.self.items
+    fetched_all_truly (g.N.Net.passes c.args.net.now) (λ _ _. 0) c.args.g.now g.begun can.logs.are
+    c.args.members.now.items can.begun can.numbers
+    can.truly c.args.j can.there c.args.tries c.args.loss c.insert.new.self.items
     new_is
 
 pub returns-in-Ok-fetched-clause-numbers : goal.returns-in-Ok-fetched-clause-numbers
 returns-in-Ok-fetched-clause-numbers g c =
+    let can = condition c.requires in
     let ms = c.args.members.now.items in
     let others : c.as_slice.result.now ≡ others_than c.args.j ms =
     c.as_slice.ensures.value ∙ c.remove-member.ensures.items in
     let old : c.remove-member.result ≡ alone_at ms c.args.j =
-    c.remove-member.ensures.value ∙ get_or_default ms c.args.j c.remove-member.result nobody c.requires.1.1.1.1.there in
+    c.remove-member.ensures.value ∙ get_or_default ms c.args.j c.remove-member.result nobody can.there in
     let new_is =
     put_in ms c.remove-member.new.self.items c.insert.new.self.items c.args.j c.fetch-fetched.new.member
-    c.requires.1.1.1.1.there c.remove-member.ensures.items c.in-Ok.ensures.items
+    can.there c.remove-member.ensures.items c.in-Ok.ensures.items
     ∙ ap (set ms c.args.j)
     (c.in-Ok-fetched.ensures.new
     ∙ (λ i. alone_takes
     (fetched_all (attempt_comes (g.N.Net.passes c.args.net.now) c.args.j (Some c.args.loss)) (others i) c.args.tries
     (old i) (next_parts None (old i))) (old i))) in
-    fetched_numbers (g.N.Net.passes c.args.net.now) (λ _ _. 0) c.args.g.now g.begun c.requires.1.1.1.1.logs.are
-    c.args.members.now.items c.requires.1.1.1.1.begun c.requires.1.1.1.1.numbers
-    c.requires.1.1.1.1.truly c.args.j c.requires.1.1.1.1.there c.args.tries c.args.loss c.insert.new.self.items
+    fetched_numbers (g.N.Net.passes c.args.net.now) (λ _ _. 0) c.args.g.now g.begun can.logs.are
+    c.args.members.now.items can.begun can.numbers
+    can.truly c.args.j can.there c.args.tries c.args.loss c.insert.new.self.items
     new_is
 
 pub returns-in-Ok-fetched-clause-planned : goal.returns-in-Ok-fetched-clause-planned
 returns-in-Ok-fetched-clause-planned g c =
+    let can = condition c.requires in
     let ms = c.args.members.now.items in
     let others : c.as_slice.result.now ≡ others_than c.args.j ms =
     c.as_slice.ensures.value ∙ c.remove-member.ensures.items in
     let old : c.remove-member.result ≡ alone_at ms c.args.j =
-    c.remove-member.ensures.value ∙ get_or_default ms c.args.j c.remove-member.result nobody c.requires.1.1.1.1.there in
+    c.remove-member.ensures.value ∙ get_or_default ms c.args.j c.remove-member.result nobody can.there in
     c.in-Ok-fetched.ensures.planned
     ∙ (λ i. length (next_parts None (old i)))
-    ∙ planned_are (g.N.Net.passes c.args.net.now) (λ _ _. 0) c.args.g.now g.begun c.requires.1.1.1.1.logs.are
-    c.args.members.now.items c.requires.1.1.1.1.begun c.requires.1.1.1.1.numbers
-    c.requires.1.1.1.1.truly c.args.j c.requires.1.1.1.1.there c.args.tries c.args.loss
+    ∙ planned_are (g.N.Net.passes c.args.net.now) (λ _ _. 0) c.args.g.now g.begun can.logs.are
+    c.args.members.now.items can.begun can.numbers can.truly c.args.j can.there c.args.tries c.args.loss
 
 pub returns-in-Ok-fetched-clause-parts : goal.returns-in-Ok-fetched-clause-parts
 returns-in-Ok-fetched-clause-parts g c =
+    let can = condition c.requires in
     let ms = c.args.members.now.items in
     let others : c.as_slice.result.now ≡ others_than c.args.j ms =
     c.as_slice.ensures.value ∙ c.remove-member.ensures.items in
     let old : c.remove-member.result ≡ alone_at ms c.args.j =
-    c.remove-member.ensures.value ∙ get_or_default ms c.args.j c.remove-member.result nobody c.requires.1.1.1.1.there in
+    c.remove-member.ensures.value ∙ get_or_default ms c.args.j c.remove-member.result nobody can.there in
     c.in-Ok-fetched.ensures.parts
     ∙ (λ i. length
     (that_came (fetched_all (attempt_comes (g.N.Net.passes c.args.net.now) c.args.j (Some c.args.loss)) (others i)
     c.args.tries (old i) (next_parts None (old i)))))
-    ∙ ap length (came_are (g.N.Net.passes c.args.net.now) (λ _ _. 0) c.args.g.now g.begun c.requires.1.1.1.1.logs.are
-    c.args.members.now.items c.requires.1.1.1.1.begun c.requires.1.1.1.1.numbers
-    c.requires.1.1.1.1.truly c.args.j c.requires.1.1.1.1.there c.args.tries c.args.loss)
+    ∙ ap length (came_are (g.N.Net.passes c.args.net.now) (λ _ _. 0) c.args.g.now g.begun can.logs.are
+    c.args.members.now.items can.begun can.numbers can.truly c.args.j can.there c.args.tries c.args.loss)
 
 pub returns-in-Ok-fetched-clause-octets : goal.returns-in-Ok-fetched-clause-octets
 returns-in-Ok-fetched-clause-octets g c =
+    let can = condition c.requires in
     let ms = c.args.members.now.items in
     let others : c.as_slice.result.now ≡ others_than c.args.j ms =
     c.as_slice.ensures.value ∙ c.remove-member.ensures.items in
     let old : c.remove-member.result ≡ alone_at ms c.args.j =
-    c.remove-member.ensures.value ∙ get_or_default ms c.args.j c.remove-member.result nobody c.requires.1.1.1.1.there in
+    c.remove-member.ensures.value ∙ get_or_default ms c.args.j c.remove-member.result nobody can.there in
     c.in-Ok-fetched.ensures.octets
     ∙ (λ i. sum_by (size_of c.args.g.now (logs g.begun))
     (that_came (fetched_all (attempt_comes (g.N.Net.passes c.args.net.now) c.args.j (Some c.args.loss)) (others i)
     c.args.tries (old i) (next_parts None (old i)))))
     ∙ ap (sum_by (size_of c.args.g.now (logs g.begun)))
-    (came_are (g.N.Net.passes c.args.net.now) (λ _ _. 0) c.args.g.now g.begun c.requires.1.1.1.1.logs.are
-    c.args.members.now.items c.requires.1.1.1.1.begun c.requires.1.1.1.1.numbers
-    c.requires.1.1.1.1.truly c.args.j c.requires.1.1.1.1.there c.args.tries c.args.loss)
+    (came_are (g.N.Net.passes c.args.net.now) (λ _ _. 0) c.args.g.now g.begun can.logs.are
+    c.args.members.now.items can.begun can.numbers can.truly c.args.j can.there c.args.tries c.args.loss)
 
 pub returns-in-Ok-fetched-clause-attempts : goal.returns-in-Ok-fetched-clause-attempts
 returns-in-Ok-fetched-clause-attempts g c =
+    let can = condition c.requires in
     let ms = c.args.members.now.items in
     let others : c.as_slice.result.now ≡ others_than c.args.j ms =
     c.as_slice.ensures.value ∙ c.remove-member.ensures.items in
     let old : c.remove-member.result ≡ alone_at ms c.args.j =
-    c.remove-member.ensures.value ∙ get_or_default ms c.args.j c.remove-member.result nobody c.requires.1.1.1.1.there in
+    c.remove-member.ensures.value ∙ get_or_default ms c.args.j c.remove-member.result nobody can.there in
     c.in-Ok-fetched.ensures.attempts
     ∙ (λ i. sum (map (λ (x : Fetched). x.attempts)
     (fetched_all (attempt_comes (g.N.Net.passes c.args.net.now) c.args.j (Some c.args.loss)) (others i) c.args.tries
     (old i) (next_parts None (old i)))))
-    ∙ attempts_are (g.N.Net.passes c.args.net.now) (λ _ _. 0) c.args.g.now g.begun c.requires.1.1.1.1.logs.are
-    c.args.members.now.items c.requires.1.1.1.1.begun c.requires.1.1.1.1.numbers
-    c.requires.1.1.1.1.truly c.args.j c.requires.1.1.1.1.there c.args.tries c.args.loss
+    ∙ attempts_are (g.N.Net.passes c.args.net.now) (λ _ _. 0) c.args.g.now g.begun can.logs.are
+    c.args.members.now.items can.begun can.numbers can.truly c.args.j can.there c.args.tries c.args.loss
 
 pub returns-in-Err-clause-truly : goal.returns-in-Err-clause-truly
 returns-in-Err-clause-truly g c =
+    let can = condition c.requires in
     let old =
     c.remove-member.ensures.value
-    ∙ get_or_default c.args.members.now.items c.args.j c.remove-member.result nobody c.requires.1.1.1.1.there in
+    ∙ get_or_default c.args.members.now.items c.args.j c.remove-member.result nobody can.there in
     let same =
     put_back c.args.members.now.items c.remove-member.new.self.items c.insert.new.self.items c.args.j
-    c.fetch-fetched.new.member c.requires.1.1.1.1.there c.remove-member.ensures.items c.in-Ok.ensures.items
+    c.fetch-fetched.new.member can.there c.remove-member.ensures.items c.in-Ok.ensures.items
     (c.in-Err.ensures.err ∙ old) in
-    subst (AreTrueMembers c.args.g.now (logs g.begun)) (sym same) c.requires.1.1.1.1.truly
+    subst (AreTrueMembers c.args.g.now (logs g.begun)) (sym same) can.truly
 
 pub returns-in-Err-clause-numbers : goal.returns-in-Err-clause-numbers
 returns-in-Err-clause-numbers g c =
+    let can = condition c.requires in
     let old =
     c.remove-member.ensures.value
-    ∙ get_or_default c.args.members.now.items c.args.j c.remove-member.result nobody c.requires.1.1.1.1.there in
+    ∙ get_or_default c.args.members.now.items c.args.j c.remove-member.result nobody can.there in
     let same =
     put_back c.args.members.now.items c.remove-member.new.self.items c.insert.new.self.items c.args.j
-    c.fetch-fetched.new.member c.requires.1.1.1.1.there c.remove-member.ensures.items c.in-Ok.ensures.items
+    c.fetch-fetched.new.member can.there c.remove-member.ensures.items c.in-Ok.ensures.items
     (c.in-Err.ensures.err ∙ old) in
-    subst MembersAreNumbered (sym same) c.requires.1.1.1.1.numbers
+    subst MembersAreNumbered (sym same) can.numbers

@@ -7,102 +7,108 @@ use Rattle.bench_world.specs.Worlds.{alone_at}
 use Rattle.bench_world.proofs.Gathers.{few_held, few_octets}
 use Rattle.bench_world.proofs.GatheredAll.{gathered_none, gathered_part, gathered_more, gathered_all, sum_more, all_sum}
 use Rattle.bench_world.proofs.GatheredAll.{sum_ones, partly_all, few_all, where_err}
+use Rattle.bench_world.proofs.Bounded.{condition}
 use Rattle.bench_world.proofs.exchange.gather_all.Goals as goal
 
 pub loop-j-init : goal.loop-j-init
-loop-j-init g c = record {
-  so_far =
-      gathered_none c.args.g.now g.begun c.requires.1.1.1.1.sound c.requires.1.1.1.1.logs.are c.args.members.now.items
-      c.requires.1.1.1.1.learnt c.requires.1.1.1.1.truly c.requires.1.1.1.1.numbers
-      c.requires.1.1.1.1.tried;
-  parts = refl;
-  octets = refl;
-  few = omega arith;
-  few_octets = omega arith;
-}
+loop-j-init g c =
+    let can = condition c.requires in
+    record {
+      so_far =
+          gathered_none c.args.g.now g.begun can.sound can.logs.are c.args.members.now.items
+          can.learnt can.truly can.numbers
+          can.tried;
+      parts = refl;
+      octets = refl;
+      few = omega arith;
+      few_octets = omega arith;
+    }
 
 pub gather_at-requires : goal.gather_at-requires
-gather_at-requires g c κs within = (
-  within.0,
-  (
-    within.1,
-    (
-      c.requires.1.1.0,
+gather_at-requires g c κs within =
+    let can = condition c.requires in (
+      within.0,
       (
-        c.requires.1.1.1.0,
-        record {
-          workers = c.requires.1.1.1.1.workers;
-          there = omega (
-            arith,
-            c.loop-j-test.true,
-            c.len-count.ensures,
-            c.loop-j.invariant.so_far.all.len,
-            c.args.members.now.ok,
-          );
-          logs = c.requires.1.1.1.1.logs;
-          members = c.loop-j.invariant.so_far.all.truly;
-          tried = c.loop-j.invariant.so_far.all.tried;
-        },
+        within.1,
+        (
+          c.requires.1.1.0,
+          (
+            c.requires.1.1.1.0,
+            record {
+              workers = can.workers;
+              there = omega (
+                arith,
+                c.loop-j-test.true,
+                c.len-count.ensures,
+                c.loop-j.invariant.so_far.all.len,
+                c.args.members.now.ok,
+              );
+              logs = can.logs;
+              members = c.loop-j.invariant.so_far.all.truly;
+              tried = c.loop-j.invariant.so_far.all.tried;
+            },
+          ),
+        ),
       ),
-    ),
-  ),
-)
+    )
 
 pub returns-in_err-came-clause-truly : goal.returns-in_err-came-clause-truly
 returns-in_err-came-clause-truly g c =
+    let can = condition c.requires in
     let inside : c.loop-j.j < length c.loop-j.members.items =
     omega (arith, c.loop-j-test.true, c.len-count.ensures, c.loop-j.invariant.so_far.all.len, c.args.members.now.ok) in
-    (gathered_part c.args.g.now g.begun c.requires.1.1.1.1.sound c.requires.1.1.1.1.logs.are c.args.members.now.items
-    c.requires.1.1.1.1.learnt
+    (gathered_part c.args.g.now g.begun can.sound can.logs.are c.args.members.now.items can.learnt
     c.loop-j.j c.loop-j.members.items c.loop-j.invariant.so_far inside c.gather_at.new.members.items
     c.gather_at.ensures.others c.gather_at.ensures.gains).truly
 
 pub returns-in_err-came-clause-numbers : goal.returns-in_err-came-clause-numbers
 returns-in_err-came-clause-numbers g c =
+    let can = condition c.requires in
     let inside : c.loop-j.j < length c.loop-j.members.items =
     omega (arith, c.loop-j-test.true, c.len-count.ensures, c.loop-j.invariant.so_far.all.len, c.args.members.now.ok) in
-    (gathered_part c.args.g.now g.begun c.requires.1.1.1.1.sound c.requires.1.1.1.1.logs.are c.args.members.now.items
-    c.requires.1.1.1.1.learnt
+    (gathered_part c.args.g.now g.begun can.sound can.logs.are c.args.members.now.items can.learnt
     c.loop-j.j c.loop-j.members.items c.loop-j.invariant.so_far inside c.gather_at.new.members.items
     c.gather_at.ensures.others c.gather_at.ensures.gains).numbers
 
 pub returns-in_err-came-clause-counts : goal.returns-in_err-came-clause-counts
 returns-in_err-came-clause-counts g c =
+    let can = condition c.requires in
     let inside : c.loop-j.j < length c.loop-j.members.items =
     omega (arith, c.loop-j-test.true, c.len-count.ensures, c.loop-j.invariant.so_far.all.len, c.args.members.now.ok) in
-    (gathered_part c.args.g.now g.begun c.requires.1.1.1.1.sound c.requires.1.1.1.1.logs.are c.args.members.now.items
-    c.requires.1.1.1.1.learnt
+    (gathered_part c.args.g.now g.begun can.sound can.logs.are c.args.members.now.items can.learnt
     c.loop-j.j c.loop-j.members.items c.loop-j.invariant.so_far inside c.gather_at.new.members.items
     c.gather_at.ensures.others c.gather_at.ensures.gains).counts
 
 pub returns-in_err-came-clause-err : goal.returns-in_err-came-clause-err
 returns-in_err-came-clause-err g c =
+    let can = condition c.requires in
     let inside : c.loop-j.j < length c.loop-j.members.items =
     omega (arith, c.loop-j-test.true, c.len-count.ensures, c.loop-j.invariant.so_far.all.len, c.args.members.now.ok) in
     where_err c.from_residual.result
-    (partly_all c.args.g.now g.begun c.requires.1.1.1.1.sound c.requires.1.1.1.1.logs.are c.args.members.now.items
-    c.requires.1.1.1.1.learnt c.gather_at.new.members.items
-    (gathered_part c.args.g.now g.begun c.requires.1.1.1.1.sound c.requires.1.1.1.1.logs.are c.args.members.now.items
-    c.requires.1.1.1.1.learnt
+    (partly_all c.args.g.now g.begun can.sound can.logs.are c.args.members.now.items
+    can.learnt c.gather_at.new.members.items
+    (gathered_part c.args.g.now g.begun can.sound can.logs.are c.args.members.now.items can.learnt
     c.loop-j.j c.loop-j.members.items c.loop-j.invariant.so_far inside c.gather_at.new.members.items
     c.gather_at.ensures.others c.gather_at.ensures.gains))
 
 pub overflow_add-octets : goal.overflow_add-octets
 overflow_add-octets g c =
+    let can = condition c.requires in
     let inside : c.loop-j.j < length c.loop-j.members.items =
     omega (arith, c.loop-j-test.true, c.len-count.ensures, c.loop-j.invariant.so_far.all.len, c.args.members.now.ok) in
     let sixteen =
-    few_all c.args.g.now g.begun c.requires.1.1.1.1.sound c.requires.1.1.1.1.logs.are c.args.members.now.items
-    c.requires.1.1.1.1.learnt in
+    few_all c.args.g.now g.begun can.sound can.logs.are c.args.members.now.items
+    can.learnt in
     let most =
-    few_octets c.args.g.now (logs g.begun) c.requires.1.1.1.1.logs.are
+    few_octets c.args.g.now (logs g.begun) can.logs.are
     (alone_at c.gather_at.new.members.items c.loop-j.j) c.gather_at.ensures.gains.truly in
-    let few = c.requires.1.1.1.1.logs.few in
+    let few = can.logs.few in
     let came = c.in_ok-came.ensures.octets in
     omega (arith, inside, sixteen, most, few, came, c.loop-j.invariant.few_octets, c.loop-j.invariant.so_far.all.len)
 
 pub loop-j-preserved : goal.loop-j-preserved
 loop-j-preserved g c =
+    let can = condition c.requires in
     let inside : c.loop-j.j < length c.loop-j.members.items =
     omega (arith, c.loop-j-test.true, c.len-count.ensures, c.loop-j.invariant.so_far.all.len, c.args.members.now.ok) in
     let many : Counts one_each c.from-parts.result (alone_at c.loop-j.members.items c.loop-j.j)
@@ -110,27 +116,25 @@ loop-j-preserved g c =
     ap (λ n. n + held_sum one_each (alone_at c.loop-j.members.items c.loop-j.j)) c.from-parts.ensures
     ∙ c.in_ok-came.ensures.parts in
     let most =
-    few_held c.args.g.now (logs g.begun) c.requires.1.1.1.1.logs.are (alone_at c.gather_at.new.members.items c.loop-j.j)
+    few_held c.args.g.now (logs g.begun) can.logs.are (alone_at c.gather_at.new.members.items c.loop-j.j)
     c.gather_at.ensures.gains.truly in
     let most_octets =
-    few_octets c.args.g.now (logs g.begun) c.requires.1.1.1.1.logs.are
+    few_octets c.args.g.now (logs g.begun) can.logs.are
     (alone_at c.gather_at.new.members.items c.loop-j.j) c.gather_at.ensures.gains.truly in
-    let few = c.requires.1.1.1.1.logs.few in
+    let few = can.logs.few in
     record {
       so_far =
-          gathered_more c.args.g.now g.begun c.requires.1.1.1.1.sound c.requires.1.1.1.1.logs.are
-          c.args.members.now.items c.requires.1.1.1.1.learnt
+          gathered_more c.args.g.now g.begun can.sound can.logs.are
+          c.args.members.now.items can.learnt
           c.loop-j.j c.loop-j.members.items c.loop-j.invariant.so_far inside c.gather_at.new.members.items
           c.gather_at.ensures.others c.gather_at.ensures.gains c.in_ok-came.ensures.left;
       parts =
-          sum_more c.args.g.now g.begun c.requires.1.1.1.1.sound c.requires.1.1.1.1.logs.are c.args.members.now.items
-          c.requires.1.1.1.1.learnt
+          sum_more c.args.g.now g.begun can.sound can.logs.are c.args.members.now.items can.learnt
           c.loop-j.j c.loop-j.members.items c.loop-j.invariant.so_far inside c.gather_at.new.members.items
           c.gather_at.ensures.others c.gather_at.ensures.gains c.in_ok-came.ensures.left
           one_each c.loop-j.parts c.from-parts.result c.loop-j.invariant.parts many;
       octets =
-          sum_more c.args.g.now g.begun c.requires.1.1.1.1.sound c.requires.1.1.1.1.logs.are c.args.members.now.items
-          c.requires.1.1.1.1.learnt
+          sum_more c.args.g.now g.begun can.sound can.logs.are c.args.members.now.items can.learnt
           c.loop-j.j c.loop-j.members.items c.loop-j.invariant.so_far inside c.gather_at.new.members.items
           c.gather_at.ensures.others c.gather_at.ensures.gains c.in_ok-came.ensures.left
           (size_of c.args.g.now (logs g.begun)) c.loop-j.octets c.in_ok-came.came.octets c.loop-j.invariant.octets
@@ -143,27 +147,28 @@ loop-j-preserved g c =
 
 pub returns-clause-parts : goal.returns-clause-parts
 returns-clause-parts g c =
+    let can = condition c.requires in
     let all : c.loop-j.j ≡ length c.args.members.now.items =
     omega (arith, c.loop-j-test.false, c.loop-j.auto.j-end, c.len-count.ensures, c.args.members.now.ok) in
-    all_sum c.args.g.now g.begun c.requires.1.1.1.1.sound c.requires.1.1.1.1.logs.are c.args.members.now.items
-    c.requires.1.1.1.1.learnt one_each c.loop-j.parts
+    all_sum c.args.g.now g.begun can.sound can.logs.are c.args.members.now.items can.learnt one_each c.loop-j.parts
     (c.loop-j.invariant.parts ∙ ap (λ n. gain_sum one_each g.begun (take n g.begun.members)) all)
     ∙ sum_ones g.begun
 
 pub returns-clause-octets : goal.returns-clause-octets
 returns-clause-octets g c =
+    let can = condition c.requires in
     let all : c.loop-j.j ≡ length c.args.members.now.items =
     omega (arith, c.loop-j-test.false, c.loop-j.auto.j-end, c.len-count.ensures, c.args.members.now.ok) in
-    all_sum c.args.g.now g.begun c.requires.1.1.1.1.sound c.requires.1.1.1.1.logs.are c.args.members.now.items
-    c.requires.1.1.1.1.learnt (size_of c.args.g.now (logs g.begun)) c.loop-j.octets
+    all_sum c.args.g.now g.begun can.sound can.logs.are c.args.members.now.items
+    can.learnt (size_of c.args.g.now (logs g.begun)) c.loop-j.octets
     (c.loop-j.invariant.octets
     ∙ ap (λ n. gain_sum (size_of c.args.g.now (logs g.begun)) g.begun (take n g.begun.members)) all)
 
 pub returns-clause-members : goal.returns-clause-members
 returns-clause-members g c =
+    let can = condition c.requires in
     let all : c.loop-j.j ≡ length c.args.members.now.items =
     omega (arith, c.loop-j-test.false, c.loop-j.auto.j-end, c.len-count.ensures, c.args.members.now.ok) in
-    gathered_all c.args.g.now g.begun c.requires.1.1.1.1.sound c.requires.1.1.1.1.logs.are c.args.members.now.items
-    c.requires.1.1.1.1.learnt c.loop-j.members.items
+    gathered_all c.args.g.now g.begun can.sound can.logs.are c.args.members.now.items can.learnt c.loop-j.members.items
     (subst (λ n. GatheredSoFar c.args.g.now g.begun c.args.members.now.items n c.loop-j.members.items) all
     c.loop-j.invariant.so_far)

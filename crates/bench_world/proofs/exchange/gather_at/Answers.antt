@@ -7,19 +7,22 @@ use Rattle.bench_world.specs.Truth.{TriedFew}
 use Rattle.bench_world.specs.Worlds.{nobody, alone_at, AreTrueMembers}
 use Rattle.bench_world.specs.Gathering.{NothingLeft}
 use Rattle.bench_world.proofs.PutBack.{put_at, put_changed, others_true}
+use Rattle.bench_world.proofs.Bounded.{condition}
 use Rattle.bench_world.proofs.exchange.gather_at.Goals as goal
 
 pub returns-clause-others : goal.returns-clause-others
 returns-clause-others g c =
+    let can = condition c.requires in
     put_changed c.args.members.now.items c.remove-member.new.self.items c.insert.new.self.items c.args.j
-    c.gather-kept.new.member c.requires.1.1.1.1.there
+    c.gather-kept.new.member can.there
     c.remove-member.ensures.items c.in-Ok.ensures.items
 
 pub gather-kept-requires : goal.gather-kept-requires
 gather-kept-requires g c κs within =
+    let can = condition c.requires in
     let here =
     c.remove-member.ensures.value
-    ∙ get_or_default c.args.members.now.items c.args.j c.remove-member.result nobody c.requires.1.1.1.1.there in (
+    ∙ get_or_default c.args.members.now.items c.args.j c.remove-member.result nobody can.there in (
       within.0,
       (
         within.1,
@@ -28,17 +31,17 @@ gather-kept-requires g c κs within =
           (
             c.requires.1.1.1.0,
             record {
-              workers = c.requires.1.1.1.1.workers;
-              logs = c.requires.1.1.1.1.logs;
+              workers = can.workers;
+              logs = can.logs;
               others =
                   subst (AreTrueMembers c.args.g.now g.logs) (sym c.as_slice.ensures.value)
                   (others_true c.args.g.now g.logs c.args.members.now.items c.remove-member.new.self.items c.args.j
-                  c.requires.1.1.1.1.members c.remove-member.ensures.items);
+                  can.members c.remove-member.ensures.items);
               loss = refl;
               truly =
                   subst (IsTrueMember c.args.g.now g.logs) (sym here)
-                  (c.requires.1.1.1.1.members c.args.j c.requires.1.1.1.1.there);
-              tried = subst TriedFew (sym here) (c.requires.1.1.1.1.tried c.args.j c.requires.1.1.1.1.there);
+                  (can.members c.args.j can.there);
+              tried = subst TriedFew (sym here) (can.tried c.args.j can.there);
             },
           ),
         ),
@@ -47,9 +50,10 @@ gather-kept-requires g c κs within =
 
 pub returns-clause-left : goal.returns-clause-left
 returns-clause-left g c =
+    let can = condition c.requires in
     let here =
     put_at c.args.members.now.items c.remove-member.new.self.items c.insert.new.self.items c.args.j
-    c.gather-kept.new.member c.requires.1.1.1.1.there c.remove-member.ensures.items c.in-Ok.ensures.items in
+    c.gather-kept.new.member can.there c.remove-member.ensures.items c.in-Ok.ensures.items in
     subst (λ (others : List Alone).
     OnOk c.gather-kept.result (NothingLeft others (alone_at c.insert.new.self.items c.args.j)))
     (c.as_slice.ensures.value ∙ c.remove-member.ensures.items)

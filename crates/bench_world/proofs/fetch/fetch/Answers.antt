@@ -3,58 +3,58 @@ use Rattle.std.specs.Prelude.{sum}
 use Rattle.repo_member.specs.Alone.{Fetched, alone_takes}
 use Rattle.bench_world.proofs.Phases.{few_jobs, count_jobs, can_be_tried, count_attempts, fetch_outcome, fetch_is}
 use Rattle.bench_world.proofs.Phases.{fetch_parts, fetch_octets, fetch_attempts}
+use Rattle.bench_world.proofs.Bounded.{condition}
 use Rattle.bench_world.proofs.fetch.fetch.Goals as goal
 
 pub phase-requires-clause-few : goal.phase-requires-clause-few
 phase-requires-clause-few g c κs within =
+    let can = condition c.requires in
     few_jobs (g.N.Net.passes c.args.link.now.net.now) c.args.g.now g.logs c.args.member.now c.args.link.now.others.now
-    c.args.link.now.asker c.args.link.now.loss c.requires.1.1.1.1.logs.are c.requires.1.1.1.1.truly
-    c.requires.1.1.1.1.others
-    c.requires.1.1.1.1.tried None c.deref.result.now (c.deref.ensures.value ∙ c.in_ok-jobs.ensures)
+    c.args.link.now.asker c.args.link.now.loss can.logs.are can.truly can.others
+    can.tried None c.deref.result.now (c.deref.ensures.value ∙ c.in_ok-jobs.ensures)
     c.members.result.now c.members.ensures.ring
 
 pub phase-requires-clause-jobs : goal.phase-requires-clause-jobs
 phase-requires-clause-jobs g c κs within =
+    let can = condition c.requires in
     can_be_tried (g.N.Net.passes c.args.link.now.net.now) c.args.g.now g.logs c.args.member.now
-    c.args.link.now.others.now c.args.link.now.asker c.args.link.now.loss c.requires.1.1.1.1.logs.are
-    c.requires.1.1.1.1.truly c.requires.1.1.1.1.others
-    c.requires.1.1.1.1.tried None c.deref.result.now (c.deref.ensures.value ∙ c.in_ok-jobs.ensures)
-    c.members.result.now c.members.ensures.ring c.args.tries c.requires.1.1.1.1.tries.1
+    c.args.link.now.others.now c.args.link.now.asker c.args.link.now.loss can.logs.are can.truly can.others
+    can.tried None c.deref.result.now (c.deref.ensures.value ∙ c.in_ok-jobs.ensures)
+    c.members.result.now c.members.ensures.ring c.args.tries can.tries.1
 
 pub take_outcome-requires-clause-few : goal.take_outcome-requires-clause-few
 take_outcome-requires-clause-few g c κs within =
+    let can = condition c.requires in
     few_jobs (g.N.Net.passes c.args.link.now.net.now) c.args.g.now g.logs c.args.member.now c.args.link.now.others.now
-    c.args.link.now.asker c.args.link.now.loss c.requires.1.1.1.1.logs.are c.requires.1.1.1.1.truly
-    c.requires.1.1.1.1.others
-    c.requires.1.1.1.1.tried None c.deref-2.result.now (c.deref-2.ensures.value ∙ c.in_ok-jobs.ensures)
+    c.args.link.now.asker c.args.link.now.loss can.logs.are can.truly can.others
+    can.tried None c.deref-2.result.now (c.deref-2.ensures.value ∙ c.in_ok-jobs.ensures)
     c.members.result.now c.members.ensures.ring
 
 pub take_outcome-requires-clause-outcome : goal.take_outcome-requires-clause-outcome
 take_outcome-requires-clause-outcome g c κs within =
+    let can = condition c.requires in
     fetch_outcome (g.N.Net.passes c.args.link.now.net.now) c.args.g.now g.logs c.args.member.now
-    c.args.link.now.others.now c.args.link.now.asker c.args.link.now.loss c.requires.1.1.1.1.logs.are
-    c.requires.1.1.1.1.truly c.requires.1.1.1.1.others
-    c.requires.1.1.1.1.tried None c.deref-2.result.now (c.deref-2.ensures.value ∙ c.in_ok-jobs.ensures)
+    c.args.link.now.others.now c.args.link.now.asker c.args.link.now.loss can.logs.are can.truly can.others
+    can.tried None c.deref-2.result.now (c.deref-2.ensures.value ∙ c.in_ok-jobs.ensures)
     c.members.result.now c.members.ensures.ring
-    c.args.tries c.requires.1.1.1.1.tries.1 c.deref.result.now (c.deref.ensures.value ∙ c.in_ok-jobs.ensures)
+    c.args.tries can.tries.1 c.deref.result.now (c.deref.ensures.value ∙ c.in_ok-jobs.ensures)
     c.in_ok-outcome.outcome.parts.items c.deref-3.result.now c.deref-3.ensures.value
     c.in_ok-outcome.outcome.attempts.items c.deref-4.result.now c.deref-4.ensures.value c.in_ok-outcome.ensures.first
 
 pub total-requires : goal.total-requires
 total-requires g c =
+    let can = condition c.requires in
     let few =
     few_jobs (g.N.Net.passes c.args.link.now.net.now) c.args.g.now g.logs c.args.member.now c.args.link.now.others.now
-    c.args.link.now.asker c.args.link.now.loss c.requires.1.1.1.1.logs.are c.requires.1.1.1.1.truly
-    c.requires.1.1.1.1.others
-    c.requires.1.1.1.1.tried None c.deref-2.result.now (c.deref-2.ensures.value ∙ c.in_ok-jobs.ensures)
+    c.args.link.now.asker c.args.link.now.loss can.logs.are can.truly can.others
+    can.tried None c.deref-2.result.now (c.deref-2.ensures.value ∙ c.in_ok-jobs.ensures)
     c.members.result.now c.members.ensures.ring in
     let many =
     count_attempts (g.N.Net.passes c.args.link.now.net.now) c.args.g.now g.logs c.args.member.now
-    c.args.link.now.others.now c.args.link.now.asker c.args.link.now.loss c.requires.1.1.1.1.logs.are
-    c.requires.1.1.1.1.truly c.requires.1.1.1.1.others
-    c.requires.1.1.1.1.tried None c.deref-2.result.now (c.deref-2.ensures.value ∙ c.in_ok-jobs.ensures)
+    c.args.link.now.others.now c.args.link.now.asker c.args.link.now.loss can.logs.are can.truly can.others
+    can.tried None c.deref-2.result.now (c.deref-2.ensures.value ∙ c.in_ok-jobs.ensures)
     c.members.result.now c.members.ensures.ring
-    c.args.tries c.requires.1.1.1.1.tries.1 c.deref.result.now (c.deref.ensures.value ∙ c.in_ok-jobs.ensures)
+    c.args.tries can.tries.1 c.deref.result.now (c.deref.ensures.value ∙ c.in_ok-jobs.ensures)
     c.in_ok-outcome.outcome.parts.items c.deref-3.result.now c.deref-3.ensures.value
     c.in_ok-outcome.outcome.attempts.items c.deref-4.result.now c.deref-4.ensures.value c.in_ok-outcome.ensures.first in
     let same : length c.deref-5.result.now ≡ length c.deref-4.result.now =
@@ -63,60 +63,60 @@ total-requires g c =
 
 pub returns-clause-new : goal.returns-clause-new
 returns-clause-new g c =
+    let can = condition c.requires in
     c.in_ok-kept.ensures.ok ∙ ap (λ (xs : List Fetched). alone_takes xs c.args.member.now)
     (fetch_is (g.N.Net.passes c.args.link.now.net.now) c.args.g.now g.logs c.args.member.now c.args.link.now.others.now
-    c.args.link.now.asker c.args.link.now.loss c.requires.1.1.1.1.logs.are c.requires.1.1.1.1.truly
-    c.requires.1.1.1.1.others
-    c.requires.1.1.1.1.tried None c.deref-2.result.now (c.deref-2.ensures.value ∙ c.in_ok-jobs.ensures)
+    c.args.link.now.asker c.args.link.now.loss can.logs.are can.truly can.others
+    can.tried None c.deref-2.result.now (c.deref-2.ensures.value ∙ c.in_ok-jobs.ensures)
     c.members.result.now c.members.ensures.ring
-    c.args.tries c.requires.1.1.1.1.tries.1 c.deref.result.now (c.deref.ensures.value ∙ c.in_ok-jobs.ensures)
+    c.args.tries can.tries.1 c.deref.result.now (c.deref.ensures.value ∙ c.in_ok-jobs.ensures)
     c.in_ok-outcome.outcome.parts.items c.deref-3.result.now c.deref-3.ensures.value
     c.in_ok-outcome.outcome.attempts.items c.deref-4.result.now c.deref-4.ensures.value c.in_ok-outcome.ensures.first)
 
 pub returns-clause-planned : goal.returns-clause-planned
 returns-clause-planned g c =
+    let can = condition c.requires in
     let count =
     count_jobs (g.N.Net.passes c.args.link.now.net.now) c.args.g.now g.logs c.args.member.now c.args.link.now.others.now
-    c.args.link.now.asker c.args.link.now.loss c.requires.1.1.1.1.logs.are c.requires.1.1.1.1.truly
-    c.requires.1.1.1.1.others
-    c.requires.1.1.1.1.tried None c.deref-2.result.now (c.deref-2.ensures.value ∙ c.in_ok-jobs.ensures)
+    c.args.link.now.asker c.args.link.now.loss can.logs.are can.truly can.others
+    can.tried None c.deref-2.result.now (c.deref-2.ensures.value ∙ c.in_ok-jobs.ensures)
     c.members.result.now c.members.ensures.ring in
     let same : length c.deref-2.result.now ≡ length c.in_ok-jobs.jobs.items = ap length c.deref-2.ensures.value in
     omega (arith, count, same, c.in_ok-jobs.jobs.ok)
 
 pub returns-clause-parts : goal.returns-clause-parts
 returns-clause-parts g c =
+    let can = condition c.requires in
     c.in_ok-kept.ensures.parts
     ∙ fetch_parts (g.N.Net.passes c.args.link.now.net.now) c.args.g.now g.logs c.args.member.now
-    c.args.link.now.others.now c.args.link.now.asker c.args.link.now.loss c.requires.1.1.1.1.logs.are
-    c.requires.1.1.1.1.truly c.requires.1.1.1.1.others
-    c.requires.1.1.1.1.tried None c.deref-2.result.now (c.deref-2.ensures.value ∙ c.in_ok-jobs.ensures)
+    c.args.link.now.others.now c.args.link.now.asker c.args.link.now.loss can.logs.are can.truly can.others
+    can.tried None c.deref-2.result.now (c.deref-2.ensures.value ∙ c.in_ok-jobs.ensures)
     c.members.result.now c.members.ensures.ring
-    c.args.tries c.requires.1.1.1.1.tries.1 c.deref.result.now (c.deref.ensures.value ∙ c.in_ok-jobs.ensures)
+    c.args.tries can.tries.1 c.deref.result.now (c.deref.ensures.value ∙ c.in_ok-jobs.ensures)
     c.in_ok-outcome.outcome.parts.items c.deref-3.result.now c.deref-3.ensures.value
     c.in_ok-outcome.outcome.attempts.items c.deref-4.result.now c.deref-4.ensures.value c.in_ok-outcome.ensures.first
 
 pub returns-clause-octets : goal.returns-clause-octets
 returns-clause-octets g c =
+    let can = condition c.requires in
     c.in_ok-kept.ensures.octets
     ∙ fetch_octets (g.N.Net.passes c.args.link.now.net.now) c.args.g.now g.logs c.args.member.now
-    c.args.link.now.others.now c.args.link.now.asker c.args.link.now.loss c.requires.1.1.1.1.logs.are
-    c.requires.1.1.1.1.truly c.requires.1.1.1.1.others
-    c.requires.1.1.1.1.tried None c.deref-2.result.now (c.deref-2.ensures.value ∙ c.in_ok-jobs.ensures)
+    c.args.link.now.others.now c.args.link.now.asker c.args.link.now.loss can.logs.are can.truly can.others
+    can.tried None c.deref-2.result.now (c.deref-2.ensures.value ∙ c.in_ok-jobs.ensures)
     c.members.result.now c.members.ensures.ring
-    c.args.tries c.requires.1.1.1.1.tries.1 c.deref.result.now (c.deref.ensures.value ∙ c.in_ok-jobs.ensures)
+    c.args.tries can.tries.1 c.deref.result.now (c.deref.ensures.value ∙ c.in_ok-jobs.ensures)
     c.in_ok-outcome.outcome.parts.items c.deref-3.result.now c.deref-3.ensures.value
     c.in_ok-outcome.outcome.attempts.items c.deref-4.result.now c.deref-4.ensures.value c.in_ok-outcome.ensures.first
 
 pub returns-clause-attempts : goal.returns-clause-attempts
 returns-clause-attempts g c =
+    let can = condition c.requires in
     c.total.ensures
     ∙ ap sum (c.deref-5.ensures.value ∙ sym c.deref-4.ensures.value
     ∙ fetch_attempts (g.N.Net.passes c.args.link.now.net.now) c.args.g.now g.logs c.args.member.now
-    c.args.link.now.others.now c.args.link.now.asker c.args.link.now.loss c.requires.1.1.1.1.logs.are
-    c.requires.1.1.1.1.truly c.requires.1.1.1.1.others
-    c.requires.1.1.1.1.tried None c.deref-2.result.now (c.deref-2.ensures.value ∙ c.in_ok-jobs.ensures)
+    c.args.link.now.others.now c.args.link.now.asker c.args.link.now.loss can.logs.are can.truly can.others
+    can.tried None c.deref-2.result.now (c.deref-2.ensures.value ∙ c.in_ok-jobs.ensures)
     c.members.result.now c.members.ensures.ring
-    c.args.tries c.requires.1.1.1.1.tries.1 c.deref.result.now (c.deref.ensures.value ∙ c.in_ok-jobs.ensures)
+    c.args.tries can.tries.1 c.deref.result.now (c.deref.ensures.value ∙ c.in_ok-jobs.ensures)
     c.in_ok-outcome.outcome.parts.items c.deref-3.result.now c.deref-3.ensures.value
     c.in_ok-outcome.outcome.attempts.items c.deref-4.result.now c.deref-4.ensures.value c.in_ok-outcome.ensures.first)

@@ -5,41 +5,42 @@ use Rattle.repo_member.specs.Alone.{Fetched, alone_takes}
 use Rattle.bench_world.specs.Gathering.{next_parts}
 use Rattle.bench_world.proofs.Phases.{few_jobs, can_be_tried, planned_place, gain_outcome, gain_is, gain_parts}
 use Rattle.bench_world.proofs.Phases.{gain_octets}
+use Rattle.bench_world.proofs.Bounded.{condition}
 use Rattle.bench_world.proofs.gather.gain_phase.Goals as goal
 
 pub phase-requires-clause-few : goal.phase-requires-clause-few
 phase-requires-clause-few g c κs within =
+    let can = condition c.requires in
     few_jobs (g.N.Net.passes c.args.link.now.net.now) c.args.g.now g.logs c.args.member.now c.args.link.now.others.now
-    c.args.link.now.asker c.args.link.now.loss c.requires.1.1.1.1.logs.are c.requires.1.1.1.1.truly
-    c.requires.1.1.1.1.others
-    c.requires.1.1.1.1.tried c.args.after c.deref-2.result.now (c.deref-2.ensures.value ∙ c.in_ok-jobs.ensures)
+    c.args.link.now.asker c.args.link.now.loss can.logs.are can.truly can.others
+    can.tried c.args.after c.deref-2.result.now (c.deref-2.ensures.value ∙ c.in_ok-jobs.ensures)
     c.members.result.now c.members.ensures.ring
 
 pub phase-requires-clause-jobs : goal.phase-requires-clause-jobs
 phase-requires-clause-jobs g c κs within =
+    let can = condition c.requires in
     can_be_tried (g.N.Net.passes c.args.link.now.net.now) c.args.g.now g.logs c.args.member.now
-    c.args.link.now.others.now c.args.link.now.asker c.args.link.now.loss c.requires.1.1.1.1.logs.are
-    c.requires.1.1.1.1.truly c.requires.1.1.1.1.others
-    c.requires.1.1.1.1.tried c.args.after c.deref-2.result.now (c.deref-2.ensures.value ∙ c.in_ok-jobs.ensures)
+    c.args.link.now.others.now c.args.link.now.asker c.args.link.now.loss can.logs.are can.truly can.others
+    can.tried c.args.after c.deref-2.result.now (c.deref-2.ensures.value ∙ c.in_ok-jobs.ensures)
     c.members.result.now c.members.ensures.ring 1 (omega arith)
 
 pub take_outcome-requires-clause-few : goal.take_outcome-requires-clause-few
 take_outcome-requires-clause-few g c κs within =
+    let can = condition c.requires in
     few_jobs (g.N.Net.passes c.args.link.now.net.now) c.args.g.now g.logs c.args.member.now c.args.link.now.others.now
-    c.args.link.now.asker c.args.link.now.loss c.requires.1.1.1.1.logs.are c.requires.1.1.1.1.truly
-    c.requires.1.1.1.1.others
-    c.requires.1.1.1.1.tried c.args.after c.deref-3.result.now (c.deref-3.ensures.value ∙ c.in_ok-jobs.ensures)
+    c.args.link.now.asker c.args.link.now.loss can.logs.are can.truly can.others
+    can.tried c.args.after c.deref-3.result.now (c.deref-3.ensures.value ∙ c.in_ok-jobs.ensures)
     c.members.result.now c.members.ensures.ring
 
 pub take_outcome-requires-clause-outcome : goal.take_outcome-requires-clause-outcome
 take_outcome-requires-clause-outcome g c κs within =
+    let can = condition c.requires in
     let long : length c.deref-3.result.now ≡ c.len.result = c.deref-3.ensures.len ∙ sym c.len.ensures in
     gain_outcome (g.N.Net.passes c.args.link.now.net.now) c.args.g.now g.logs c.args.member.now
-    c.args.link.now.others.now c.args.link.now.asker c.args.link.now.loss c.requires.1.1.1.1.logs.are
-    c.requires.1.1.1.1.truly c.requires.1.1.1.1.others
-    c.requires.1.1.1.1.tried c.args.after c.deref-3.result.now (c.deref-3.ensures.value ∙ c.in_ok-jobs.ensures)
+    c.args.link.now.others.now c.args.link.now.asker c.args.link.now.loss can.logs.are can.truly can.others
+    can.tried c.args.after c.deref-3.result.now (c.deref-3.ensures.value ∙ c.in_ok-jobs.ensures)
     c.members.result.now c.members.ensures.ring
-    c.requires.1.1.1.1.loss c.deref-2.result.now (c.deref-2.ensures.value ∙ c.in_ok-jobs.ensures)
+    can.loss c.deref-2.result.now (c.deref-2.ensures.value ∙ c.in_ok-jobs.ensures)
     c.in_ok-outcome.outcome.parts.items c.deref-4.result.now c.deref-4.ensures.value
     c.in_ok-outcome.outcome.attempts.items c.in_ok-outcome.ensures.first c.deref-5.result.now
     (c.deref-5.ensures.value ∙ c.in_ok-attempts.ensures.items_if_clones_equal (λ y e. e)
@@ -47,14 +48,14 @@ take_outcome-requires-clause-outcome g c κs within =
 
 pub returns-clause-new : goal.returns-clause-new
 returns-clause-new g c =
+    let can = condition c.requires in
     let long : length c.deref-3.result.now ≡ c.len.result = c.deref-3.ensures.len ∙ sym c.len.ensures in
     c.in_ok-kept.ensures.ok ∙ ap (λ (xs : List Fetched). alone_takes xs c.args.member.now)
     (gain_is (g.N.Net.passes c.args.link.now.net.now) c.args.g.now g.logs c.args.member.now c.args.link.now.others.now
-    c.args.link.now.asker c.args.link.now.loss c.requires.1.1.1.1.logs.are c.requires.1.1.1.1.truly
-    c.requires.1.1.1.1.others
-    c.requires.1.1.1.1.tried c.args.after c.deref-3.result.now (c.deref-3.ensures.value ∙ c.in_ok-jobs.ensures)
+    c.args.link.now.asker c.args.link.now.loss can.logs.are can.truly can.others
+    can.tried c.args.after c.deref-3.result.now (c.deref-3.ensures.value ∙ c.in_ok-jobs.ensures)
     c.members.result.now c.members.ensures.ring
-    c.requires.1.1.1.1.loss c.deref-2.result.now (c.deref-2.ensures.value ∙ c.in_ok-jobs.ensures)
+    can.loss c.deref-2.result.now (c.deref-2.ensures.value ∙ c.in_ok-jobs.ensures)
     c.in_ok-outcome.outcome.parts.items c.deref-4.result.now c.deref-4.ensures.value
     c.in_ok-outcome.outcome.attempts.items c.in_ok-outcome.ensures.first c.deref-5.result.now
     (c.deref-5.ensures.value ∙ c.in_ok-attempts.ensures.items_if_clones_equal (λ y e. e)
@@ -62,24 +63,24 @@ returns-clause-new g c =
 
 pub returns-clause-place : goal.returns-clause-place
 returns-clause-place g c =
+    let can = condition c.requires in
     ap (contains part_cmp (next_parts c.args.after c.args.member.now)) c.part-place.ensures
     ∙ planned_place (g.N.Net.passes c.args.link.now.net.now) c.args.g.now g.logs c.args.member.now
-    c.args.link.now.others.now c.args.link.now.asker c.args.link.now.loss c.requires.1.1.1.1.logs.are
-    c.requires.1.1.1.1.truly c.requires.1.1.1.1.others
-    c.requires.1.1.1.1.tried c.args.after c.deref.result.now (c.deref.ensures.value ∙ c.in_ok-jobs.ensures)
+    c.args.link.now.others.now c.args.link.now.asker c.args.link.now.loss can.logs.are can.truly can.others
+    can.tried c.args.after c.deref.result.now (c.deref.ensures.value ∙ c.in_ok-jobs.ensures)
     c.members.result.now c.members.ensures.ring
     c.in-Some.last.now (length c.deref.result.now - 1) (sym c.in-Some.ensures.value)
 
 pub returns-clause-parts : goal.returns-clause-parts
 returns-clause-parts g c =
+    let can = condition c.requires in
     let long : length c.deref-3.result.now ≡ c.len.result = c.deref-3.ensures.len ∙ sym c.len.ensures in
     c.in_ok-kept.ensures.parts
     ∙ gain_parts (g.N.Net.passes c.args.link.now.net.now) c.args.g.now g.logs c.args.member.now
-    c.args.link.now.others.now c.args.link.now.asker c.args.link.now.loss c.requires.1.1.1.1.logs.are
-    c.requires.1.1.1.1.truly c.requires.1.1.1.1.others
-    c.requires.1.1.1.1.tried c.args.after c.deref-3.result.now (c.deref-3.ensures.value ∙ c.in_ok-jobs.ensures)
+    c.args.link.now.others.now c.args.link.now.asker c.args.link.now.loss can.logs.are can.truly can.others
+    can.tried c.args.after c.deref-3.result.now (c.deref-3.ensures.value ∙ c.in_ok-jobs.ensures)
     c.members.result.now c.members.ensures.ring
-    c.requires.1.1.1.1.loss c.deref-2.result.now (c.deref-2.ensures.value ∙ c.in_ok-jobs.ensures)
+    can.loss c.deref-2.result.now (c.deref-2.ensures.value ∙ c.in_ok-jobs.ensures)
     c.in_ok-outcome.outcome.parts.items c.deref-4.result.now c.deref-4.ensures.value
     c.in_ok-outcome.outcome.attempts.items c.in_ok-outcome.ensures.first c.deref-5.result.now
     (c.deref-5.ensures.value ∙ c.in_ok-attempts.ensures.items_if_clones_equal (λ y e. e)
@@ -87,14 +88,14 @@ returns-clause-parts g c =
 
 pub returns-clause-octets : goal.returns-clause-octets
 returns-clause-octets g c =
+    let can = condition c.requires in
     let long : length c.deref-3.result.now ≡ c.len.result = c.deref-3.ensures.len ∙ sym c.len.ensures in
     c.in_ok-kept.ensures.octets
     ∙ gain_octets (g.N.Net.passes c.args.link.now.net.now) c.args.g.now g.logs c.args.member.now
-    c.args.link.now.others.now c.args.link.now.asker c.args.link.now.loss c.requires.1.1.1.1.logs.are
-    c.requires.1.1.1.1.truly c.requires.1.1.1.1.others
-    c.requires.1.1.1.1.tried c.args.after c.deref-3.result.now (c.deref-3.ensures.value ∙ c.in_ok-jobs.ensures)
+    c.args.link.now.others.now c.args.link.now.asker c.args.link.now.loss can.logs.are can.truly can.others
+    can.tried c.args.after c.deref-3.result.now (c.deref-3.ensures.value ∙ c.in_ok-jobs.ensures)
     c.members.result.now c.members.ensures.ring
-    c.requires.1.1.1.1.loss c.deref-2.result.now (c.deref-2.ensures.value ∙ c.in_ok-jobs.ensures)
+    can.loss c.deref-2.result.now (c.deref-2.ensures.value ∙ c.in_ok-jobs.ensures)
     c.in_ok-outcome.outcome.parts.items c.deref-4.result.now c.deref-4.ensures.value
     c.in_ok-outcome.outcome.attempts.items c.in_ok-outcome.ensures.first c.deref-5.result.now
     (c.deref-5.ensures.value ∙ c.in_ok-attempts.ensures.items_if_clones_equal (λ y e. e)

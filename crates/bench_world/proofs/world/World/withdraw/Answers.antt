@@ -61,13 +61,13 @@ invariant_of-self-2 g c =
     let sent =
     sent_is s c.self.invariant c.args.m there old c.index_mut-member.ensures.value c.withdraw.new.self
     (g.D.Draws.draw c.args.draws.now) c.draw-draw.result n_is (Withdraws c.args.s) c.in-Ok.ensures.ok
-    c.add_reserved-k.new.self.packets c.reserve.new.self.packets c.in_ok-vector.vector.items c.in-Ok.published.seq
+    c.add_reserved-sync.new.self.packets c.reserve.new.self.packets c.in_ok-vector.vector.items c.in-Ok.published.seq
     c.in-Ok.published.sync.items (ap (λ x. x.packets) c.in_ok-reserve.ensures.ok)
     (c.in_ok-vector.ensures ∙ c.vector.ensures.known)
-    c.in-Ok.ensures.seq c.in-Ok.ensures.sync c.add_reserved-k.ensures.sent in
+    c.in-Ok.ensures.seq c.in-Ok.ensures.sync c.add_reserved-sync.ensures.sent in
     state_sent s c.self.invariant c.args.m there old c.index_mut-member.ensures.value c.withdraw.new.self
     (g.D.Draws.draw c.args.draws.now) c.draw-draw.result n_is (Withdraws c.args.s) c.in-Ok.ensures.ok few post room
-    c.add_reserved-k.new.self.packets sent
+    c.add_reserved-sync.new.self.packets sent
 
 pub returns : goal.returns
 returns g c =
@@ -82,10 +82,10 @@ returns g c =
     let sent =
     sent_is s c.self.invariant c.args.m there old c.index_mut-member.ensures.value c.withdraw.new.self
     (g.D.Draws.draw c.args.draws.now) c.draw-draw.result n_is (Withdraws c.args.s) c.in-Ok.ensures.ok
-    c.add_reserved-k.new.self.packets c.reserve.new.self.packets c.in_ok-vector.vector.items c.in-Ok.published.seq
+    c.add_reserved-sync.new.self.packets c.reserve.new.self.packets c.in_ok-vector.vector.items c.in-Ok.published.seq
     c.in-Ok.published.sync.items (ap (λ x. x.packets) c.in_ok-reserve.ensures.ok)
     (c.in_ok-vector.ensures ∙ c.vector.ensures.known)
-    c.in-Ok.ensures.seq c.in-Ok.ensures.sync c.add_reserved-k.ensures.sent in
+    c.in-Ok.ensures.seq c.in-Ok.ensures.sync c.add_reserved-sync.ensures.sent in
     let seq : c.from.result ≡ next_seq_at (world_of c.args.self.now) c.args.m =
     c.from.ensures
     ∙ seq_is s c.self.invariant c.args.m there old c.index_mut-member.ensures.value c.in-Ok.published.seq
@@ -93,7 +93,7 @@ returns g c =
     ∙ ap (λ (x : GroupState). next_seq_at (world_of x) c.args.m) c.self.view_is in
     let many = length-map s.sent sync_in in
     let sync : c.from-3.result ≡ next_sync (world_of c.args.self.now) =
-    c.from-3.ensures ∙ c.add_reserved-k.ensures.number ∙ ap (λ x. length x.packets + 1) c.in_ok-reserve.ensures.ok
+    c.from-3.ensures ∙ c.add_reserved-sync.ensures.number ∙ ap (λ x. length x.packets + 1) c.in_ok-reserve.ensures.ok
     ∙ ap (λ (n : _). n + 1) (sym many)
     ∙ ap (λ (x : GroupState). next_sync (world_of x)) c.self.view_is in
     record {
@@ -105,7 +105,7 @@ returns g c =
       world =
           world_sent s c.self.invariant c.args.m there old c.index_mut-member.ensures.value c.withdraw.new.self
           (g.D.Draws.draw c.args.draws.now) c.draw-draw.result n_is (Withdraws c.args.s) c.in-Ok.ensures.ok
-          c.add_reserved-k.new.self.packets sent
+          c.add_reserved-sync.new.self.packets sent
           ∙ ap (λ (x : GroupState). after_event (drawing (g.D.Draws.draw c.args.draws.now)) (world_of x) event)
           c.self.view_is;
       told = λ i. Told.Withdraw c.args.m (seq i) (c.from-2.ensures i) (sync i);
