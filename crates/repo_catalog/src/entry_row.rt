@@ -98,8 +98,7 @@ impl EntryRow {
         ensures capacity { self.old.capacity ≤ self.new.capacity }
     {
         close(&mut self.all, &mut self.gone);
-        self.all
-            .retain(|entry| !is_among(publications, (entry.publisher, entry.seq)));
+        self.all.retain(|entry| !is_among(publications, (entry.publisher, entry.seq)));
     }
 
     // Adds entries that are in order, as `merge` does.

@@ -7,8 +7,8 @@ ghost use Rattle.repo_catalog.specs.NameKeys.{Key, key_cmp, key_of, hash_of, IsF
 
 use crate::entry::Entry;
 use ndn_name::NameView;
-use sorted_lists::SortedMap;
 use sha2::{Digest, Sha256};
+use sorted_lists::SortedMap;
 use std::alloc::{AllocError, Global};
 use std::marker::Model;
 
