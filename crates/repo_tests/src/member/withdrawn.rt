@@ -1,6 +1,4 @@
 // What a member withdraws, and what it holds and lists then.
-ghost use Rattle.std.specs.Prelude.{◌≡◌, length};
-
 use super::commands::with_carl;
 use super::worked::{DELETE_DOC, SECOND_FROM_ALICE};
 use super::{ALICE, DRAW, member, node_name, ready, three_members};
