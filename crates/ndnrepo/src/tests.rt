@@ -6,6 +6,7 @@ mod events;
 mod faults;
 mod generated;
 mod inspected;
+mod interrupted;
 mod joined;
 mod kinds;
 mod refused;

@@ -3,9 +3,9 @@ ghost use Rattle.std.specs.Io.KnownBytes.{Consumes, IsAtEnd, Keeps};
 ghost use Rattle.repo_top.specs.InMemory.{one_more};
 ghost use Rattle.repo_top.specs.Outside.{HasRisen};
 
-use crate::failed::Failed;
+use crate::failed::{Failed, TRIES};
 use crate::source::Source;
-use std::io::Read;
+use std::io::{ErrorKind, Read};
 use std::marker::Model;
 
 /// A source over a reader. It tells what the reader tells of its octets: a slice all of them, standard input nothing.
@@ -48,10 +48,27 @@ impl<R: Read> Source for ReadSource<R> {
         ensures counted { self.new.faults
             ≡ (if is_ok result then self.old.faults else one_more self.old.faults) }
     {
-        let read = self.reader.read(buf);
+        let read = read_again(&mut self.reader, buf);
         if read.is_err() {
             self.faults = self.faults.saturating_add(1);
         }
-        read.map_err(|_| Failed)
+        read
     }
+}
+
+// Reads once, and again where a signal interrupts it.
+fn read_again<R: Read>(reader: &mut R, buf: &mut [u8]) -> Result<usize, Failed>
+    ensures count { IfOk result (λ n. n ≤ length buf.old) }
+    ensures taken { IfOk result (λ n. Consumes (R.remaining reader.old) (R.remaining reader.new) (take n buf.new)) }
+    ensures end { result ≡ Ok 0 → 0 < length buf.old → IsAtEnd (R.remaining reader.new) }
+    ensures failed { OnErr result (Keeps (R.remaining reader.old) (R.remaining reader.new)) }
+{
+    for _ in 0..TRIES {
+        match reader.read(buf) {
+            Ok(n) => return Ok(n),
+            Err(e) if e.kind() == ErrorKind::Interrupted => {}
+            Err(_) => return Err(Failed),
+        }
+    }
+    Err(Failed)
 }
