@@ -15,8 +15,7 @@ to the run that makes no more. The kinds, all of them unless some are named:
               written the report of the lines that were read whole.
     writes    the output, which goes by pieces of 8 octets, can't be written from here on. The run ends with 4, and
               has written a front of the report, and not all.
-    signals   a signal interrupts one read or write. The run ends as without it, or with 3 or 4 and a front of the
-              report.
+    signals   a signal interrupts one read or write, which is made again. The run ends as without it.
 
 Without scripts it takes three short ones and tools/every_line.script, which has every kind of line. A row tells of
 each kind and script how many requests there were, how many were refused, and how those runs ended; the status of this
@@ -191,8 +190,6 @@ class Trial:
             return said == READ_FAULT and (0, wrote) == self.plain(whole)
         if kind == "writes":
             return said == WRITE_FAULT and report.startswith(wrote) and len(wrote) < len(report)
-        if kind == "signals" and said in (READ_FAULT, WRITE_FAULT):
-            return report.startswith(wrote)
         return (said, wrote) == (status, report)
 
     def refuse_each(self, kind, name, script):
