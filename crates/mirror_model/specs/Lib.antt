@@ -1,0 +1,11 @@
+pub use Rattle.repo_watch.specs.Patterns
+pub use Rattle.group_model.specs.Publications
+pub use Rattle.group_model.specs.Member
+pub use Rattle.group_model.specs.World
+pub use Rattle.group_model.specs.Steps
+pub use Rattle.group_model.specs.Sound
+pub use Rattle.group_model.specs.Wanted
+pub use Rattle.group_model.specs.Laws
+pub mod Asked
+pub mod Mirrors
+pub mod MirrorLaws

@@ -1,0 +1,212 @@
+// What mirrors fetch of alice's publications, and what they list then.
+ghost use Rattle.std.specs.Prelude.{◌≡◌, ◌<◌, ◌≤◌, ◌∷◌, [], length, slice_get, Some, IfSome, Option};
+ghost use Rattle.repo_member.specs.Groups.{IsPlainNodeName};
+ghost use Rattle.repo_holdings.specs.Wanting.{AreShortNames};
+ghost use Rattle.repo_mirror.specs.MirrorOutcomes.{IsMirrorOutcome};
+ghost use Rattle.repo_object.specs.Verdict.{CheckedPart};
+ghost use Rattle.repo_object.specs.declared.job.Job.{Job};
+ghost use Rattle.repo_watch.specs.Patterns.{accepts, is_publisher, begins_with};
+
+use crate::packets::{RECORD, SEGMENT, WITHDRAWAL};
+use ndn_name::Name;
+use ndn_sign::KeyRing;
+use repo_member::Group;
+use repo_mirror::{Mirror, planned_jobs_can_be_taken};
+use repo_object::{Checked, Job, NODE_NAME_LIMIT, check_part, is_object_name};
+use repo_plan::Part;
+use repo_watch::{Filter, Pattern};
+use std::process::Abort;
+use std::test::*;
+use svs_vector::Vector;
+
+const ALICE: u32 = 0;
+
+const BOB: u32 = 1;
+
+// The name of a group or a node.
+#[tactic(auto, using(crate::proofs::NodeNames::plain))]
+fn node_name(rt: &(impl Abort + AllocGlobal), text: &str) -> Name
+    ensures { IsPlainNodeName result }
+{
+    let name = Name::from_uri(rt.alloc(), text).expect(rt, "a name");
+    assert!(rt; is_object_name(&name.view()));
+    assert!(rt; name.octets().len() <= NODE_NAME_LIMIT);
+    name
+}
+
+// The group "/g" of alice and bob.
+fn two_members(rt: &(impl Abort + AllocGlobal)) -> Group {
+    let mut g = Group::new(rt.alloc(), &node_name(rt, "/g")).expect(rt, "memory");
+    assert_eq!(rt; g.add_member(&node_name(rt, "/alice"), b"k1"), Ok(ALICE));
+    assert_eq!(rt; g.add_member(&node_name(rt, "/bob"), b"k2"), Ok(BOB));
+    g
+}
+
+// Whether the pattern is for the publisher's object of this name.
+fn is_for(pattern: &Pattern, publisher: u32, name: &Name) -> bool
+    ensures { result ≡ accepts pattern.now publisher name.now }
+{
+    is_publisher(pattern.publisher, publisher) && begins_with(&pattern.prefix, name)
+}
+
+fn is_publisher(asked: Option<u32>, publisher: u32) -> bool
+    ensures { result ≡ is_publisher asked publisher }
+{
+    match asked {
+        None => true,
+        Some(asked) => asked == publisher,
+    }
+}
+
+fn begins_with(prefix: &Name, name: &Name) -> bool
+    ensures { result ≡ begins_with prefix.now name.now }
+{
+    prefix.view().is_prefix_of(&name.view())
+}
+
+// A part of alice's publication `seq`.
+const fn part(seq: u16, part: u16) -> Part {
+    Part {
+        publisher: ALICE,
+        seq,
+        part,
+    }
+}
+
+// The packet of that part: the first publication is an object of one segment, and the second withdraws it.
+fn packet(part: Part) -> &'static [u8] {
+    if part.seq == 2 {
+        return &WITHDRAWAL;
+    }
+    if part.part == 0 {
+        return &RECORD;
+    }
+    &SEGMENT
+}
+
+// A mirror of the group that was told of two publications of alice.
+fn told_mirror(rt: &(impl Abort + AllocGlobal), publisher: Option<u32>, prefix: &str) -> Mirror {
+    let prefix = Name::from_uri(rt.alloc(), prefix).expect(rt, "a name");
+    let mut mirror = Mirror::new(rt.alloc(), 2, Pattern { publisher, prefix }).expect(rt, "memory");
+    let mut told = Vector::new(rt.alloc(), 2).expect(rt, "memory");
+    told.raise(ALICE, 2);
+    assert!(rt; told.members() == mirror.vector().members());
+    mirror.learn(&told);
+    assert!(rt; mirror.vector().members() == 2);
+    assert_eq!(rt;
+        (mirror.vector().get(ALICE), mirror.vector().get(BOB)),
+        (2, 0)
+    );
+    mirror
+}
+
+// The names that a mirror plans by are short, and there is one for each number that it knows.
+fn ready(rt: &impl Abort, g: &Group, mirror: &Mirror)
+    ensures width { length g.now.members.names ≡ length mirror.now.known }
+    ensures names { AreShortNames g.now.members.names g.now.name }
+{
+    assert!(rt; g.roster().len() == mirror.vector().members());
+}
+
+// What comes for a job: its packet, unless it is lost.
+fn checked<'p>(
+    job: &'p Job,
+    octets: &'p [u8],
+    ring: &'p KeyRing,
+    is_lost: bool,
+) -> Option<Checked<'p>>
+    requires { job.now.want.part.publisher < length ring.now }
+    ensures { IfSome result (λ c. c.want ≡ job.now.want) }
+{
+    if is_lost {
+        return None;
+    }
+    check_part(&job.want, octets, ring).ok()
+}
+
+// Takes what comes of the first of these jobs. The answer is how many parts came.
+fn take_first<'p>(
+    rt: &(impl Abort + AllocGlobal),
+    filter: &Filter,
+    mirror: &mut Mirror,
+    jobs: &'p [Job],
+    octets: &'p [u8],
+    ring: &'p KeyRing,
+    is_lost: bool,
+) -> Option<u32>
+    requires outcome { (job : Job) (part : Option CheckedPart) → slice_get jobs.now 0 ≡ Some job
+        → IfSome part (λ c. c.want ≡ job.want) → IsMirrorOutcome mirror.old jobs.now (part ∷ []) (3 ∷ []) }
+    requires few { length jobs.now ≤ 1 }
+{
+    let job = jobs.first()?;
+    assert!(rt; (job.want.part().publisher as usize) < ring.len());
+    let part = checked(job, octets, ring, is_lost);
+    let came = mirror.take_outcome(rt.alloc(), filter, jobs, &[part], &[3]);
+    Some(came.expect(rt, "memory"))
+}
+
+fn few_tries(rt: &impl Abort, job: &Job)
+    ensures { job.now.base < 1000 }
+{
+    assert!(rt; job.base < 1000);
+}
+
+// Takes what comes of the next job, if there is one. The answer is the part, the attempts before, and how many parts
+// came.
+fn fetch_next(
+    rt: &(impl Abort + AllocGlobal),
+    g: &Group,
+    filter: &Filter,
+    mirror: &mut Mirror,
+    is_lost: bool,
+) -> Option<(Part, u32, u32)> {
+    // Called for its clause alone.
+    planned_jobs_can_be_taken();
+    ready(rt, g, mirror);
+    let jobs = mirror
+        .plan(rt.alloc(), g.roster(), g.name(), None, 1)
+        .expect(rt, "memory");
+    let job = jobs.first()?;
+    few_tries(rt, job);
+    let (part, base) = (job.want.part(), job.base);
+    let came = take_first(
+        rt,
+        filter,
+        mirror,
+        &jobs,
+        packet(part),
+        g.members(),
+        is_lost,
+    )?;
+    Some((part, base, came))
+}
+
+// The parts that come one after another, with the number of entries then.
+fn compare_parts(rt: &(impl Abort + AllocGlobal), mirror: &mut Mirror, parts: &[(Part, usize)]) {
+    let g = two_members(rt);
+    let filter = Filter::new(|pattern: &Pattern, publisher: u32, name: &Name| {
+        is_for(pattern, publisher, name)
+    });
+    for (part, entries) in parts {
+        let lost = fetch_next(rt, &g, &filter, mirror, true);
+        assert_eq!(rt; lost, Some((*part, 0, 0)));
+        let came = fetch_next(rt, &g, &filter, mirror, false);
+        assert_eq!(rt; came, Some((*part, 3, 1)));
+        assert_eq!(rt; mirror.catalogue().entries().len(), *entries);
+    }
+    assert_eq!(rt; fetch_next(rt, &g, &filter, mirror, false), None);
+}
+
+#[test]
+fn mirrors_fetch_what_their_pattern_is_for(rt: HostRuntime) {
+    let object = [(part(1, 0), 0), (part(1, 1), 1), (part(2, 0), 0)];
+    compare_parts(&rt, &mut told_mirror(&rt, Some(ALICE), "/doc"), &object);
+    compare_parts(&rt, &mut told_mirror(&rt, None, "/"), &object);
+}
+
+#[test]
+fn mirrors_pass_over_other_objects(rt: HostRuntime) {
+    let records = [(part(1, 0), 0), (part(2, 0), 0)];
+    compare_parts(&rt, &mut told_mirror(&rt, None, "/x"), &records);
+    compare_parts(&rt, &mut told_mirror(&rt, Some(BOB), "/doc"), &[]);
+}

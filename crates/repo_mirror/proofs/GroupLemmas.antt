@@ -1,0 +1,89 @@
+-- A mirror as its group has it.
+use Rattle.std.proofs.Common.{◌≡◌, ℕ, zero, suc, true, List, get_or, length, replicate, refl, sym}
+use Rattle.std.proofs.Common.{◌∙◌}
+use Rattle.std.proofs.Common.{subst, arith}
+use Rattle.std.specs.Prelude.{◌↔◌}
+use Rattle.std.proofs.lemmas.List.{length-replicate}
+use Rattle.svs_vector.specs.Vectors.{join}
+use Rattle.svs_vector.proofs.JoinLemmas.{length-join, join-at}
+use Rattle.repo_plan.specs.Parts.{Pair, pair_of}
+use Rattle.repo_plan.specs.Plan.{PlanState, is_wanted}
+use Rattle.group_model.specs.Sound.{IsKnown}
+use Rattle.mirror_model.specs.Mirrors.{IsWantedByMirror}
+use Rattle.mirror_model.proofs.Wants.{want_those}
+use Rattle.mirror_model.proofs.Lists as mirrors
+use Rattle.repo_member.specs.Alone.{alone_opening}
+use Rattle.repo_member.proofs.PublicLaws.{plans_alike, lists_alike, begins_truly, stays_true}
+use Rattle.repo_mirror.specs.MirrorState.{MirrorState, mirror_opening}
+use Rattle.repo_mirror.specs.TrueMirrors.{mirror_in_group, mirror_alone, MirrorsPlanAlike, MirrorsWantAlike}
+use Rattle.repo_mirror.specs.TrueMirrors.{MirrorsListAlike, MirrorsBeginTrue, MirrorsLearnTrue}
+
+pub mirrors_plan_alike : MirrorsPlanAlike
+mirrors_plan_alike g logs m are is = plans_alike g logs (mirror_alone m) are is.stored
+
+pub mirrors_want_alike : MirrorsWantAlike
+mirrors_want_alike g logs m t are is =
+    subst (λ (p : PlanState). (is_wanted p t ≡ true) ↔ IsWantedByMirror m.pattern logs (mirror_in_group m) t)
+    (sym (mirrors_plan_alike g logs m are is)) (want_those m.pattern logs (mirror_in_group m) t is.sound)
+
+pub mirrors_list_alike : MirrorsListAlike
+mirrors_list_alike g logs m are is =
+    lists_alike g logs (mirror_alone m) are is.stored
+    ∙ mirrors.lists m.pattern logs (mirror_in_group m) is.sound
+
+-- ---- what lasts
+
+nothing_known : (n p : ℕ) → get_or (replicate n (let z : ℕ = 0 in z)) p 0 ≡ 0
+nothing_known zero p = refl
+nothing_known (suc n) zero = refl
+nothing_known (suc n) (suc p) = nothing_known n p
+
+pub mirrors_begin_true : MirrorsBeginTrue
+mirrors_begin_true g logs pattern =
+    let m : MirrorState = mirror_opening pattern (length logs) in
+    let zero_number : ℕ = 0 in
+    record {
+      vector = record {
+        width = length-replicate (length logs) zero_number;
+        no_more = λ p. let none = nothing_known (length logs) p in omega (arith, none);
+      };
+      sound = record { kept = λ t h. absurd cc; passed = λ pair h. absurd cc };
+      stored = stays_true g logs (alone_opening 0 0 0 0) (mirror_alone m) refl (begins_truly g logs 0 0 0 0);
+    }
+
+joined_knows : (v told : List ℕ) (pair : Pair) → IsKnown v pair → IsKnown (join v told) pair
+joined_knows v told pair k =
+    let at = join-at v told pair.0 in
+    record { from_one = k.from_one; to_known = omega (arith, at, k.to_known) }
+
+pub mirrors_learn_true : MirrorsLearnTrue
+mirrors_learn_true g logs m told true_told is =
+    let next : MirrorState = record m { known = join m.known told } in
+    record {
+      vector = record {
+        width = length-join m.known told (is.vector.width ∙ sym true_told.width) ∙ is.vector.width;
+        no_more = λ p.
+            let at = join-at m.known told p in
+            let mine = is.vector.no_more p in let theirs = true_told.no_more p in omega (arith, at, mine, theirs);
+      };
+      sound = record {
+        kept = λ t h.
+            let s = is.sound.kept t h in
+            record {
+              known = joined_knows m.known told (pair_of t) s.known;
+              publisher = s.publisher;
+              counted = s.counted;
+              with_record = s.with_record;
+              with_parent = s.with_parent;
+              accepted = s.accepted;
+            };
+        passed = λ pair h.
+            let s = is.sound.passed pair h in
+            record {
+              known = joined_knows m.known told pair s.known;
+              publisher = s.publisher;
+              not_accepted = s.not_accepted;
+            };
+      };
+      stored = stays_true g logs (mirror_alone m) (mirror_alone next) refl is.stored;
+    }

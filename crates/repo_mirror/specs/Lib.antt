@@ -1,0 +1,16 @@
+pub use Rattle.svs_vector.specs.Vectors
+pub use Rattle.repo_plan.specs.Plan
+pub use Rattle.repo_holdings.specs.HoldingsState
+pub use Rattle.repo_holdings.specs.Listed
+pub use Rattle.repo_holdings.specs.Wanting
+pub use Rattle.repo_watch.specs.Patterns
+pub use Rattle.repo_member.specs.Outcomes
+pub use Rattle.mirror_model.specs.Asked
+pub use Rattle.group_model.specs.Sound
+pub use Rattle.repo_member.specs.InGroup
+pub use Rattle.mirror_model.specs.Mirrors
+pub mod MirrorState
+pub mod MirrorFields
+pub mod Passing
+pub mod MirrorOutcomes
+pub mod TrueMirrors

@@ -1,0 +1,23 @@
+-- How a mirror is kept.
+use Rattle.std.specs.Prelude.{◌≡◌, ◌≤◌, length}
+use Rattle.repo_plan.specs.Plan.{no_claims}
+use Rattle.repo_mirror.specs.declared.mirror.Mirror.TheInside.{Inside}
+use Rattle.repo_mirror.specs.MirrorState.{MirrorState}
+use Rattle.mirror_model.specs.Asked.{asked_numbers}
+
+-- What the fields say.
+abbrev pub mirror_state : Inside → MirrorState
+mirror_state m = record {
+  pattern = m.pattern;
+  known = m.vector;
+  store = m.held.store;
+  passed = m.held.hidden;
+  attempts = m.held.attempts;
+}
+
+-- There are at most 16 members; of publications the numbers of the publishers that are asked are known, and nothing is
+-- claimed.
+pub record IsMirror (m : Inside) : Type 0 where
+  pub few : length m.vector ≤ 16
+  pub known : m.held.known ≡ asked_numbers m.pattern.publisher 0 m.vector
+  pub claims : m.held.claims ≡ no_claims

@@ -1,0 +1,42 @@
+-- What a mirror has, as contracts see it.
+use Rattle.std.specs.Prelude.{ℕ, List, [], replicate}
+use Rattle.repo_plan.specs.declared.part.Part.{Part}
+use Rattle.repo_plan.specs.Parts.{Pair}
+use Rattle.repo_plan.specs.Plan.{PlanState, no_claims}
+use Rattle.repo_holdings.specs.Records.{Packet}
+use Rattle.repo_holdings.specs.HoldingsState.{HoldingsState, held_plan}
+use Rattle.repo_watch.specs.declared.pattern.Pattern.{Pattern}
+use Rattle.mirror_model.specs.Asked.{asked_numbers}
+
+pub record MirrorState : Type 0 where
+  pub pattern : Pattern
+  pub known : List ℕ  -- its vector: one number a member
+  pub store : List Packet  -- the packet of each part that it keeps, in order of the parts
+  pub passed : List Pair  -- the publications whose record came and whose object its pattern isn't for, in order
+  pub attempts : List (Part × ℕ)  -- of the parts that it didn't pass over, in order, without 0
+
+-- A mirror of a group of so many members, which knows of nothing.
+abbrev pub mirror_opening : Pattern → ℕ → MirrorState
+mirror_opening pattern members = record {
+  pattern = pattern;
+  known = replicate members 0;
+  store = [];
+  passed = [];
+  attempts = [];
+}
+
+-- What it has of publications: it knows those of the publishers that it asks, hides what it passed over, and claims
+-- nothing.
+abbrev pub mirror_holdings : MirrorState → HoldingsState
+mirror_holdings m = record {
+  known = asked_numbers m.pattern.publisher 0 m.known;
+  store = m.store;
+  hidden = m.passed;
+  claims = no_claims;
+  attempts = m.attempts;
+  spare = 0;
+}
+
+-- Its fetch plan. What it wants is read there.
+abbrev pub fetch_plan : MirrorState → PlanState
+fetch_plan m = held_plan (mirror_holdings m)

@@ -1,0 +1,54 @@
+-- What a mirror keeps of what came, and what it passes over.
+use Rattle.std.specs.Prelude.{◌≡◌, ℕ, Bool, true, false, not, List, [], map, filter, Option, Some, None}
+use Rattle.std.specs.Prelude.{unwrap_or, option_map}
+use Rattle.sorted_lists.specs.SortedList.{insert_keys}
+use Rattle.repo_plan.specs.declared.part.Part.{Part}
+use Rattle.repo_plan.specs.Parts.{Pair, pair_cmp, pair_of}
+use Rattle.repo_plan.specs.Plan.{PlanState, holds, is_asked}
+use Rattle.repo_holdings.specs.declared.told.Told.{Told}
+use Rattle.repo_holdings.specs.declared.told.Told.TheVariants.{Object, Withdrawal}
+use Rattle.repo_holdings.specs.Gaining.{told_in}
+use Rattle.repo_holdings.specs.Hiding.{with_hidden}
+use Rattle.repo_holdings.specs.Taking.{Fetched, with_all_fetched, with_all_tries}
+use Rattle.repo_watch.specs.declared.pattern.Pattern.{Pattern}
+use Rattle.repo_watch.specs.Patterns.{accepts}
+use Rattle.repo_mirror.specs.MirrorState.{MirrorState}
+
+-- What a packet of that publisher tells is kept, unless it is the record of an object that the pattern isn't for.
+abbrev pub is_told_kept : Pattern → ℕ → Option Told → Bool
+is_told_kept pattern p None = true
+is_told_kept pattern p (Some (Object shape name)) = accepts pattern p name
+is_told_kept pattern p (Some (Withdrawal seq)) = true
+
+-- So is a packet that came for a part, by what it tells.
+abbrev pub is_packet_kept : Pattern → Part → List ℕ → Bool
+is_packet_kept pattern t octets = is_told_kept pattern t.publisher (told_in t octets)
+
+-- What came of a part is kept: such a packet, or none.
+abbrev pub is_fetched_kept : Pattern → Fetched → Bool
+is_fetched_kept pattern x = unwrap_or (option_map (is_packet_kept pattern x.part) x.packet) true
+
+-- What is kept of all that came.
+abbrev pub that_are_kept : Pattern → List Fetched → List Fetched
+that_are_kept pattern xs = filter (is_fetched_kept pattern) xs
+
+-- The publications whose records came and aren't kept.
+abbrev pub not_kept : Pattern → List Fetched → List Pair
+not_kept pattern xs = map (λ x. pair_of x.part) (filter (λ x. not (is_fetched_kept pattern x)) xs)
+
+-- The same in order.
+abbrev pub passed_over : Pattern → List Fetched → List Pair
+passed_over pattern xs = insert_keys pair_cmp (not_kept pattern xs) []
+
+-- They are hidden. What is kept is held, and its attempts count.
+abbrev pub mirror_takes : List Fetched → MirrorState → MirrorState
+mirror_takes xs m = record m {
+  store = with_all_fetched (that_are_kept m.pattern xs) m.store;
+  passed = with_hidden (passed_over m.pattern xs) m.passed;
+  attempts = with_all_tries (that_are_kept m.pattern xs) m.attempts;
+}
+
+-- No part of the publication is held, and none but its record could be asked for.
+pub record IsUnknownIn (plan : PlanState) (pair : Pair) : Type 0 where
+  pub none_held : (t : Part) → pair_of t ≡ pair → holds plan t ≡ false
+  pub record_alone : (t : Part) → pair_of t ≡ pair → is_asked plan t ≡ true → t.part ≡ 0

@@ -1,0 +1,91 @@
+-- A mirror by itself and the same mirror as its group has it, and what holds where its packets are those of their
+-- parts.
+use Rattle.std.specs.Prelude.{◌≡◌, ℕ, true, ◌||◌, List, length, ◌↔◌}
+use Rattle.std.specs.List.{All}
+use Rattle.svs_vector.specs.Vectors.{join}
+use Rattle.sorted_lists.specs.SortedList.{keys, contains}
+use Rattle.repo_plan.specs.declared.part.Part.{Part}
+use Rattle.repo_plan.specs.Parts.{part_cmp}
+use Rattle.repo_plan.specs.Plan.{is_wanted}
+use Rattle.repo_watch.specs.declared.pattern.Pattern.{Pattern}
+use Rattle.repo_holdings.specs.Listed.{alone_catalogue}
+use Rattle.repo_holdings.specs.Taking.{Fetched}
+use Rattle.group_model.specs.Publications.{Logs}
+use Rattle.group_model.specs.Sound.{IsTrueVector}
+use Rattle.mirror_model.specs.Asked.{asked_numbers}
+use Rattle.mirror_model.specs.Mirrors.{Mirror, IsWantedByMirror, IsSoundMirror, mirror_plan, mirror_catalogue}
+use Rattle.mirror_model.specs.Mirrors.{mirror_holds}
+use Rattle.repo_member.specs.Groups.{GroupKeys}
+use Rattle.repo_member.specs.Alone.{Alone, alone_opening}
+use Rattle.repo_member.specs.InGroup.{AreLogs, StoresTruly, CameTruly, GrowInto, that_came}
+use Rattle.repo_mirror.specs.MirrorState.{MirrorState, mirror_opening, fetch_plan}
+use Rattle.repo_mirror.specs.Passing.{mirror_takes}
+
+-- The mirror as its group has it: it keeps the parts whose packets it stores.
+abbrev pub mirror_in_group : MirrorState → Mirror
+mirror_in_group m = record { known = m.known; kept = keys m.store; passed = m.passed; attempts = m.attempts }
+
+-- A member that publishes nothing, and has of others what the mirror has.
+abbrev pub mirror_alone : MirrorState → Alone
+mirror_alone m = record (alone_opening 0 0 0 0) {
+  known = asked_numbers m.pattern.publisher 0 m.known;
+  store = m.store;
+  hidden = m.passed;
+  attempts = m.attempts;
+}
+
+-- The mirror's vector tells of no publication that there isn't, what it keeps and passed over is what its pattern says,
+-- and each stored packet is that of its part.
+pub record IsTrueMirror (g : GroupKeys) (logs : Logs) (m : MirrorState) : Type 0 where
+  pub vector : IsTrueVector logs m.known
+  pub sound : IsSoundMirror m.pattern logs (mirror_in_group m)
+  pub stored : StoresTruly g logs (mirror_alone m)
+
+-- ---- what follows
+
+-- The plan of the mirror by itself, which reads what the stored records list, is the group's plan of that mirror.
+abbrev pub MirrorsPlanAlike : Type 0
+MirrorsPlanAlike = (g : GroupKeys) (logs : Logs) (m : MirrorState) → AreLogs g logs → IsTrueMirror g logs m
+    → fetch_plan m ≡ mirror_plan m.pattern logs (mirror_in_group m)
+
+-- So it wants just what a mirror is to want.
+abbrev pub MirrorsWantAlike : Type 0
+MirrorsWantAlike = (g : GroupKeys) (logs : Logs) (m : MirrorState) (t : Part) → AreLogs g logs → IsTrueMirror g logs m
+    → (is_wanted (fetch_plan m) t ≡ true) ↔ IsWantedByMirror m.pattern logs (mirror_in_group m) t
+
+-- Its catalogue, which reads the stored packets, is the group's catalogue of that mirror.
+abbrev pub MirrorsListAlike : Type 0
+MirrorsListAlike = (g : GroupKeys) (logs : Logs) (m : MirrorState) → AreLogs g logs → IsTrueMirror g logs m
+    → alone_catalogue m.store ≡ mirror_catalogue m.pattern logs (mirror_in_group m)
+
+-- ---- what lasts
+
+-- A mirror begins so.
+abbrev pub MirrorsBeginTrue : Type 0
+MirrorsBeginTrue =
+    (g : GroupKeys) (logs : Logs) (pattern : Pattern) → IsTrueMirror g logs (mirror_opening pattern (length logs))
+
+-- It stays so where it is told a vector that tells of no publication that there isn't.
+abbrev pub MirrorsLearnTrue : Type 0
+MirrorsLearnTrue = (g : GroupKeys) (logs : Logs) (m : MirrorState) (told : List ℕ) → IsTrueVector logs told
+    → IsTrueMirror g logs m → IsTrueMirror g logs (record m { known = join m.known told })
+
+-- Others may publish more.
+abbrev pub MirrorsGrowTrue : Type 0
+MirrorsGrowTrue = (g : GroupKeys) (logs later : Logs) (m : MirrorState) → GrowInto logs later
+    → length later ≡ length logs → IsTrueMirror g logs m → IsTrueMirror g later m
+
+-- The outcome of a fetch may be taken, of wanted parts, where each packet that came is that of its part.
+pub record CameForMirror (g : GroupKeys) (logs : Logs) (m : MirrorState) (x : Fetched) : Type 0 where
+  pub part_wanted : is_wanted (fetch_plan m) x.part ≡ true
+  pub truly : CameTruly g logs x.part x.packet
+
+-- Then just the parts that came are held too: the records of objects that the pattern isn't for by passing them over.
+pub record TakesTruly (g : GroupKeys) (logs : Logs) (xs : List Fetched) (m : MirrorState) : Type 0 where
+  pub stays : IsTrueMirror g logs (mirror_takes xs m)
+  pub held : (u : Part) → mirror_holds (mirror_in_group (mirror_takes xs m)) u
+      ≡ (contains part_cmp (that_came xs) u || mirror_holds (mirror_in_group m) u)
+
+abbrev pub MirrorsTakeTrue : Type 0
+MirrorsTakeTrue = (g : GroupKeys) (logs : Logs) (m : MirrorState) (xs : List Fetched) → AreLogs g logs
+    → IsTrueMirror g logs m → All (CameForMirror g logs m) xs → TakesTruly g logs xs m

@@ -1,0 +1,104 @@
+ghost use Rattle.std.specs.Prelude.{◌≡◌, ◌≤◌, length, IfOk};
+ghost use Rattle.svs_vector.specs.Vectors.{join};
+ghost use Rattle.repo_holdings.specs.Listed.{alone_catalogue};
+ghost use Rattle.repo_holdings.specs.Wanting.{AreShortNames};
+ghost use Rattle.repo_mirror.specs.MirrorState.{mirror_opening};
+ghost use Rattle.repo_mirror.specs.MirrorOutcomes.{planned_jobs};
+
+mod outcome;
+
+use crate::learning::learn;
+use ndn_name::Name;
+use repo_catalog::Catalogue;
+use repo_holdings::Holdings;
+use repo_object::Job;
+use repo_plan::Part;
+use repo_watch::Pattern;
+use std::alloc::{AllocError, Global};
+use std::marker::Model;
+use svs_vector::{Roster, Vector};
+
+/// A mirror: a pattern, the numbers that it was told, and what it holds of what its pattern is for.
+///
+/// A record whose object its pattern isn't for is passed over: its packet isn't kept, and no part of that publication
+/// is wanted any more. The records of withdrawals are kept, since they take objects out of the catalogue.
+///
+/// A call that is refused has changed nothing, want of memory included.
+#[derive(Drop)]
+pub struct Mirror {
+    pattern: Pattern,
+    vector: Vector,
+    held: Holdings,
+}
+
+// A mirror is seen as what it has. What it wants and what it lists follow from that.
+impl Model for Mirror {
+    ghost use Rattle.repo_mirror.specs.MirrorState.{MirrorState};
+
+    ghost Value = { MirrorState };
+
+    ghost use Rattle.repo_mirror.specs.MirrorFields.{mirror_state, IsMirror};
+
+    ghost view = { mirror_state };
+
+    ghost invariant = { IsMirror };
+}
+
+impl Mirror {
+    /// A mirror of a group of so many members, which knows of nothing.
+    pub fn new(alloc: Global, members: usize, pattern: Pattern) -> Result<Mirror, AllocError>
+        requires { members ≤ 16 }
+        ensures { IfOk result (λ mirror. mirror ≡ mirror_opening pattern members) }
+    {
+        Ok(Mirror {
+            pattern,
+            vector: Vector::new(alloc, members)?,
+            held: Holdings::new(alloc, members)?,
+        })
+    }
+
+    /// What the vector tells is known from now on. It takes no memory.
+    pub fn learn(&mut self, told: &Vector)
+        requires { length told.now ≡ length self.old.known }
+        ensures { self.new ≡ record self.old { known = join self.old.known told.now } }
+    {
+        learn(
+            self.pattern.publisher,
+            &mut self.vector,
+            &mut self.held,
+            told,
+        );
+    }
+
+    /// The least wanted parts that are greater than `after`, at most `most` of them, as jobs whose attempts go on from
+    /// those that were made. `group` is the name of the group of the publishers.
+    pub fn plan(
+        &self,
+        alloc: Global,
+        publishers: &Roster,
+        group: &Name,
+        after: Option<Part>,
+        most: usize,
+    ) -> Result<Vec<Job>, AllocError>
+        requires width { length publishers.now ≡ length self.now.known }
+        requires names { AreShortNames publishers.now group.now }
+        ensures { IfOk result (λ jobs. jobs.items
+            ≡ planned_jobs publishers.now group.now self.now after most) }
+    {
+        self.held.jobs(alloc, publishers, group, after, most)
+    }
+
+    /// The numbers that the mirror was told.
+    pub fn vector(&self) -> &Vector
+        ensures { result.now ≡ self.now.known }
+    {
+        &self.vector
+    }
+
+    /// The objects that the mirror's pattern is for of which it holds every part, and no withdrawal.
+    pub fn catalogue(&self) -> &Catalogue
+        ensures { result.now.entries ≡ alone_catalogue self.now.store }
+    {
+        self.held.catalogue()
+    }
+}

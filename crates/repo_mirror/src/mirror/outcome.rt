@@ -1,0 +1,189 @@
+// What came of a fetch that a mirror planned.
+ghost use Rattle.std.specs.Prelude.{◌≡◌, ◌≤◌, ◌<◌, ◌^◌, true, false, length, vec_len, map, count_by, is_some, List, max};
+ghost use Rattle.std.specs.Prelude.{IfOk, IfSome, OnOk, OnErr, option_map};
+ghost use Rattle.std.specs.List.{All};
+ghost use Rattle.std.specs.List.Sorted.{IsSearchInRange, IsBinarySearchResult};
+ghost use Rattle.sorted_lists.specs.SortedList.{Rises, contains, insert_key};
+ghost use Rattle.repo_plan.specs.Parts.{Pair, pair_cmp, pair_of};
+ghost use Rattle.repo_plan.specs.Plan.{no_claims};
+ghost use Rattle.repo_holdings.specs.Records.{Packet};
+ghost use Rattle.repo_holdings.specs.StoredParents.{lists_at};
+ghost use Rattle.repo_holdings.specs.Gaining.{told_in, IsArrival};
+ghost use Rattle.repo_holdings.specs.Hiding.{with_hidden};
+ghost use Rattle.repo_holdings.specs.HoldingsState.{held_plan};
+ghost use Rattle.repo_holdings.specs.Taking.{came, takes_too, AreTakable};
+ghost use Rattle.repo_member.specs.Outcomes.{job_limit, outcome_of};
+ghost use Rattle.repo_mirror.specs.MirrorState.{fetch_plan};
+ghost use Rattle.repo_mirror.specs.Passing.{is_fetched_kept, that_are_kept, passed_over, mirror_takes, IsUnknownIn};
+ghost use Rattle.repo_mirror.specs.MirrorOutcomes.{IsMirrorOutcome};
+
+use super::Mirror;
+use repo_holdings::{Arrival, Holdings, Told, Tried};
+use repo_object::{Checked, Job};
+use repo_watch::{Filter, Pattern};
+use std::alloc::{AllocError, Global};
+
+// What came of jobs: what is kept, and the publications that are passed over, in order.
+#[derive(Drop)]
+struct Sorted {
+    kept: Vec<Tried>,
+    passed: Vec<(u32, u16)>,
+}
+
+impl Mirror {
+    /// Takes what came of a fetch that was planned: for each job its packet, if one came, and how often it was tried.
+    /// The answer is how many parts came. Those are held from now on, but for the records of objects that the mirror's
+    /// pattern isn't for, which are passed over.
+    pub fn take_outcome(
+        &mut self,
+        alloc: Global,
+        filter: &Filter,
+        jobs: &[Job],
+        parts: &[Option<Checked<'_>>],
+        attempts: &[u32],
+    ) -> Result<u32, AllocError>
+        requires outcome { IsMirrorOutcome self.old jobs.now parts.now attempts.now }
+        requires few { length jobs.now ≤ job_limit }
+        ensures ok { OnOk result (self.new ≡ mirror_takes (outcome_of jobs.now parts.now attempts.now) self.old) }
+        ensures parts { IfOk result (λ came. came ≡ count_by is_some parts.now) }
+        ensures err { OnErr result (self.new ≡ self.old) }
+    {
+        let Sorted { kept, passed } = self.sorted(alloc, filter, jobs, parts, attempts)?;
+        take_sorted(&mut self.held, kept, &passed)?;
+        Ok(number_that_came(parts))
+    }
+
+    // What came of jobs, with copies of the packets, sorted into what is kept and what is passed over.
+    fn sorted(
+        &self,
+        alloc: Global,
+        filter: &Filter,
+        jobs: &[Job],
+        parts: &[Option<Checked<'_>>],
+        attempts: &[u32],
+    ) -> Result<Sorted, AllocError>
+        requires outcome { IsMirrorOutcome self.now jobs.now parts.now attempts.now }
+        requires few { length jobs.now ≤ job_limit }
+        ensures kept { IfOk result (λ sorted. map came sorted.kept.items
+            ≡ that_are_kept self.now.pattern (outcome_of jobs.now parts.now attempts.now)) }
+        ensures passed { IfOk result (λ sorted. sorted.passed.items
+            ≡ passed_over self.now.pattern (outcome_of jobs.now parts.now attempts.now)) }
+        ensures takable { IfOk result (λ sorted. AreTakable (fetch_plan self.now) self.now.store sorted.kept.items) }
+        ensures few { IfOk result (λ sorted. vec_len sorted.kept ≤ job_limit) }
+        ensures unknown { IfOk result (λ sorted. (pair : Pair) → contains pair_cmp sorted.passed.items pair ≡ true
+            → IsUnknownIn (fetch_plan self.now) pair) }
+        ensures others { IfOk result (λ sorted.
+            All (λ x. contains pair_cmp sorted.passed.items (pair_of x.part) ≡ false) sorted.kept.items) }
+    {
+        let mut kept = Vec::with_capacity(alloc, jobs.len())?;
+        let mut passed = Vec::new(alloc);
+        for ((job, checked), tries) in jobs.iter().zip(parts).zip(attempts) {
+            let tried = tried(alloc, job, checked.as_ref(), *tries)?;
+            if is_kept(filter, &self.pattern, &tried) {
+                kept.push(tried)?;
+            } else {
+                let part = tried.part;
+                // What came was wanted, and so not held.
+                let held = self.held.holds(part);
+                prove!(!held);
+                put_in_order(&mut passed, (part.publisher, part.seq))?;
+            }
+        }
+        Ok(Sorted { kept, passed })
+    }
+}
+
+// How many packets came.
+fn number_that_came(parts: &[Option<Checked<'_>>]) -> u32
+    requires { length parts.now ≤ job_limit }
+    ensures { result ≡ count_by is_some parts.now }
+{
+    parts.iter().filter(|part| part.is_some()).count() as u32
+}
+
+// What came of a job, with a copy of its packet.
+fn tried(
+    alloc: Global,
+    job: &Job,
+    checked: Option<&Checked<'_>>,
+    attempts: u32,
+) -> Result<Tried, AllocError>
+    requires checked { IfSome checked (λ checked. checked.now.want ≡ job.now.want) }
+    ensures part { IfOk result (λ tried. tried.part ≡ job.now.want.part) }
+    ensures attempts { IfOk result (λ tried. tried.attempts ≡ attempts) }
+    ensures packet { IfOk result (λ tried.
+        option_map (λ a. a.packet) tried.arrival ≡ option_map (λ c. c.now.octets) checked.entry) }
+    ensures arrival { IfOk result (λ tried. (packets : List Packet)
+        → job.now.want.lists ≡ lists_at packets job.now.want.part
+        → IfSome tried.arrival (λ a. IsArrival packets tried.part a.packet a.told)) }
+    ensures told { IfOk result (λ tried. IfSome tried.arrival (λ a. a.told ≡ told_in tried.part a.packet)) }
+{
+    let part = job.want.part();
+    let arrival = match checked {
+        Some(checked) => Some(Arrival::new(alloc, part, checked.octets(), checked.digest())?),
+        None => None,
+    };
+    Ok(Tried {
+        part,
+        attempts,
+        arrival,
+    })
+}
+
+// Whether what came is kept: all but the record of an object that the pattern isn't for.
+fn is_kept(filter: &Filter, pattern: &Pattern, tried: &Tried) -> bool
+    requires { IfSome tried.now.arrival (λ a. a.told ≡ told_in tried.now.part a.packet) }
+    ensures { result ≡ is_fetched_kept pattern.now (came tried.now) }
+{
+    let Some(arrival) = &tried.arrival else {
+        return true;
+    };
+    match &arrival.told {
+        Some(Told::Object { name, .. }) => filter.wants(pattern, tried.part.publisher, name),
+        _ => true,
+    }
+}
+
+// Puts a publication to others, in order, unless it is there.
+fn put_in_order(passed: &mut Vec<(u32, u16)>, publication: (u32, u16)) -> Result<(), AllocError>
+    requires { Rises pair_cmp passed.old.items }
+    ensures { OnOk result (passed.new.items ≡ insert_key pair_cmp publication passed.old.items) }
+{
+    if let Err(place) = place(passed, publication) {
+        passed.insert(place, publication)?;
+    }
+    Ok(())
+}
+
+// Where the publication stands, or else would stand.
+fn place(passed: &[(u32, u16)], publication: (u32, u16)) -> Result<usize, usize>
+    ensures bound { IsSearchInRange result (length passed.now) }
+    ensures position { IsBinarySearchResult (λ one. pair_cmp one publication) passed.now result }
+{
+    passed.binary_search_by_key(&publication, |&one| one)
+}
+
+// Hides the publications that are passed over, and takes what is kept.
+fn take_sorted(
+    held: &mut Holdings,
+    kept: Vec<Tried>,
+    passed: &[(u32, u16)],
+) -> Result<(), AllocError>
+    requires claims { held.old.claims ≡ no_claims }
+    requires kept { AreTakable (held_plan held.old) held.old.store kept.items }
+    requires few { vec_len kept < 2 ^ 32 }
+    requires in_order { Rises pair_cmp passed.now }
+    requires unknown { (pair : Pair) → contains pair_cmp passed.now pair ≡ true
+        → IsUnknownIn (held_plan held.old) pair }
+    requires others { All (λ x. contains pair_cmp passed.now (pair_of x.part) ≡ false) kept.items }
+    ensures ok { OnOk result (held.new ≡ takes_too (map came kept.items) (record held.old {
+      hidden = with_hidden passed.now held.old.hidden;
+      spare = max held.old.spare (vec_len kept);
+    })) }
+    ensures err { OnErr result (held.new ≡ record held.old { spare = held.new.spare }) }
+{
+    held.reserve(kept.len())?;
+    held.hide_all(passed)?;
+    held.take(kept, &[]);
+    Ok(())
+}
