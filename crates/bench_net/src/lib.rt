@@ -1,5 +1,7 @@
 //! The network and the random draws of a bench, as values whose answers are functions of what they hold, so that a run
 //! can be repeated; and what was sent in one.
+//!
+//! What is promised of it: `docs/promises/bench_net.md`.
 #![tactic(auto)]
 
 mod draws;

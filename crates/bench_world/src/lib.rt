@@ -2,6 +2,8 @@
 //!
 //! `World` holds the members with their packets and keys; each step is that of the group's model, with the octets that
 //! the model leaves out.
+//!
+//! What is promised of it: `docs/promises/bench_world.md`.
 #![tactic(auto)]
 
 mod answering;

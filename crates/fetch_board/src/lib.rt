@@ -1,5 +1,7 @@
 //! A board on which threads claim items of work: an item is held by one seat at a time and finished by one, and none is
 //! forgotten.
+//!
+//! What is promised of it: `docs/promises/fetch_board.md`.
 #![tactic(auto)]
 
 mod board;

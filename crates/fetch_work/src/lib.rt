@@ -1,4 +1,6 @@
 //! Workers that fetch the parts of jobs in threads, over a board that shares the jobs out.
+//!
+//! What is promised of it: `docs/promises/fetch_work.md`.
 #![tactic(auto)]
 
 mod contents;

@@ -26,8 +26,8 @@ use Rattle.group_model.proofs.Parts.{IsIn, in_published, publisher_within, IsPar
 use Rattle.group_model.proofs.Parents.{parent_within, parent_of_parent}
 use Rattle.group_model.proofs.Settles.{someone, told_by, settled_no_more}
 use Rattle.mirror_model.specs.Asked.{is_kept}
-use Rattle.mirror_model.specs.Mirrors.{Mirror, mirror_holds, IsPartAskedFor, IsSoundMirror}
-use Rattle.mirror_model.specs.Mirrors.{mirror_knows_withdrawn, is_listed_by_mirror, is_entry_accepted}
+use Rattle.mirror_model.specs.Mirrors.{Mirror, mirror_holds, IsPartAskedFor, IsSoundMirror, mirror_knows_withdrawn}
+use Rattle.mirror_model.specs.Mirrors.{is_listed_by_mirror, is_entry_accepted}
 use Rattle.mirror_model.specs.MirrorLaws.{HasComeToRest, KnowsAll, MirrorsLearnAll, MirrorsJoin}
 use Rattle.mirror_model.proofs.Lists.{kept_object, kept_of}
 

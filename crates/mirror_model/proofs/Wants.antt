@@ -1,6 +1,6 @@
 -- What a mirror asks for and wants.
-use Rattle.std.proofs.Common.{◌≡◌, inl, inr, ℕ, suc, zero, ◌+◌, ◌≤◌, Bool, true, false, cond, ◌&&◌}
-use Rattle.std.proofs.Common.{List, [], ◌∷◌, get_or, Option, refl, sym, ap, ◌∙◌, subst, arith}
+use Rattle.std.proofs.Common.{◌≡◌, inl, inr, ℕ, suc, zero, ◌+◌, ◌≤◌, Bool, true, false, cond, ◌&&◌, List, [], ◌∷◌}
+use Rattle.std.proofs.Common.{get_or, Option, refl, sym, ap, ◌∙◌, subst, arith}
 use Rattle.std.specs.Prelude.{◌==◌}
 use Rattle.std.proofs.lemmas.Bool.{true≢false, and_parts, and_from, and_right, or_left, or_cases, or_parts, or_from}
 use Rattle.std.proofs.lemmas.Bool.{false_from_ne_true, eq-eqb}
@@ -14,8 +14,7 @@ use Rattle.group_model.specs.Sound.{IsKnown}
 use Rattle.group_model.specs.Wanted.{IsWantedPart}
 use Rattle.group_model.proofs.Wants.{tests_those}
 use Rattle.mirror_model.specs.Asked.{asked_numbers, is_kept}
-use Rattle.mirror_model.specs.Mirrors.{Mirror, mirror_holds, IsWantedByMirror, as_member}
-use Rattle.mirror_model.specs.Mirrors.{IsSoundMirror}
+use Rattle.mirror_model.specs.Mirrors.{Mirror, mirror_holds, IsWantedByMirror, as_member, IsSoundMirror}
 use Rattle.mirror_model.specs.MirrorLaws.{MirrorsWantThose}
 
 -- ---- the publishers that are asked

@@ -1,5 +1,7 @@
 //! Mirrors of a group, as contracts see them: what one wants, what it makes of a part that comes, what a settle gives
 //! it, and what it lists then.
+//!
+//! What is promised of it: `docs/promises/mirror_model.md`.
 #![tactic(auto)]
 
 mod laws;

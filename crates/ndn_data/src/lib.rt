@@ -1,5 +1,7 @@
 //! Data packets of NDN Packet Format 0.3 over lent octets: reading them, which octets are signed,
 //! which names they satisfy, and writing them with a signature.
+//!
+//! What is promised of it: `docs/promises/packets.md`.
 #![tactic(auto)]
 
 mod data_fields;

@@ -1,4 +1,6 @@
 //! Octets as a text for people: a line for each element of NDN Packet Format 0.3, those inside another one deeper.
+//!
+//! What is promised of it: `docs/promises/ndn_inspect.md`.
 #![tactic(auto)]
 
 mod inspector;

@@ -1,6 +1,8 @@
 //! Interests of NDN Packet Format 0.3 over lent octets: reading them, which octets are signed, the
 //! digest of their parameters, who signed them, and writing them, plain or with parameters and a
 //! signature.
+//!
+//! What is promised of it: `docs/promises/packets.md`.
 #![tactic(auto)]
 
 mod interest_fields;

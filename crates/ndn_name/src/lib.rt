@@ -1,5 +1,7 @@
 //! Names of NDN Packet Format 0.3: views that borrow a packet's octets, owned names, their
 //! canonical order and their URI text, and the faults that packets share.
+//!
+//! What is promised of it: `docs/promises/ndn_name.md`.
 #![tactic(auto)]
 
 mod append;

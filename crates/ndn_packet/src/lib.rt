@@ -1,5 +1,7 @@
 //! What Interest and Data packets of NDN Packet Format 0.3 share: the element that a packet is, the
 //! numbers and names in its fields, and what it says of its signature.
+//!
+//! What is promised of it: `docs/promises/packets.md`.
 #![tactic(auto)]
 
 mod contents;

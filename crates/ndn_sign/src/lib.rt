@@ -1,5 +1,7 @@
 //! Digests and signatures of packets: SHA-256 (FIPS 180-4), HMAC with it (RFC 2104), and rings of the
 //! keys that a group's packets are signed with.
+//!
+//! What is promised of it: `docs/promises/ndn_sign.md`.
 #![tactic(auto)]
 
 mod hashing;

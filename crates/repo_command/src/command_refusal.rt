@@ -32,8 +32,8 @@ pub enum CommandRefusal {
 }
 
 impl CommandRefusal {
-    /// The status code that a repository answers to a command that it refuses. Want of memory is no refusal of a command,
-    /// and is answered by none.
+    /// The status code that a repository answers to a command that it refuses. Want of memory is no refusal of a
+    /// command, and is answered by none.
     pub fn status_code(self) -> u16
         requires { self ≢ CommandRefusal.NoMemory }
         ensures { result ≡ refusal_code self }

@@ -1,5 +1,7 @@
 //! Commands of the repo protocol and their answers, in this project's profile: what a client asks a repository for by a
 //! signed Interest, what a repository takes of it, and what it says to it.
+//!
+//! What is promised of it: `docs/promises/repo_command.md`.
 #![tactic(auto)]
 
 mod answer;

@@ -1,5 +1,7 @@
 //! One member of a repository group: what it published, which parts it holds, wants and fetches, and its catalogue; and
 //! the group with its members' and clients' keys.
+//!
+//! What is promised of it: `docs/promises/repo_member.md`.
 #![tactic(auto)]
 
 mod group;

@@ -1,7 +1,5 @@
 -- A mirror as its group has it.
-use Rattle.std.proofs.Common.{◌≡◌, ℕ, zero, suc, true, List, get_or, length, replicate, refl, sym}
-use Rattle.std.proofs.Common.{◌∙◌}
-use Rattle.std.proofs.Common.{subst, arith}
+use Rattle.std.proofs.Common.{◌≡◌, ℕ, zero, suc, true, List, get_or, length, replicate, refl, sym, ◌∙◌, subst, arith}
 use Rattle.std.specs.Prelude.{◌↔◌}
 use Rattle.std.proofs.lemmas.List.{length-replicate}
 use Rattle.svs_vector.specs.Vectors.{join}

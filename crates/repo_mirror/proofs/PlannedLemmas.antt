@@ -18,8 +18,7 @@ use Rattle.repo_holdings.specs.Taking.{PartsDiffer}
 use Rattle.repo_holdings.specs.Wanting.{want_at, job_at}
 use Rattle.group_model.proofs.Lists.{from_filter, in_take}
 use Rattle.repo_mirror.specs.MirrorState.{MirrorState, mirror_holdings, fetch_plan}
-use Rattle.repo_mirror.specs.MirrorOutcomes.{AreFetchedFor, IsMirrorOutcome, WereTriedFor}
-use Rattle.repo_mirror.specs.MirrorOutcomes.{PlannedJobsAreOutcomes}
+use Rattle.repo_mirror.specs.MirrorOutcomes.{AreFetchedFor, IsMirrorOutcome, WereTriedFor, PlannedJobsAreOutcomes}
 use Rattle.repo_mirror.proofs.MirrorLemmas.{all_unclaimed}
 use Rattle.repo_mirror.proofs.WantLemmas.{want_part}
 

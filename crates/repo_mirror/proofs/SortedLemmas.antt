@@ -4,8 +4,7 @@ use Rattle.std.proofs.Common.{drop, refl, sym, ap, ◌∙◌, subst, Option, Som
 use Rattle.std.specs.Prelude.{◌==◌}
 use Rattle.std.specs.List.{insert, filter}
 use Rattle.std.specs.Ordering.{eq_by_cmp}
-use Rattle.std.proofs.lemmas.Bool.{true≢false, or_left, or_right, or_cases, or_from, false_from_ne_true}
-use Rattle.std.proofs.lemmas.Bool.{eqb-true}
+use Rattle.std.proofs.lemmas.Bool.{true≢false, or_left, or_right, or_cases, or_from, false_from_ne_true, eqb-true}
 use Rattle.std.proofs.lemmas.List.{append_assoc, map-append}
 use Rattle.repo_plan.specs.declared.part.Part.{Part}
 use Rattle.sorted_lists.specs.SortedList.{contains, Rises, insert_key, insert_keys}

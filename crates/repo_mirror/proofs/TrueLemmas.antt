@@ -1,7 +1,7 @@
 -- A mirror that takes packets which are those of their parts.
-use Rattle.std.proofs.Common.{◌≡◌, inl, inr, ℕ, ◌+◌, ◌-◌, ◌<◌, ◌^◌, Bool, true, false, cond, not, ◌&&◌, ◌||◌}
-use Rattle.std.proofs.Common.{List, [], length, get_or, refl, sym, ap, ◌∙◌, subst, arith}
-use Rattle.std.proofs.Common.{Option, Some, None, is_some, option_map, unwrap_or}
+use Rattle.std.proofs.Common.{◌≡◌, inl, inr, ℕ, ◌+◌, ◌-◌, ◌<◌, ◌^◌, Bool, true, false, cond, not, ◌&&◌, ◌||◌, List, []}
+use Rattle.std.proofs.Common.{length, get_or, refl, sym, ap, ◌∙◌, subst, arith, Option, Some, None, is_some, option_map}
+use Rattle.std.proofs.Common.{unwrap_or}
 use Rattle.std.specs.Prelude.{◌==◌, filter}
 use Rattle.std.specs.List.{All}
 use Rattle.std.proofs.lemmas.Bool.{true≢false, and_parts, and_from, or_cases, or_left, or_right, not-true, eq-eqb}
@@ -36,10 +36,8 @@ use Rattle.repo_member.proofs.PublicLaws.{takes_truly, stays_true}
 use Rattle.repo_watch.specs.declared.pattern.Pattern.{Pattern}
 use Rattle.repo_mirror.specs.MirrorState.{MirrorState}
 use Rattle.repo_mirror.specs.Passing.{is_told_kept, is_packet_kept, is_fetched_kept, that_are_kept, not_kept}
-use Rattle.repo_mirror.specs.Passing.{passed_over}
-use Rattle.repo_mirror.specs.Passing.{mirror_takes}
-use Rattle.repo_mirror.specs.TrueMirrors.{mirror_in_group, mirror_alone, IsTrueMirror, CameForMirror}
-use Rattle.repo_mirror.specs.TrueMirrors.{MirrorsTakeTrue}
+use Rattle.repo_mirror.specs.Passing.{passed_over, mirror_takes}
+use Rattle.repo_mirror.specs.TrueMirrors.{mirror_in_group, mirror_alone, IsTrueMirror, CameForMirror, MirrorsTakeTrue}
 use Rattle.repo_mirror.proofs.GroupLemmas.{mirrors_want_alike}
 use Rattle.repo_mirror.proofs.SortedLemmas.{passed_record}
 use Rattle.repo_mirror.proofs.TakenLemmas.{is_stored, still_there, then_there, from_there, hidden_is, store_taken}
@@ -88,10 +86,10 @@ module _ (g : GroupKeys) (logs : Logs) (are : AreLogs g logs) (pair : Pair) (the
       h))
       ∙ record_said publisher published_by pair.1 (post_at logs pair) published_post published_low
 
-told_kept : (pattern : Pattern) (publisher : Publisher) (p seq : ℕ) (post : Post)
-    → is_told_kept pattern p (Some (told_of (published_record publisher seq post))) ≡ is_kept_post pattern p post
-told_kept pattern publisher p seq (Offers object) = refl
-told_kept pattern publisher p seq (Withdraws withdrawn) = refl
+told_kept : (pattern : Pattern) (who : Publisher) (p seq : ℕ) (post : Post)
+    → is_told_kept pattern p (Some (told_of (published_record who seq post))) ≡ is_kept_post pattern p post
+told_kept pattern who p seq (Offers object) = refl
+told_kept pattern who p seq (Withdraws withdrawn) = refl
 
 -- a record that came is kept just where what was published is
 record_kept : (g : GroupKeys) (logs : Logs) (pattern : Pattern) (t : Part) (octets : List ℕ) → AreLogs g logs

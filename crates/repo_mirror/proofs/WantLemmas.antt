@@ -1,7 +1,6 @@
 -- The want of a part tells its part, and how many digests its packet has to list.
 use Rattle.std.proofs.Common.{◌≡◌, ℕ, ◌-◌, Bool, true, false, cond, ◌==◌, List, [], refl, sym, ap, ◌∙◌, arith, Option}
-use Rattle.std.proofs.Common.{Some}
-use Rattle.std.proofs.Common.{None, unwrap_or}
+use Rattle.std.proofs.Common.{Some, None, unwrap_or}
 use Rattle.std.specs.Prelude.{nat_le, slice_get}
 use Rattle.std.specs.Option.{option_and_then}
 use Rattle.std.proofs.lemmas.Bool.{leb-true, eqb-false, false_from_ne_true}

@@ -1,6 +1,6 @@
 -- What a mirror keeps of what came, and what it passes over.
-use Rattle.std.specs.Prelude.{◌≡◌, ℕ, Bool, true, false, not, List, [], map, filter, Option, Some, None}
-use Rattle.std.specs.Prelude.{unwrap_or, option_map}
+use Rattle.std.specs.Prelude.{◌≡◌, ℕ, Bool, true, false, not, List, [], map, filter, Option, Some, None, unwrap_or}
+use Rattle.std.specs.Prelude.{option_map}
 use Rattle.sorted_lists.specs.SortedList.{insert_keys}
 use Rattle.repo_plan.specs.declared.part.Part.{Part}
 use Rattle.repo_plan.specs.Parts.{Pair, pair_cmp, pair_of}

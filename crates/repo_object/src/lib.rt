@@ -1,5 +1,7 @@
 //! Publications of a repository group as packets: cutting a content into segments, the packets of objects and
 //! withdrawals, records and index packets and what they say, the wants of parts, and whether octets pass for a want.
+//!
+//! What is promised of it: `docs/promises/repo_object.md`.
 #![tactic(auto)]
 
 mod checked;

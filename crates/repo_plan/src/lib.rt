@@ -1,5 +1,7 @@
 //! The fetch plan of one member of a repository group: which parts of the known publications it holds, which it still
 //! wants, and which of those its fetchers claim.
+//!
+//! What is promised of it: `docs/promises/repo_plan.md`.
 #![tactic(auto)]
 
 mod laws;

@@ -1,5 +1,7 @@
 //! Insertions of objects whose blocks come one by one (repo protocol): each is a process with a number, which is
 //! complete once all of its blocks are there.
+//!
+//! What is promised of it: `docs/promises/repo_process.md`.
 #![tactic(auto)]
 
 mod block_state;

@@ -1,5 +1,7 @@
 //! The packets that a member of a repository group holds, by their parts, and which of them answers
 //! an Interest.
+//!
+//! What is promised of it: `docs/promises/repo_store.md`.
 #![tactic(auto)]
 
 mod index;

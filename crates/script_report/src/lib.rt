@@ -1,5 +1,7 @@
 //! The lines of a report: one call for each form of line, which appends exactly its octets or changes
 //! nothing.
+//!
+//! What is promised of it: `docs/promises/script_report.md`.
 #![tactic(auto)]
 
 mod commands;

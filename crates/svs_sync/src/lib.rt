@@ -1,6 +1,8 @@
 //! Sync Interests and the suppression of State Vector Sync: how a member tells the others of its
 //! state vector, and what it takes from them; when it sends, and when it holds back because others
 //! have told what it knows.
+//!
+//! What is promised of it: `docs/promises/svs_sync.md`.
 #![tactic(auto)]
 
 mod fired;

@@ -1,5 +1,7 @@
 //! State vectors of a group whose members are numbered from 0: one sequence number a member, joined by taking the
 //! greater number in each place (State Vector Sync).
+//!
+//! What is promised of it: `docs/promises/svs_vector.md`.
 #![tactic(auto)]
 
 mod entry;

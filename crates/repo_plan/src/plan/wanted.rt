@@ -1,7 +1,7 @@
 ghost use Rattle.std.specs.Prelude.{ℕ, ◌≡◌, ◌<◌, ◌≤◌, true, false, take, length, slice_index, Some, None, IfOk};
 ghost use Rattle.std.specs.List.{list_any, filter, flat_map};
 ghost use Rattle.repo_plan.specs.declared.part.Part.{Part};
-ghost use Rattle.repo_plan.specs.Parts.{IsShape, pair_of, part_of, parent};
+ghost use Rattle.repo_plan.specs.Parts.{IsShape, pair_of, record_of, part_of, parent};
 ghost use Rattle.repo_plan.specs.Plan.{knows, holds, hides, is_asked, is_claim_of, is_done, unclaimed, first, is_after};
 ghost use Rattle.repo_plan.specs.Plan.{is_next, parts_known, pairs_of, shape_of};
 
@@ -141,14 +141,17 @@ impl Plan {
         None
     }
 
-    // Whether the part that lists this one is held.
+    // Whether the part that lists this one is held, of a publication whose record is.
     fn is_listed(&self, part: Part, shape: Shape) -> bool
+        requires record { holds self.now (record_of part) ≡ true }
         ensures { result ≡ holds self.now (parent shape part) }
     {
-        self.holds(Part {
-            part: shape.parent(part.part),
-            ..part
-        })
+        let parent = shape.parent(part.part);
+        parent == 0
+            || self.holds(Part {
+                part: parent,
+                ..part
+            })
     }
 
     // Whether a part that is asked for and not held is greater than `after` and claimed by no fetcher.

@@ -1,0 +1,9 @@
+mod Around
+mod Journals
+mod Begins
+mod ClaimSteps
+mod HearSteps
+mod AcceptSteps
+mod PublishSteps
+mod Loans
+pub mod PublicLaws

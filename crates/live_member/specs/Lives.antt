@@ -1,0 +1,46 @@
+-- What stands under a member's lock.
+use Rattle.std.specs.Prelude.{ℕ, ◌≡◌, ◌+◌, ◌≤◌, List, [], ◌++◌, length, slice_index}
+use Rattle.repo_object.specs.Objects.{NamedContents}
+use Rattle.repo_member.specs.Alone.{Alone, alone_opening}
+use Rattle.repo_member.specs.InGroup.{AreLogs, in_group}
+use Rattle.repo_member.specs.TrueMembers.{IsTrueMember}
+use Rattle.live_member.specs.declared.event.LiveEntry.{LiveEntry}
+use Rattle.live_member.specs.Meanings.{Meaning, objects_of, as_posts, logs_at, IsWithinLimits}
+use Rattle.live_member.specs.Replay.{Replays}
+
+-- A member, its journal, and the objects that it is still to publish.
+pub record Living : Type 0 where
+  pub state : Alone
+  pub journal : List LiveEntry
+  pub coming : List NamedContents
+
+abbrev pub living : Alone → List LiveEntry → List NamedContents → Living
+living state journal coming = record { state = state; journal = journal; coming = coming }
+
+-- A member that has just begun.
+abbrev pub opening : Meaning → ℕ → Alone
+opening t j = alone_opening (length t.lists) j 0 (slice_index t.draws j)
+
+-- A journal, from the beginning of the member on, replays to it.
+abbrev pub ReplaysTo : Meaning → List LiveEntry → Alone → Type 0
+ReplaysTo t journal a = Replays t a.number journal (in_group (opening t a.number)) (in_group a)
+
+-- The group is within its limits. The journal replays to the member. What it published, followed by what is still to
+-- come, is its list. It is as each in a sound group in which the others have published their whole lists, each packet
+-- that it stores is that of its part, and it hides nothing. It used no more draws than it has entries, but for the
+-- first, and no more entries than there is room for.
+pub record IsLive (t : Meaning) (most : ℕ) (l : Living) : Type 0 where
+  pub within : IsWithinLimits t
+  pub replays : ReplaysTo t l.journal l.state
+  pub list : l.state.log ++ as_posts l.coming ≡ as_posts (objects_of t l.state.number)
+  pub logs : AreLogs t.group (logs_at t l.state.number l.state.log)
+  pub truly : IsTrueMember t.group (logs_at t l.state.number l.state.log) l.state
+  pub hidden : l.state.hidden ≡ []
+  pub draws : l.state.machine.draws ≤ length l.journal + 1
+  pub room : length l.journal ≤ most
+
+-- The same with the number and the draw that are kept beside the member.
+pub record IsKept (t : Meaning) (most number draw : ℕ) (l : Living) : Type 0 where
+  pub its_number : number ≡ l.state.number
+  pub its_draw : draw ≡ slice_index t.draws number
+  pub live : IsLive t most l
