@@ -1,6 +1,6 @@
 -- A Data packet that was written is read back.
-use Rattle.std.proofs.Common.{◌≡◌, ℕ, ◌+◌, ◌-◌, ◌^◌, ◌<◌, ◌≤◌, List, [], ◌∷◌, ◌++◌, length, length-append, take, drop}
-use Rattle.std.proofs.Common.{take_at, drop_at, append_assoc, slice_range, Option, Some, None, Result, Ok, refl, sym}
+use Rattle.std.proofs.Common.{◌≡◌, ℕ, ◌+◌, ◌-◌, ◌^◌, ◌<◌, ◌≤◌, List, [], ◌∷◌, ◌++◌, length, length-append, take}
+use Rattle.std.proofs.Common.{append_assoc, slice_range, Option, Some, None, Result, Ok, refl}
 use Rattle.std.proofs.Common.{ap, ◌∙◌, arith}
 use Rattle.ndn_tlv.specs.declared.tlv_fault.TlvFault.{TlvFault}
 use Rattle.ndn_tlv.specs.Spelling.{head, element}
@@ -21,7 +21,8 @@ use Rattle.ndn_packet.specs.Outer.{outer_of}
 use Rattle.ndn_packet.specs.SignatureInfo.{Info}
 use Rattle.ndn_packet.specs.Written.{written_info}
 use Rattle.ndn_packet.proofs.Lengths.{length-element}
-use Rattle.ndn_packet.proofs.ReadBack.{alone, followed, outer_again, name_again, info_again, gathers, gathered-nothing}
+use Rattle.ndn_packet.proofs.ReadBack.{alone, followed, portion_is, outer_again, name_again, info_again, gathers}
+use Rattle.ndn_packet.proofs.ReadBack.{gathered-nothing}
 use Rattle.ndn_data.specs.declared.meta_info.MetaField.TheVariants.{FinalBlockId}
 use Rattle.ndn_data.specs.declared.data_fields.DataField.TheVariants.{Name, MetaInfo, Content, SignatureInfo}
 use Rattle.ndn_data.specs.declared.data_fields.DataField.TheVariants.{SignatureValue}
@@ -86,15 +87,6 @@ whole_table : (a m b c d : Item) → a.typ ≡ 0x07 → m.typ ≡ 0x14 → b.typ
     ((MetaInfo, m) then ((Content, b) then ((SignatureInfo, c) then ((SignatureValue, d) then nothing)))))
 unfolding fields_among place_of
 whole_table a m b c d h l i j k = rw (h, l, i, j, k) refl
-
--- the octets from the Name on, where nothing stands before it
-portion_is : (front portion tail : List ℕ) (from to : ℕ) → from ≡ length front → to ≡ from + length portion
-    → slice_range (front ++ (portion ++ tail)) from to ≡ portion
-portion_is front portion tail from to f t =
-    let long : to - from ≡ length portion = omega arith in
-    ap (λ (n : ℕ). take n (drop from (front ++ (portion ++ tail)))) long
-    ∙ ap (λ (l : List ℕ). take (length portion) l) (drop_at front (portion ++ tail) from (sym f))
-    ∙ take_at portion tail (length portion) refl
 
 module _ (name key_name : List Component) (content mac : List ℕ) (octets : List ℕ) (valid : IsName name)
     (key_valid : IsName key_name) where

@@ -123,7 +123,7 @@ abbrev done : DataSoFar → Result DataSoFar PacketFault
 done s = Ok s
 
 -- a name that was read is spelled in its element
-name_or_ok : (bad : PacketFault) (r : Result (List Component) NameFault) (name : List Component)
+pub name_or_ok : (bad : PacketFault) (r : Result (List Component) NameFault) (name : List Component)
     → name_or bad r ≡ Ok name → r ≡ Ok name
 name_or_ok bad (Ok n) name e = let same : n ≡ name = cc in ap (λ (x : List Component). Ok x) same
 name_or_ok bad (Err f) name e = absurd cc
@@ -305,7 +305,7 @@ data_gathers octets e s fits short whole at h =
 
 -- ---- the whole packet
 
-some_is : {A : Type 0} (fault : PacketFault) (o : Option A) (x : A) → ok_or o fault ≡ Ok x → o ≡ Some x
+pub some_is : {A : Type 0} (fault : PacketFault) (o : Option A) (x : A) → ok_or o fault ≡ Ok x → o ≡ Some x
 some_is fault (Some y) x e = cc
 some_is fault None x e = absurd cc
 

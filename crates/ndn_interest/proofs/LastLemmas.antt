@@ -4,7 +4,7 @@ use Rattle.std.proofs.Common.{take, take_at, Option, Some, None, slice_get, refl
 use Rattle.std.specs.Option.{option_map_or}
 use Rattle.std.proofs.lemmas.List.{nil_from_length}
 use Rattle.std.proofs.lemmas.Bool.{eqb-true}
-use Rattle.ndn_tlv.specs.Spelling.{element}
+use Rattle.ndn_tlv.specs.Spelling.{number, head, element}
 use Rattle.ndn_name.specs.Names.{Component, IsComponent, IsName, encoding}
 use Rattle.ndn_name.proofs.Encodings.{encoding-push}
 use Rattle.ndn_packet.proofs.Ends.{slice_get-push}
@@ -31,6 +31,13 @@ pub found : (o : Option Component) → option_map_or (λ c. eqb c.0 2) o false �
     → (c : Component) × (o ≡ Some c) × (c.0 ≡ 2)
 found None h = absurd cc
 found (Some c) h = (c, refl, eqb-true c.0 2 h)
+
+digest_head : head 2 32 ≡ 2 ∷ 32 ∷ []
+unfolding number
+digest_head = refl
+
+pub digest_spelled : (digest : List ℕ) → length digest ≡ 32 → element 2 digest ≡ 2 ∷ 32 ∷ digest
+digest_spelled digest long = ap (λ (n : ℕ). head 2 n ++ digest) long ∙ ap (λ (h : List ℕ). h ++ digest) digest_head
 
 pub record EndsIn (name : List Component) : Type 0 where
   pub digest : List ℕ

@@ -1,6 +1,6 @@
 -- An Interest that was written is read back.
 use Rattle.std.proofs.Common.{◌≡◌, ℕ, ◌+◌, ◌-◌, ◌<◌, ◌≤◌, Bool, true, false, cond, not, List, [], ◌∷◌, ◌++◌, length}
-use Rattle.std.proofs.Common.{length-append, take, drop, take_at, drop_at, append_assoc, slice_range, Some, None}
+use Rattle.std.proofs.Common.{length-append, take, drop, drop_at, append_assoc, slice_range, Some, None}
 use Rattle.std.proofs.Common.{Result, Ok, Err, refl, sym, ap, ◌∙◌, arith}
 use Rattle.std.proofs.lemmas.List.{append-nil}
 use Rattle.sha2.specs.Sha256.{sha256}
@@ -20,7 +20,8 @@ use Rattle.ndn_sign.specs.Hmac.{hmac}
 use Rattle.ndn_packet.specs.SignatureInfo.{Info}
 use Rattle.ndn_packet.specs.Written.{written_info}
 use Rattle.ndn_packet.proofs.Lengths.{length-element}
-use Rattle.ndn_packet.proofs.ReadBack.{alone, followed, outer_again, name_again, info_again, gathers, gathered-nothing}
+use Rattle.ndn_packet.proofs.ReadBack.{alone, followed, portion_is, outer_again, name_again, info_again, gathers}
+use Rattle.ndn_packet.proofs.ReadBack.{gathered-nothing}
 use Rattle.ndn_interest.specs.declared.interest_fields.InterestField.TheVariants.{Name, CanBePrefix}
 use Rattle.ndn_interest.specs.declared.interest_fields.InterestField.TheVariants.{ApplicationParameters}
 use Rattle.ndn_interest.specs.declared.interest_fields.InterestField.TheVariants.{InterestSignatureInfo}
@@ -145,17 +146,9 @@ plain_again name false valid some short =
 
 -- ---- a signed Interest
 
--- octets from a place on, and up to another
+-- octets from a place on
 behind_is : (front tail : List ℕ) (from : ℕ) → from ≡ length front → drop from (front ++ tail) ≡ tail
 behind_is front tail from f = drop_at front tail from (sym f)
-
-between_is : (front portion tail : List ℕ) (from to : ℕ) → from ≡ length front → to ≡ from + length portion
-    → slice_range (front ++ (portion ++ tail)) from to ≡ portion
-between_is front portion tail from to f t =
-    let long : to - from ≡ length portion = omega arith in
-    ap (λ (n : ℕ). take n (drop from (front ++ (portion ++ tail)))) long
-    ∙ ap (λ (l : List ℕ). take (length portion) l) (drop_at front (portion ++ tail) from (sym f))
-    ∙ take_at portion tail (length portion) refl
 
 module _ (name key_name : List Component) (parameters key : List ℕ) where
   abbrev portion : List ℕ
@@ -270,7 +263,7 @@ module _ (name key_name : List Component) (parameters key : List ℕ) where
       let at : p ≡ length front = omega (arith, length-append (head 0x05 (length value)) first) in
       let behind : drop p octets ≡ digested = ap (drop p) whole ∙ behind_is front digested p at in
       let between : slice_range octets p r ≡ portion =
-      ap (λ (x : List ℕ). slice_range x p r) whole ∙ between_is front portion last p r at (omega arith) in
+      ap (λ (x : List ℕ). slice_range x p r) whole ∙ portion_is front portion last p r at (omega arith) in
       finished value (all_fields p r) (made name portion digested) short all (makes p r between behind)
 
   pub has_digest : last_component full ≡ Some (2, sha256 digested)

@@ -8,8 +8,8 @@ use Rattle.std.proofs.lemmas.Bool.{and_parts, and_from, eqb-true, eq-eqb}
 use Rattle.std.proofs.lemmas.Slice.Eq.{bytes_eq-Decides}
 use Rattle.sha2.specs.Sha256.{sha256}
 use Rattle.ndn_tlv.specs.Listing.{◌>>=◌}
+use Rattle.ndn_tlv.proofs.Steps.{bind_ok}
 use Rattle.ndn_name.specs.Names.{Component, encoding}
-use Rattle.ndn_name.proofs.Encodings.{bind_ok}
 use Rattle.ndn_sign.specs.Hmac.{hmac}
 use Rattle.ndn_sign.specs.Ring.{NamedKey, key_number, pair}
 use Rattle.ndn_interest.specs.Interest.{Interest, IsDigested, last_component}
@@ -123,13 +123,12 @@ signer_there ring i number e =
 
 -- ---- the signer of what was written
 
-same_octets : (octets : List ℕ) → bytes_eq octets octets ≡ true
-same_octets octets = (bytes_eq-Decides octets octets).1 refl
-
 pub signer_again : (name key_name : List Component) (parameters key : List ℕ) (ring : List NamedKey) (signer : ℕ)
     → key_number (encoding key_name) ring ≡ Some signer → slice_get ring signer ≡ Some (pair (encoding key_name) key)
     → signer_of ring (read_signed name parameters key_name key) ≡ Ok signer
 signer_again name key_name parameters key ring signer found at =
     let digest = sha256 (written_digested name parameters key_name key) in
     let mac = hmac key (encoding name ++ written_signed_parameters parameters key_name) in
-    rw (last-push name (2, digest), same_octets digest, found, at, same_octets mac) refl
+    let same_digest : bytes_eq digest digest ≡ true = (bytes_eq-Decides digest digest).1 refl in
+    let same_mac : bytes_eq mac mac ≡ true = (bytes_eq-Decides mac mac).1 refl in
+    rw (last-push name (2, digest), same_digest, found, at, same_mac) refl

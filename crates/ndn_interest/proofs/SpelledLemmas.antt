@@ -5,6 +5,7 @@ use Rattle.std.proofs.Common.{Err, IfSome, MatchOption, refl, sym, ap, subst, �
 use Rattle.std.specs.Prelude.{option_map, is_some, is_none}
 use Rattle.std.specs.Option.{option_map_or}
 use Rattle.std.proofs.Math.Seq.{take-append-add}
+use Rattle.std.proofs.lemmas.Bool.{not-false}
 use Rattle.std.proofs.lemmas.List.Folds.{drop_split}
 use Rattle.std.proofs.lemmas.Option.{slice_get_within}
 use Rattle.ndn_tlv.specs.Spelling.{head, element}
@@ -317,10 +318,6 @@ digests octets value start low i (Some p) at is n =
       parts = sym at ∙ drop_split octets start p.0 n.behind_start ∙ ap (λ (r : List ℕ). before ++ r) n.parts;
     }
 
-not_false : (b : Bool) → not b ≡ false → b ≡ true
-not_false true h = refl
-not_false false h = absurd cc
-
 abbrev pair : ℕ → List ℕ → Component
 pair t v = (t, v)
 
@@ -334,7 +331,7 @@ signs octets i name None info g a b c d h n = tt
 signs octets i name (Some p) None g a b c d h n = tt
 signs octets i name (Some p) (Some x) None a b c d h n = tt
 signs octets i name (Some p) (Some x) (Some g) a b c d h n =
-    let f = found (last_component name) (not_false (ends_in_digest name) h) in
+    let f = found (last_component name) (not-false (ends_in_digest name) h) in
     let last = f.0 in
     let within = slice_get_within name (length name - 1) last f.1 in
     let ends : name ≡ without_last name ++ (2, last.1) ∷ [] =

@@ -2,7 +2,6 @@
 use Rattle.std.proofs.Common.{◌≡◌, ℕ, ◌+◌, Bool, true, false, cond, eqb, ltb, List, [], ◌∷◌, ◌++◌, length, Option, Some}
 use Rattle.std.proofs.Common.{None, refl, sym, ap, subst, ◌∙◌, arith, ◌↔◌, inl, inr}
 use Rattle.std.specs.Prelude.{codes, bytes_eq, unwrap_or}
-use Rattle.std.specs.Cmp.Lexicographic.{bytes_decides}
 use Rattle.std.specs.List.{slice_split, onto_first}
 use Rattle.std.specs.Option.{option_and_then}
 use Rattle.std.proofs.lemmas.Bool.{lt-ltb, ltb-true, eq-eqb, eqb-true, eqb-false, ne_eqb, cases_Bool}
@@ -20,7 +19,7 @@ use Rattle.ndn_name.specs.UriText.{unescaped, value_of_text, digest_of_text, dec
 use Rattle.ndn_name.specs.UriText.{typed_by, component_of_parts, cut_at, component_by, component_of_text}
 use Rattle.ndn_name.specs.UriText.{component_in_front, components_of_texts, name_of_path, behind_word, without_scheme}
 use Rattle.ndn_name.specs.UriText.{name_of_text}
-use Rattle.ndn_name.proofs.Heads.{head-lacks, head-same}
+use Rattle.ndn_name.proofs.Heads.{is_word, head-lacks, head-same}
 use Rattle.ndn_name.proofs.ComponentTexts.{component-cases, component-headed, component-lacks, no_equals}
 use Rattle.ndn_name.proofs.PathTexts.{rooted_begins, rooted-path}
 use Rattle.ndn_name.proofs.ComputedValues.{option_map_some, none_from, either, value_is, is_value, digest_is}
@@ -34,11 +33,6 @@ pub cut_at-splits : (s : ℕ) (front text : List ℕ) → LacksOctet s front
 unfolding cut_at
 cut_at-splits s [] text h = rw (eq-eqb s s refl) refl
 cut_at-splits s (c ∷ front) text h = rw (ne_eqb c s h.0, cut_at-splits s front text h.1) refl
-
-pub cut_at-lacks : (s : ℕ) (text : List ℕ) → LacksOctet s text → cut_at s text ≡ None
-unfolding cut_at
-cut_at-lacks s [] h = refl
-cut_at-lacks s (c ∷ text) h = rw (ne_eqb c s h.0, cut_at-lacks s text h.1) refl
 
 -- what is cut
 pub record IsCut (s : ℕ) (text front rest : List ℕ) : Type 0 where
@@ -98,9 +92,6 @@ is_tail (Number typ) c tail h =
 is_tail (Escaped typ) c tail h =
     let m = option_map_some (of_type typ) (value_of_text tail) c h in
     subst (λ (d : Component). IsTail (Escaped typ) d tail) m.2 (refl, is_value tail m.0 m.1)
-
-is_word : (head word : List ℕ) → bytes_eq head word ≡ true → head ≡ word
-is_word head word h = (bytes_decides head word).0 h
 
 -- a decimal type is no keyword
 other_word : (typ : ℕ) (head word : List ℕ) (form : Form) → IsHead (Escaped typ) head

@@ -178,10 +178,10 @@ is_digest_text text value h =
 
 -- ---- numbers in decimal
 
-numerals : IsNumeralModel (λ ds. list_all is_ascii_digit ds ≡ true) (digits_value 10)
+pub numerals : IsNumeralModel (λ ds. list_all is_ascii_digit ds ≡ true) (digits_value 10)
 numerals = numerals_by_value _ (search rules)
 
-digit_of : (d : ℕ) → d < 10 → is_ascii_digit (48 + d) ≡ true
+pub digit_of : (d : ℕ) → d < 10 → is_ascii_digit (48 + d) ≡ true
 digit_of d h = grind (arith, nat_tests)
 
 pub decimal_digits : (n : ℕ) → n < 2 ^ 64 → list_all is_ascii_digit (decimal n) ≡ true
@@ -195,20 +195,20 @@ decimal_digits n small = decimal_by_steps (λ _ ds. list_all is_ascii_digit ds �
       list_all-append is_ascii_digit ds ((48 + m % 10) ∷ [])
       ∙ and_from (list_all is_ascii_digit ds) _ h (one (m % 10) (omega arith))
 
-first_of_decimal : (n : ℕ) → n < 2 ^ 64 → get_or (decimal n) 0 0 ≡ 48 → length (decimal n) ≡ 1
+pub first_of_decimal : (n : ℕ) → n < 2 ^ 64 → get_or (decimal n) 0 0 ≡ 48 → length (decimal n) ≡ 1
 first_of_decimal zero small h = ap length (decimal_digit 0 (omega arith))
 first_of_decimal (suc n) small h =
     let some = first_decimal (suc n) (omega arith) small in
     absurd (omega arith)
 
-zero_alone : (c n : ℕ) → (c ≡ 48 → n ≡ 0) → (not (eqb c 48) || eqb n 0) ≡ true
+pub zero_alone : (c n : ℕ) → (c ≡ 48 → n ≡ 0) → (not (eqb c 48) || eqb n 0) ≡ true
 zero_alone c n h =
     elim (eqb_tells c 48) [
       | inl p ↦ or_right (not (eqb c 48)) (eqb n 0) (eq-eqb n 0 (h p.1))
       | inr p ↦ or_left (not (eqb c 48)) (eqb n 0) (not_from_false (eqb c 48) p.0)
     ]
 
-zero_first : (c n : ℕ) → (not (eqb c 48) || eqb n 0) ≡ true → c ≡ 48 → n ≡ 0
+pub zero_first : (c n : ℕ) → (not (eqb c 48) || eqb n 0) ≡ true → c ≡ 48 → n ≡ 0
 zero_first c n h e = grind (arith, nat_tests)
 
 decimal_from : (ds : List ℕ) → 0 < length ds → list_all is_ascii_digit ds ≡ true

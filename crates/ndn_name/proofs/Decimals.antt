@@ -9,6 +9,7 @@ use Rattle.std.proofs.lemmas.Bool.{cases_lt, ltb-true, ltb-false, leb-true, leb-
 use Rattle.std.proofs.lemmas.List.{append-nil}
 use Rattle.std.proofs.lemmas.Fmt.{decimal_is_IsNumeral, decimal_digit, decimal_step, decimal_nonempty, first_decimal}
 use Rattle.std.proofs.lemmas.Fmt.{decimal_injective}
+use Rattle.std.proofs.lemmas.Option.{same_Some}
 use Rattle.ndn_name.specs.Uri.{IsDecimal}
 use Rattle.ndn_name.specs.UriVerdict.{LeavesLanguage}
 use Rattle.ndn_name.specs.UriReading.{with_digit}
@@ -61,11 +62,8 @@ decimal-push n c some small fits =
 abbrev some_number : ℕ → Option ℕ
 some_number n = Some n
 
-some_is : (m n : ℕ) → some_number m ≡ some_number n → m ≡ n
-some_is m n e = cc
-
 guard_some : (b : Bool) (m n : ℕ) → cond b (some_number m) None ≡ Some n → (b ≡ true) × (m ≡ n)
-guard_some true m n e = (refl, some_is m n e)
+guard_some true m n e = (refl, same_Some m n e)
 guard_some false m n e = absurd cc
 
 guard_none : (b : Bool) (m : ℕ) → cond b (some_number m) None ≡ None → b ≡ false

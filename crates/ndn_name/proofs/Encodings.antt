@@ -10,6 +10,7 @@ use Rattle.ndn_tlv.specs.Listing.{Listing, ◌>>=◌, gather, gathered}
 use Rattle.ndn_tlv.specs.Elements.{IsOctets, Item, placed, elements, AreElements}
 use Rattle.ndn_tlv.proofs.Numbers.{IsOctets-drop, IsOctets-take, number-narrow, number-16, number-32, number-64}
 use Rattle.ndn_tlv.proofs.Listings.{elements-nil, elements-element, elements_are}
+use Rattle.ndn_tlv.proofs.Steps.{guard_ok, bind_ok, ok_is}
 use Rattle.ndn_name.specs.declared.name_fault.NameFault.{NameFault}
 use Rattle.ndn_name.specs.declared.name_fault.NameFault.TheVariants.{Tlv, BadComponent, BadDigestLength}
 use Rattle.ndn_name.specs.Names.{Component, IsComponent, IsName, IsValue, encoding, component_of, with_component}
@@ -23,10 +24,6 @@ pairs es = map (λ (e : Item). (e.typ, e.value)) es
 pub encoding-nil : encoding [] ≡ []
 unfolding encoding
 encoding-nil = refl
-
-pub encoding-cons : (c : Component) (cs : List Component) → encoding (c ∷ cs) ≡ element c.0 c.1 ++ encoding cs
-unfolding encoding
-encoding-cons c cs = refl
 
 pub encoding-append : (a b : List Component) → encoding (a ++ b) ≡ encoding a ++ encoding b
 unfolding encoding
@@ -111,22 +108,8 @@ name_of-encoding offset name h = gathered-encoding offset [] name h
 
 -- ---- what is read was encoded
 
--- the value of a step that did not fail
-pub bind_ok : {A B E : Type 0} (r : Result A E) (f : A → Result B E) (y : B) → (r >>= f) ≡ Ok y
-    → (x : A) × (r ≡ Ok x) × (f x ≡ Ok y)
-bind_ok (Ok x) f y e = (x, refl, e)
-bind_ok (Err d) f y e = absurd cc
-
 abbrev pub done : {A : Type 0} → A → Result A NameFault
 done x = Ok x
-
-pub ok_is : {A : Type 0} (x y : A) → done x ≡ done y → x ≡ y
-ok_is x y e = cc
-
-guard_ok : {A : Type 0} (b : Bool) (f : NameFault) (r : Result A NameFault) (y : A) → cond b (Err f) r ≡ Ok y
-    → (b ≡ false) × (r ≡ Ok y)
-guard_ok true f r y e = absurd cc
-guard_ok false f r y e = (refl, e)
 
 component_takes : (e : Item) (c : Component) → component_of e ≡ Ok c → 0 < e.typ → length e.value < 2 ^ 64
     → IsOctets e.value → ((e.typ, e.value) ≡ c) × IsComponent (e.typ, e.value)

@@ -1,17 +1,18 @@
 -- The texts of octets: what is read at the front, and where a text leaves them.
-use Rattle.std.proofs.Common.{◌≡◌, ℕ, ◌+◌, ◌*◌, ◌<◌, Bool, true, false, cond, ltb, eqb, List, [], ◌∷◌, ◌++◌, length}
+use Rattle.std.proofs.Common.{◌≡◌, ℕ, ◌+◌, ◌*◌, ◌<◌, true, false, cond, ltb, eqb, List, [], ◌∷◌, ◌++◌, length}
 use Rattle.std.proofs.Common.{length-append, Result, Ok, Err, refl, sym, ap, subst, ◌∙◌, append_assoc, arith, ◌⊎◌, inl}
 use Rattle.std.proofs.Common.{inr}
 use Rattle.std.specs.Char.{digit_value}
 use Rattle.std.proofs.lemmas.Bool.{ltb-true, ltb-false, eqb-true, eqb-false}
 use Rattle.std.proofs.lemmas.List.{append-nil}
 use Rattle.ndn_tlv.specs.Listing.{◌>>=◌}
+use Rattle.ndn_tlv.proofs.Steps.{chosen, bind_ok, ok_is}
 use Rattle.ndn_name.specs.declared.name_fault.NameFault.{NameFault}
 use Rattle.ndn_name.specs.declared.name_fault.NameFault.TheVariants.{BadUri}
 use Rattle.ndn_name.specs.Uri.{is_unreserved, IsPair, IsOctetText, plain, escape, IsEscaped}
 use Rattle.ndn_name.specs.UriVerdict.{LeavesLanguage}
 use Rattle.ndn_name.specs.UriReading.{digit_at, pair_at, octet_at}
-use Rattle.ndn_name.proofs.Encodings.{bind_ok, done, ok_is}
+use Rattle.ndn_name.proofs.Encodings.{done}
 use Rattle.ndn_name.proofs.LeavesLemmas.{Leaves-behind, Leaves-first, Leaves-end}
 
 -- ---- steps that fail
@@ -27,11 +28,6 @@ failed f = Err f
 
 err_is : {A : Type 0} (x y : NameFault) → failed {A = A} x ≡ failed {A = A} y → x ≡ y
 err_is x y e = cc
-
--- which way a test went
-chosen : {A : Type 0} (b : Bool) (x y z : A) → cond b x y ≡ z → ((b ≡ true) × (x ≡ z)) ⊎ ((b ≡ false) × (y ≡ z))
-chosen true x y z e = inl (refl, e)
-chosen false x y z e = inr (refl, e)
 
 -- ---- digits
 

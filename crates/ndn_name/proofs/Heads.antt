@@ -8,16 +8,13 @@ use Rattle.std.specs.Cmp.Lexicographic.{bytes_decides}
 use Rattle.std.specs.Fmt.{decimal}
 use Rattle.std.specs.Str.Parse.{AllDigits}
 use Rattle.std.proofs.lemmas.Fmt.{decimal_is_IsNumeral, decimal_injective, decimal_nonempty}
+use Rattle.ndn_tlv.proofs.Steps.{chosen}
 use Rattle.ndn_name.specs.declared.uri_form.Form.{Form}
 use Rattle.ndn_name.specs.declared.uri_form.Form.TheVariants.{Digest, Number, Escaped}
 use Rattle.ndn_name.specs.Uri.{is_unreserved, IsDecimal}
 use Rattle.ndn_name.specs.UriReading.{HasNoHead, IsHead, keyword_of, LacksOctet}
 use Rattle.ndn_name.proofs.Decimals.{digit_char}
 use Rattle.ndn_name.proofs.Separators.{lacks-test, lacks-separator, split-same}
-
-chosen : {A : Type 0} (b : Bool) (x y z : A) → cond b x y ≡ z → ((b ≡ true) × (x ≡ z)) ⊎ ((b ≡ false) × (y ≡ z))
-chosen true x y z e = inl (refl, e)
-chosen false x y z e = inr (refl, e)
 
 abbrev some_form : Form → Option Form
 some_form f = Some f
@@ -39,7 +36,7 @@ from_seg head = cond (bytes_eq head (codes "seg")) (Some (Number 50)) (from_v he
 abbrev from_params : List ℕ → Option Form
 from_params head = cond (bytes_eq head (codes "params-sha256")) (Some (Digest 2)) (from_seg head)
 
-is_word : (head word : List ℕ) → bytes_eq head word ≡ true → head ≡ word
+pub is_word : (head word : List ℕ) → bytes_eq head word ≡ true → head ≡ word
 is_word head word h = (bytes_decides head word).0 h
 
 pub keyword-some : (head : List ℕ) (form : Form) → keyword_of head ≡ Some form → IsHead form head

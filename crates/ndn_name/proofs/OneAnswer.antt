@@ -4,7 +4,7 @@ use Rattle.std.proofs.Common.{length-append, take, drop, Option, Some, None, Res
 use Rattle.std.proofs.Common.{append_assoc, arith, ◌⊎◌, inl, inr}
 use Rattle.std.specs.Prelude.{codes}
 use Rattle.std.proofs.lemmas.Bool.{cases_lt, lt-ltb, le-ltb}
-use Rattle.std.proofs.lemmas.List.{take-append-drop, take-take}
+use Rattle.std.proofs.lemmas.List.{take-append-drop, take-take, append_cancel_left}
 use Rattle.ndn_tlv.specs.NumberField.{number_field}
 use Rattle.ndn_name.specs.declared.name_fault.NameFault.{NameFault}
 use Rattle.ndn_name.specs.declared.name_fault.NameFault.TheVariants.{Tlv, BadComponent, BadDigestLength, NameTooLong}
@@ -23,7 +23,7 @@ use Rattle.ndn_name.proofs.Decimals.{decimal-same}
 use Rattle.ndn_name.proofs.Separators.{split-same, parts-same}
 use Rattle.ndn_name.proofs.Heads.{head-lacks, head-same}
 use Rattle.ndn_name.proofs.ComponentTexts.{component-cases, component-lacks, no_equals}
-use Rattle.ndn_name.proofs.PathTexts.{path-bounded, rooted_begins, cancel}
+use Rattle.ndn_name.proofs.PathTexts.{path-bounded, rooted_begins}
 
 -- ---- components
 
@@ -133,7 +133,7 @@ uri-same a b text h k =
             | inl y ↦ absurd (slash_or_scheme 0 b text x.0 y x.1)
             | inr y ↦
                 let P : List ℕ → Type 0 = λ t. IsRooted 4 b t in
-                rooted-same a b 4 x.0 x.2 (subst P (cancel (codes "ndn:") y.0 x.0 (sym y.1 ∙ x.1)) y.2)
+                rooted-same a b 4 x.0 x.2 (subst P (append_cancel_left (codes "ndn:") y.0 x.0 (sym y.1 ∙ x.1)) y.2)
           ]
     ]
 

@@ -7,9 +7,10 @@ use Rattle.std.specs.Ordering.{nat_cmp, ordering_then, ordering_reverse}
 use Rattle.std.specs.Cmp.Lexicographic.{slice_cmp}
 use Rattle.std.specs.Int.{w16, w32, w64, to_be_bytes}
 use Rattle.std.specs.Int.Digits.{number_from_digits_after, AllBelowBase}
-use Rattle.std.proofs.lemmas.Bool.{cases_lt, lt-ltb}
+use Rattle.std.proofs.lemmas.Bool.{cases_lt}
 use Rattle.std.proofs.lemmas.Cmp.{nat_cmp_total, nat_list_cmp_total, tied_itself}
 use Rattle.std.proofs.lemmas.Nat.{from_be_bytes-to_be_bytes_2, from_be_bytes-to_be_bytes_4, from_be_bytes-to_be_bytes_8}
+use Rattle.std.specs.Cmp.{nat_cmp_is}
 use Rattle.ndn_tlv.specs.Spelling.{number, element}
 use Rattle.ndn_tlv.proofs.Numbers.{number-narrow, number-16, number-32, number-64}
 use Rattle.ndn_name.specs.Names.{Component, IsComponent, IsName, IsValue, components, encoding}
@@ -30,12 +31,6 @@ then-equal : (a : Ordering) → ordering_then a Equal ≡ a
 then-equal Less = refl
 then-equal Equal = refl
 then-equal Greater = refl
-
-nat_cmp-less : (m n : ℕ) → m < n → nat_cmp m n ≡ Less
-nat_cmp-less m n h = rw (lt-ltb m n h) refl
-
-nat_cmp-greater : (m n : ℕ) → n < m → nat_cmp m n ≡ Greater
-nat_cmp-greater m n h = nat_cmp_total.antisymm m n ∙ ap ordering_reverse (nat_cmp-less n m h)
 
 -- ---- lists whose fronts are as long
 
@@ -61,12 +56,12 @@ digit_after m n d e small less =
     elim (cases_lt m n) [
       | inl a ↦
           let wide : m * 256 + d < n * 256 + e = omega arith in
-          rw (nat_cmp-less m n a, nat_cmp-less (m * 256 + d) (n * 256 + e) wide) refl
+          rw (sym (nat_cmp_is m n Less a), sym (nat_cmp_is (m * 256 + d) (n * 256 + e) Less wide)) refl
       | inr a ↦
           elim (cases_lt n m) [
             | inl b ↦
                 let wide : n * 256 + e < m * 256 + d = omega arith in
-                rw (nat_cmp-greater m n b, nat_cmp-greater (m * 256 + d) (n * 256 + e) wide) refl
+                rw (sym (nat_cmp_is m n Greater b), sym (nat_cmp_is (m * 256 + d) (n * 256 + e) Greater wide)) refl
             | inr b ↦ let same : m ≡ n = omega arith in rw same (tied n ∙ last n)
           ]
     ]
@@ -79,12 +74,12 @@ digit_after m n d e small less =
         elim (cases_lt d e) [
           | inl a ↦
               let wide : k * 256 + d < k * 256 + e = omega arith in
-              nat_cmp-less d e a ∙ sym (nat_cmp-less (k * 256 + d) (k * 256 + e) wide)
+              sym (nat_cmp_is d e Less a) ∙ nat_cmp_is (k * 256 + d) (k * 256 + e) Less wide
           | inr a ↦
               elim (cases_lt e d) [
                 | inl b ↦
                     let wide : k * 256 + e < k * 256 + d = omega arith in
-                    nat_cmp-greater d e b ∙ sym (nat_cmp-greater (k * 256 + d) (k * 256 + e) wide)
+                    sym (nat_cmp_is d e Greater b) ∙ nat_cmp_is (k * 256 + d) (k * 256 + e) Greater wide
                 | inr b ↦
                     let same : d ≡ e = omega arith in
                     rw same (tied_itself nat_cmp_total e ∙ sym (tied_itself nat_cmp_total (k * 256 + e)))
@@ -110,7 +105,7 @@ digits_first ds es x y m n long small less value other lt =
     append-as_long ds es x y long
     ∙ ap (λ (o : Ordering). ordering_then o (octets_cmp x y))
     (digits_after ds es 0 0 long small less ∙ ap (λ (k : ℕ). nat_cmp k (number_from_digits_after 256 0 es)) value
-    ∙ ap (nat_cmp m) other ∙ nat_cmp-less m n lt)
+    ∙ ap (nat_cmp m) other ∙ sym (nat_cmp_is m n Less lt))
 
 small16 : (n : ℕ) → AllBelowBase 256 (to_be_bytes w16 n)
 small16 n = (omega arith, (omega arith, tt))
@@ -136,7 +131,7 @@ value64 n h = omega (arith, from_be_bytes-to_be_bytes_8 n h)
 -- ---- numbers of elements
 
 first_less : (p q : ℕ) (x y : List ℕ) → p < q → octets_cmp (p ∷ x) (q ∷ y) ≡ Less
-first_less p q x y h = ap (λ (o : Ordering). ordering_then o (octets_cmp x y)) (nat_cmp-less p q h)
+first_less p q x y h = ap (λ (o : Ordering). ordering_then o (octets_cmp x y)) (sym (nat_cmp_is p q Less h))
 
 second : (p : ℕ) (x y : List ℕ) → octets_cmp x y ≡ Less → octets_cmp (p ∷ x) (p ∷ y) ≡ Less
 second p x y h = ap (λ (o : Ordering). ordering_then o (octets_cmp x y)) (tied_itself nat_cmp_total p) ∙ h
@@ -219,13 +214,13 @@ number-decides m n x y small less =
     elim (cases_lt m n) [
       | inl a ↦
           number-less m n a less x y
-          ∙ sym (ap (λ (o : Ordering). ordering_then o (octets_cmp x y)) (nat_cmp-less m n a))
+          ∙ sym (ap (λ (o : Ordering). ordering_then o (octets_cmp x y)) (sym (nat_cmp_is m n Less a)))
       | inr a ↦
           elim (cases_lt n m) [
             | inl b ↦
                 nat_list_cmp_total.antisymm (number m ++ x) (number n ++ y)
                 ∙ ap ordering_reverse (number-less n m b small y x)
-                ∙ sym (ap (λ (o : Ordering). ordering_then o (octets_cmp x y)) (nat_cmp-greater m n b))
+                ∙ sym (ap (λ (o : Ordering). ordering_then o (octets_cmp x y)) (sym (nat_cmp_is m n Greater b)))
             | inr b ↦
                 let same : m ≡ n = omega arith in
                 rw same (append-same (number n) x y
@@ -241,10 +236,10 @@ value-decides : (v w x y : List ℕ)
     ≡ ordering_then (ordering_then (nat_cmp (length v) (length w)) (octets_cmp v w)) (octets_cmp x y)
 value-decides v w x y =
     elim (cases_lt (length v) (length w)) [
-      | inl a ↦ rw (nat_cmp-less (length v) (length w) a) refl
+      | inl a ↦ rw (sym (nat_cmp_is (length v) (length w) Less a)) refl
       | inr a ↦
           elim (cases_lt (length w) (length v)) [
-            | inl b ↦ rw (nat_cmp-greater (length v) (length w) b) refl
+            | inl b ↦ rw (sym (nat_cmp_is (length v) (length w) Greater b)) refl
             | inr b ↦
                 let same : length v ≡ length w = omega arith in
                 ap (ordering_then (nat_cmp (length v) (length w))) (append-as_long v w x y same)

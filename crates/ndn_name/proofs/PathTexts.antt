@@ -4,7 +4,7 @@ use Rattle.std.proofs.Common.{Option, Some, None, Result, Ok, Err, add-one, refl
 use Rattle.std.proofs.Common.{arith, inl, inr}
 use Rattle.std.specs.Prelude.{codes}
 use Rattle.std.proofs.lemmas.Bool.{cases_lt}
-use Rattle.std.proofs.lemmas.List.{append-nil, take-append-le, take-append-drop, length-take-le}
+use Rattle.std.proofs.lemmas.List.{append-nil, append_cancel_left, take-append-le, take-append-drop, length-take-le}
 use Rattle.std.proofs.Math.Seq.{take-append-add}
 use Rattle.ndn_name.specs.declared.name_fault.NameFault.{NameFault}
 use Rattle.ndn_name.specs.declared.name_fault.NameFault.TheVariants.{Tlv, BadComponent, BadDigestLength, NameTooLong}
@@ -304,10 +304,6 @@ no_slash at (c ∷ text) none =
 abbrev pub IsUriText : List ℕ → Type 0
 IsUriText text = (parts : List Part) × IsUri parts text
 
-pub cancel : (a x y : List ℕ) → a ++ x ≡ a ++ y → x ≡ y
-cancel [] x y e = e
-cancel (c ∷ a) x y e = cancel a x y cc
-
 -- behind a front of the scheme the next octet of it comes
 scheme_next : (front : List ℕ) (next : ℕ) (others t : List ℕ) → codes "ndn:" ≡ 110 ∷ front ++ next ∷ others
     → IsUriText (110 ∷ front ++ t) → (path : List ℕ) × (t ≡ next ∷ others ++ path)
@@ -321,7 +317,7 @@ scheme_next front next others t e m =
           ∙ ap (λ (x : List ℕ). x ++ a.0) e
           ∙ ap (λ (x : List ℕ). 110 ∷ x) (append_assoc front (next ∷ others) a.0) in
           cc in
-          (a.0, cancel front t (next ∷ others ++ a.0) whole)
+          (a.0, append_cancel_left front t (next ∷ others ++ a.0) whole)
     ]
 
 scheme_goes : (front : List ℕ) (next : ℕ) (others : List ℕ) → codes "ndn:" ≡ 110 ∷ front ++ next ∷ others
@@ -375,7 +371,7 @@ scheme-reads view path text (Err f) e h = fails f h where
   path_of t m =
       elim m.1 [
         | inl a ↦ let s = rooted_begins 0 m.0 (codes "ndn:" ++ t) a in let g = s.1 in absurd cc
-        | inr a ↦ (m.0, subst (IsRooted 4 m.0) (sym (cancel (codes "ndn:") t a.0 a.1)) a.2)
+        | inr a ↦ (m.0, subst (IsRooted 4 m.0) (sym (append_cancel_left (codes "ndn:") t a.0 a.1)) a.2)
       ]
 
   fails : (g : NameFault) → FailsIn (IsRooted 4) 4 path g → FailsIn IsUri 0 text g

@@ -9,6 +9,7 @@ use Rattle.std.specs.Fmt.{decimal, digit_glyph}
 use Rattle.std.specs.Int.{w8, w16, w32, w64, to_be_bytes, from_be_bytes}
 use Rattle.std.proofs.lemmas.Bool.{cases_lt, lt-ltb, le-ltb, leb-true, eqb-true}
 use Rattle.std.proofs.lemmas.Nat.{be_bytes_2, be_bytes_4, be_bytes_8}
+use Rattle.std.proofs.lemmas.Option.{same_Some}
 use Rattle.ndn_tlv.specs.Elements.{IsOctets}
 use Rattle.ndn_tlv.proofs.Numbers.{wide16, wide32, wide64}
 use Rattle.ndn_tlv.proofs.Octets.{IsOctets-cons}
@@ -114,15 +115,12 @@ record IsShortest (v : List ℕ) (n : ℕ) : Type 0 where
 abbrev some_number : ℕ → Option ℕ
 some_number n = Some n
 
-some_is : (m n : ℕ) → some_number m ≡ some_number n → m ≡ n
-some_is m n e = cc
-
 shortest_leaf : (v : List ℕ) (m n : ℕ) → in_shortest_width v (Some m) ≡ Some n
     → (length (number_field m) ≡ length v) × (m ≡ n)
 shortest_leaf v m n e = by_test (eqb (length (number_field m)) (length v)) refl e where
   by_test : (b : Bool) → eqb (length (number_field m)) (length v) ≡ b → cond b (some_number m) None ≡ Some n
       → (length (number_field m) ≡ length v) × (m ≡ n)
-  by_test true g h = (eqb-true (length (number_field m)) (length v) g, some_is m n h)
+  by_test true g h = (eqb-true (length (number_field m)) (length v) g, same_Some m n h)
   by_test false g h = absurd cc
 
 choose : (v : List ℕ) (n : ℕ) (b : Bool) (x y : Option ℕ) → in_shortest_width v (cond b x y) ≡ Some n

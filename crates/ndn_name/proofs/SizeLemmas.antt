@@ -12,6 +12,7 @@ use Rattle.std.proofs.lemmas.Fmt.{decimal_nonempty, decimal_step}
 use Rattle.std.proofs.lemmas.List.{append-nil}
 use Rattle.std.proofs.lemmas.List.Folds.{list_all-append}
 use Rattle.std.proofs.lemmas.Option.{none-some, same_Some}
+use Rattle.std.proofs.Math.Bool.{and-true}
 use Rattle.ndn_tlv.specs.Spelling.{number, head, element}
 use Rattle.ndn_tlv.specs.NumberField.{number_field}
 use Rattle.ndn_name.specs.declared.name_fault.NameFault.{NameFault}
@@ -64,10 +65,6 @@ onto_front front octet (Some others) = ap some_octets (sym (append_assoc front (
   some_octets : List ℕ → Option (List ℕ)
   some_octets octets = Some octets
 
-and_true : (b : Bool) → (b && true) ≡ b
-and_true true = refl
-and_true false = refl
-
 pub so_far-step : (text rest behind : List ℕ) (len octet : ℕ) (periods : Bool) → IsSoFar text rest len periods
     → octet_at 0 rest ≡ Ok (octet, behind) → IsSoFar text behind (len + 1) (periods && eqb octet 46)
 so_far-step text rest after len octet periods s e =
@@ -84,7 +81,7 @@ so_far-step text rest after len octet periods s e =
       last : periods ≡ are_periods s.front → (periods && eqb octet 46) ≡ are_periods (s.front ++ octet ∷ [])
       last h =
           ap (λ (b : Bool). b && eqb octet 46) h
-          ∙ ap (λ (b : Bool). are_periods s.front && b) (sym (and_true (eqb octet 46)))
+          ∙ ap (λ (b : Bool). are_periods s.front && b) (sym (and-true (eqb octet 46)))
           ∙ sym (list_all-append (λ (o : ℕ). eqb o 46) s.front (octet ∷ []))
 
 pub so_far-shrinks : (rest after : List ℕ) (octet : ℕ) → octet_at 0 rest ≡ Ok (octet, after)
@@ -242,7 +239,7 @@ length-number n =
           ]
     ]
 
-length-type : (typ : ℕ) → typ < 2 ^ 16 → length (number typ) ≤ 3
+pub length-type : (typ : ℕ) → typ < 2 ^ 16 → length (number typ) ≤ 3
 unfolding number
 length-type typ h =
     elim (cases_lt typ 253) [
@@ -250,24 +247,20 @@ length-type typ h =
       | inr a ↦ rw (le-ltb typ 253 a, lt-ltb typ (2 ^ 16) h) (omega arith)
     ]
 
-small_type : (typ : ℕ) → typ < 253 → length (number typ) ≡ 1
+pub length-narrow : (n : ℕ) → n < 253 → length (number n) ≡ 1
 unfolding number
-small_type typ h = rw (lt-ltb typ 253 h) refl
+length-narrow n h = rw (lt-ltb n 253 h) refl
 
 pub head-short : (typ len : ℕ) → typ < 2 ^ 16 → length (head typ len) ≤ len + 4
 head-short typ len h = omega (arith, length-append (number typ) (number len), length-type typ h, length-number len)
 
 pub small_head-short : (typ len : ℕ) → typ < 253 → length (head typ len) ≤ len + 2
 small_head-short typ len h =
-    omega (arith, length-append (number typ) (number len), small_type typ h, length-number len)
-
-narrow_length : (len : ℕ) → len < 253 → length (number len) ≡ 1
-unfolding number
-narrow_length len h = rw (lt-ltb len 253 h) refl
+    omega (arith, length-append (number typ) (number len), length-narrow typ h, length-number len)
 
 pub head-narrow : (typ len : ℕ) → typ < 2 ^ 16 → len < 253 → length (head typ len) ≤ 4
 head-narrow typ len h k =
-    omega (arith, length-append (number typ) (number len), length-type typ h, narrow_length len k)
+    omega (arith, length-append (number typ) (number len), length-type typ h, length-narrow len k)
 
 pub head-some : (form : Form) (word : List ℕ) → IsHead form word → 0 < length word
 head-some (Digest typ) word h = elim h [ inl a ↦ omega (arith, ap length a.1) | inr a ↦ omega (arith, ap length a.1) ]

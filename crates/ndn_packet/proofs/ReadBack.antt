@@ -1,6 +1,7 @@
 -- What was written is read back: the element of a packet, a name, a signature info.
-use Rattle.std.proofs.Common.{◌≡◌, ℕ, ◌+◌, ◌^◌, ◌<◌, ◌≤◌, false, ltb, List, [], ◌∷◌, ◌++◌, length, length-append}
-use Rattle.std.proofs.Common.{Option, Some, None, Result, Ok, refl, sym, ap, ◌∙◌, arith}
+use Rattle.std.proofs.Common.{◌≡◌, ℕ, ◌+◌, ◌-◌, ◌^◌, ◌<◌, ◌≤◌, false, ltb, List, [], ◌∷◌, ◌++◌, length, length-append}
+use Rattle.std.proofs.Common.{take, drop, take_at, drop_at, slice_range, Option, Some, None, Result, Ok, refl, sym, ap}
+use Rattle.std.proofs.Common.{◌∙◌, arith}
 use Rattle.std.proofs.lemmas.List.{append-nil}
 use Rattle.std.proofs.lemmas.Bool.{le-ltb, eq-eqb}
 use Rattle.ndn_tlv.specs.declared.tlv_fault.TlvFault.{TlvFault}
@@ -41,8 +42,14 @@ pub followed : (o typ : ℕ) (value rest : List ℕ) (read : Listing Item TlvFau
 followed o typ value rest read above below fits h =
     elements-element o typ value rest above below fits ∙ ap (λ (l : Listing Item TlvFault). placed o typ value then l) h
 
-abbrev done : Item → Result Item PacketFault
-done e = Ok e
+-- octets between others
+pub portion_is : (front portion tail : List ℕ) (from to : ℕ) → from ≡ length front → to ≡ from + length portion
+    → slice_range (front ++ (portion ++ tail)) from to ≡ portion
+portion_is front portion tail from to f t =
+    let long : to - from ≡ length portion = omega arith in
+    ap (λ (n : ℕ). take n (drop from (front ++ (portion ++ tail)))) long
+    ∙ ap (λ (l : List ℕ). take (length portion) l) (drop_at front (portion ++ tail) from (sym f))
+    ∙ take_at portion tail (length portion) refl
 
 -- the packet's element
 pub outer_again : (typ : ℕ) (value : List ℕ) → 0 < typ → typ < 2 ^ 32 → length (element typ value) ≤ 8800

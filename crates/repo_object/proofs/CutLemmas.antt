@@ -10,6 +10,7 @@ use Rattle.std.proofs.lemmas.List.{take-append-drop, take_all, drop_all, nil_fro
 use Rattle.std.proofs.lemmas.List.{get_or-map}
 use Rattle.std.proofs.lemmas.List.Elements.{All-nil, All-cons, All-head}
 use Rattle.sorted_lists.specs.Range.{numbers_from}
+use Rattle.sorted_lists.proofs.Ranges.{length-numbers}
 use Rattle.repo_object.specs.Cuts.{piece, pieces, AreCut}
 
 -- the pieces behind the first are those of what is behind it
@@ -144,10 +145,6 @@ cut_pieces size content some = cut_within (length content) size content (omega a
 
 -- ---- what was cut
 
-numbers-length : (first n : ℕ) → length (numbers_from first n) ≡ n
-numbers-length first zero = refl
-numbers-length first (suc n) = ap suc (numbers-length (first + 1) n)
-
 module _ (size : ℕ) (content : List ℕ) (made : List (Vec ℕ Global))
     (are : map (λ p. p.items) made ≡ pieces size content) where
   pub cut_count : length made ≡ div_ceil (length content) size
@@ -156,7 +153,7 @@ module _ (size : ℕ) (content : List ℕ) (made : List (Vec ℕ Global))
       sym (length-map made (λ p. p.items))
       ∙ ap length are
       ∙ length-map (numbers_from 0 n) (piece size content)
-      ∙ numbers-length 0 n
+      ∙ length-numbers 0 n
 
   pub cut_sizes : 0 < size → All (λ p. Piece size p.items) made
   cut_sizes some k d low =

@@ -20,7 +20,7 @@ use Rattle.repo_object.proofs.Sizes.{element-at_most, element-narrow, number_fie
 use Rattle.repo_object.proofs.Sizes.{appended-size}
 use Rattle.repo_object.proofs.IndexLemmas.{listed_few}
 
-info-size : (key_name : List Component) → length (encoding key_name) ≤ 205 → length (written_info key_name) ≤ 216
+pub info-size : (key_name : List Component) → length (encoding key_name) ≤ 205 → length (written_info key_name) ≤ 216
 info-size key_name short =
     let inner = element-at_most 0x07 (encoding key_name) (omega arith) (omega arith) in
     omega (

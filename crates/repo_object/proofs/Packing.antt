@@ -11,9 +11,11 @@ use Rattle.std.proofs.lemmas.List.Elements.{All-get_or, All-take, All-drop}
 use Rattle.std.proofs.lemmas.Option.{slice_get-map}
 use Rattle.sha2.specs.Sha256.{sha256}
 use Rattle.sorted_lists.specs.Range.{numbers_from}
+use Rattle.sorted_lists.proofs.Ranges.{length-numbers}
 use Rattle.ndn_name.specs.declared.fault.PacketWriteFault.{PacketWriteFault}
 use Rattle.ndn_name.specs.declared.fault.PacketWriteFault.TheVariants.{TooLong, NoMemory}
 use Rattle.ndn_name.specs.Names.{Component}
+use Rattle.ndn_name.proofs.ComputedValues.{option_map_some}
 use Rattle.ndn_data.specs.WrittenData.{written_data}
 use Rattle.repo_plan.specs.Parts.{index_packets}
 use Rattle.repo_object.specs.Objects.{NamedContents, IsContent, Publisher, key_name, record_name}
@@ -24,8 +26,7 @@ use Rattle.repo_object.specs.Publication.{is_indexed, record_content, packets_un
 use Rattle.repo_object.specs.Publication.{published_indexes, listed_packets, published_record, record_packet, packets}
 use Rattle.repo_object.specs.Publication.{packet_at}
 use Rattle.repo_object.specs.Records.{listed_record}
-use Rattle.repo_object.proofs.Places.{slice_get-front, slice_get-behind, numbers-length, numbers-at}
-use Rattle.repo_object.proofs.RecordLemmas.{mapped_some}
+use Rattle.repo_object.proofs.Places.{slice_get-front, slice_get-behind, numbers-at}
 
 abbrev pub items : Vec ℕ Global → List ℕ
 items v = v.items
@@ -142,7 +143,7 @@ pub segment_from : (keyed : List Component) (key : List ℕ) (name : List Compon
     → (content : List ℕ) × (slice_get contents i ≡ Some content)
     × (segment_packet keyed key name last (j + i) content ≡ octets)
 segment_from keyed key name last j contents i octets h =
-    mapped_some (segment_packet keyed key name last (j + i)) (slice_get contents i) octets
+    option_map_some (segment_packet keyed key name last (j + i)) (slice_get contents i) octets
     (sym (segment_at keyed key name last j contents i) ∙ h)
 
 -- ---- index packets
@@ -170,7 +171,7 @@ pub index-count : (segments : List (List ℕ)) → length (index_contents segmen
 index-count segments =
     length-map (numbers_from 0 (index_packets (length segments)))
     (λ (k : ℕ). index_content (map sha256 (listed_by segments k)))
-    ∙ numbers-length 0 (index_packets (length segments))
+    ∙ length-numbers 0 (index_packets (length segments))
 
 pub index_at : (segments : List (List ℕ)) (k : ℕ) → k < index_packets (length segments)
     → slice_get (index_contents segments) k ≡ Some (index_content (map sha256 (listed_by segments k)))

@@ -88,12 +88,6 @@ all_pass a b c e f g d h = rw (h.all_signed, h.name, h.digest, h.key, h.signatur
 abbrev is_mac : List ℕ → List ℕ → List ℕ → Bool
 is_mac key signed mac = bytes_eq (hmac key signed) mac
 
-equal : (a b : List ℕ) → bytes_eq a b ≡ true → a ≡ b
-equal a b = (bytes_eq-Decides a b).0
-
-pub same_bytes : (a b : List ℕ) → a ≡ b → bytes_eq a b ≡ true
-same_bytes a b = (bytes_eq-Decides a b).1
-
 -- a mac that the ring says is that of a message
 pub mac_is : (ring : List NamedKey) (n : ℕ) (signed mac : List ℕ) (b : Bool) → n < length ring
     → ((b ≡ true) ↔ (option_map (λ (p : NamedKey). hmac p.key (signed ++ [])) (slice_get ring n) ≡ Some mac))
@@ -113,17 +107,17 @@ mac_is (p ∷ ps) (suc n) signed mac b low is = mac_is ps n signed mac b (omega 
 digest_is : (digest : Option (List ℕ)) (octets : List ℕ) → has_digest digest octets ≡ true
     → IfSome digest (λ d. sha256 octets ≡ d)
 digest_is None octets h = tt
-digest_is (Some d) octets h = equal (sha256 octets) d h
+digest_is (Some d) octets h = (bytes_eq-Decides (sha256 octets) d).0 h
 
 is_digest : (digest : Option (List ℕ)) (octets : List ℕ) → IfSome digest (λ d. sha256 octets ≡ d)
     → has_digest digest octets ≡ true
 is_digest None octets h = refl
-is_digest (Some d) octets h = same_bytes (sha256 octets) d h
+is_digest (Some d) octets h = (bytes_eq-Decides (sha256 octets) d).1 h
 
 located_at : (key_name : List ℕ) (locator : Option (List Component)) → locates key_name locator ≡ true
     → (name : List Component) × (locator ≡ Some name) × (encoding name ≡ key_name)
 located_at key_name None h = absurd cc
-located_at key_name (Some name) h = (name, refl, equal (encoding name) key_name h)
+located_at key_name (Some name) h = (name, refl, (bytes_eq-Decides (encoding name) key_name).0 h)
 
 record_says : (part : ℕ) (b : Bool) → (not (eqb part 0) || b) ≡ true → part ≡ 0 → b ≡ true
 record_says part b h first = rw (eq-eqb part 0 first) at h
@@ -169,14 +163,14 @@ passes want key_name key octets d h =
     let well = and_parts (not (eqb want.part.part 0) || may) (lists_as_many want.lists x.content) all.0.listing in
     subst (Passes want key_name key octets) all.1 (record {
       read = read_ok (data_of octets) x b.1;
-      all_signed = equal x.value (x.signed ++ element 0x17 x.signature) all.0.all_signed;
-      name = equal (encoding x.name) (encoding want.name) all.0.name;
+      all_signed = (bytes_eq-Decides x.value (x.signed ++ element 0x17 x.signature)).0 all.0.all_signed;
+      name = (bytes_eq-Decides (encoding x.name) (encoding want.name)).0 all.0.name;
       digest = digest_is want.digest octets all.0.digest;
       signature_type = eqb-true x.signature_type 4 key_parts.0;
       locator = found.0;
       located = found.1;
       key_named = found.2;
-      signature = sym (equal (hmac key x.signed) x.signature all.0.signature);
+      signature = sym ((bytes_eq-Decides (hmac key x.signed) x.signature).0 all.0.signature);
       said = record_says want.part.part may well.0;
       listing = index_lists want.lists x.content well.1;
     })
@@ -185,18 +179,18 @@ pub verdict_of : (want : WantedPart) (key_name key octets : List ℕ) (d : Data)
     → part_verdict want key_name key octets ≡ Ok d
 verdict_of want key_name key octets d p =
     let located : locates key_name d.locator ≡ true =
-    ap (locates key_name) p.located ∙ same_bytes (encoding p.locator) key_name p.key_named in
+    ap (locates key_name) p.located ∙ (bytes_eq-Decides (encoding p.locator) key_name).1 p.key_named in
     let may = may_say want.part.seq (record_of d.content) in
     ap (λ (r : Result Data PacketFault). read_packet r >>= packet_verdict want key_name key octets) p.read
     ∙ all_pass (is_all_signed d) (data_has_name want.name d) (has_digest want.digest octets) (names_key key_name d)
     (is_signed_by key d) (is_well_said want d) d (record {
-      all_signed = same_bytes d.value (d.signed ++ element 0x17 d.signature) p.all_signed;
-      name = same_bytes (encoding d.name) (encoding want.name) p.name;
+      all_signed = (bytes_eq-Decides d.value (d.signed ++ element 0x17 d.signature)).1 p.all_signed;
+      name = (bytes_eq-Decides (encoding d.name) (encoding want.name)).1 p.name;
       digest = is_digest want.digest octets p.digest;
       key =
           and_from (eqb d.signature_type 4) (locates key_name d.locator) (eq-eqb d.signature_type 4 p.signature_type)
           located;
-      signature = same_bytes (hmac key d.signed) d.signature (sym p.signature);
+      signature = (bytes_eq-Decides (hmac key d.signed) d.signature).1 (sym p.signature);
       listing =
           and_from (not (eqb want.part.part 0) || may) (lists_as_many want.lists d.content)
           (says_record want.part.part may p.said) (lists_index want.lists d.content p.listing);
@@ -205,15 +199,6 @@ verdict_of want key_name key octets d p =
 pub passing_is_ok : (want : WantedPart) (key_name key octets : List ℕ) (d : Data) → Passes want key_name key octets d
     → IsOk (part_verdict want key_name key octets)
 passing_is_ok want key_name key octets d p = rw (verdict_of want key_name key octets d p) refl
-
--- the digest of octets that pass, where the want tells it
-pub passing_digest : (want : WantedPart) (key_name key octets : List ℕ) → IsOk (part_verdict want key_name key octets)
-    → IfSome want.digest (λ digest. sha256 octets ≡ digest)
-passing_digest want key_name key octets = go (part_verdict want key_name key octets) refl where
-  go : (r : Result Data PartRefusal) → part_verdict want key_name key octets ≡ r → IsOk r
-      → IfSome want.digest (λ digest. sha256 octets ≡ digest)
-  go (Ok d) e ok = (passes want key_name key octets d e).digest
-  go (Err refusal) e ok = absurd cc
 
 -- ---- what octets that pass say
 

@@ -24,10 +24,6 @@ all_at P [] i x all h = absurd cc
 all_at P (y ∷ ys) zero x all h = subst P (same_Some y x h) (All-head P y ys all)
 all_at P (y ∷ ys) (suc i) x all h = all_at P ys i x (All-tail P y ys all) h
 
-pub numbers-length : (first n : ℕ) → length (numbers_from first n) ≡ n
-numbers-length first zero = refl
-numbers-length first (suc n) = ap suc (numbers-length (first + 1) n)
-
 pub numbers-at : (first n i : ℕ) → i < n → slice_get (numbers_from first n) i ≡ Some (first + i)
 numbers-at first zero i low = absurd (omega (arith, low))
 numbers-at first (suc n) zero low = let same : first ≡ first + 0 = omega arith in ap (λ (m : ℕ). Some m) same

@@ -19,6 +19,7 @@ use Rattle.ndn_tlv.proofs.Listings.{elements_are}
 use Rattle.ndn_name.specs.declared.name_fault.NameFault.{NameFault}
 use Rattle.ndn_name.specs.Names.{Component, name_of}
 use Rattle.ndn_name.proofs.Encodings.{IsOctets-behind, IsOctets-before, name_of-encoded}
+use Rattle.ndn_name.proofs.ComputedValues.{option_map_some}
 use Rattle.ndn_packet.proofs.Gathering.{Each}
 use Rattle.repo_object.specs.declared.record_fields.RecordField.{RecordField}
 use Rattle.repo_object.specs.declared.record_fields.RecordField.TheVariants as field
@@ -41,16 +42,6 @@ pub and_then_some : {A B : Type 0} (f : A → Option B) (o : Option A) (y : B) �
     → (x : A) × (o ≡ Some x) × (f x ≡ Some y)
 and_then_some f None y e = absurd cc
 and_then_some f (Some x) y e = (x, refl, e)
-
-pub mapped_some : {A B : Type 0} (f : A → B) (o : Option A) (y : B) → option_map f o ≡ Some y
-    → (x : A) × (o ≡ Some x) × (f x ≡ y)
-mapped_some f None y e = absurd cc
-mapped_some {A} {B} f (Some x) y e = (x, refl, same (f x) y e) where
-  found : B → Option B
-  found x = Some x
-
-  same : (x y : B) → found x ≡ found y → x ≡ y
-  same x y e = cc
 
 pub passes_some : {A : Type 0} (test : A → Bool) (o : Option A) (x : A) → that_passes test o ≡ Some x
     → (o ≡ Some x) × (test x ≡ true)
@@ -129,7 +120,7 @@ digest_fields indexes (first ∷ fields) fault digests h =
     and_then_some
     (λ (digest : List ℕ). option_map (λ (ds : List (List ℕ)). digest ∷ ds) (digests_among indexes fields fault))
     (digest_in indexes first) digests h in
-    let m = mapped_some (λ (ds : List (List ℕ)). b.0 ∷ ds) (digests_among indexes fields fault) digests b.2 in
+    let m = option_map_some (λ (ds : List (List ℕ)). b.0 ∷ ds) (digests_among indexes fields fault) digests b.2 in
     let rest = digest_fields indexes fields fault m.0 m.1 in
     let here = first_digest indexes first b.0 b.1 in
     record {
@@ -180,7 +171,7 @@ record BeginsNamed (fields : List Field) (fault : Option FieldFault) (l : Listed
 withdraws_no_listing : (w : Item) (fields : List Field) (fault : Option FieldFault) (l : Listed)
     → withdrawal_among w fields fault ≡ Some (Lists l) → ⊥
 withdraws_no_listing w [] None l h =
-    let m = mapped_some (λ (n : ℕ). WithdrawsNumber n) (number_in w) (Lists l) h in other m.0 m.2
+    let m = option_map_some (λ (n : ℕ). WithdrawsNumber n) (number_in w) (Lists l) h in other m.0 m.2
   where
     other : (n : ℕ) → WithdrawsNumber n ≡ Lists l → ⊥
     other n e = cc
@@ -223,7 +214,7 @@ listing_said content l h =
     let b = begins_named read.items read.fault l h in
     let n = and_then_some (count_behind b.count b.digests read.fault) (object_name_in b.name) (Lists l) b.lists in
     let c = and_then_some (digests_behind b.digests read.fault n.0) (segment_count_in b.count) (Lists l) n.2 in
-    let m = mapped_some (listed_record n.0 c.0) (listed_digests c.0 b.digests read.fault) (Lists l) c.2 in
+    let m = option_map_some (listed_record n.0 c.0) (listed_digests c.0 b.digests read.fault) (Lists l) c.2 in
     let counted =
     passes_some (λ (ds : List (List ℕ)). eqb (length ds) (count_listed c.0))
     (digests_among (is_indexed c.0) b.digests read.fault) m.0 m.1 in
@@ -279,7 +270,7 @@ listing_no_withdrawal : (n c : Item) (ds : List Field) (fault : Option FieldFaul
 listing_no_withdrawal n c ds fault seq h =
     let a = and_then_some (count_behind c ds fault) (object_name_in n) (WithdrawsNumber seq) h in
     let b = and_then_some (digests_behind ds fault a.0) (segment_count_in c) (WithdrawsNumber seq) a.2 in
-    let m = mapped_some (listed_record a.0 b.0) (listed_digests b.0 ds fault) (WithdrawsNumber seq) b.2 in
+    let m = option_map_some (listed_record a.0 b.0) (listed_digests b.0 ds fault) (WithdrawsNumber seq) b.2 in
     other (record { name = a.0; segments = b.0; digests = m.0 }) m.2
   where
     other : (l : Listed) → Lists l ≡ WithdrawsNumber seq → ⊥
@@ -289,7 +280,7 @@ begins_withdrawn : (fields : List Field) (fault : Option FieldFault) (seq : ℕ)
     → said_among fields fault ≡ Some (WithdrawsNumber seq) → BeginsWithdrawn fields fault seq
 begins_withdrawn [] fault seq h = absurd cc
 begins_withdrawn ((field.Withdraws, w) ∷ []) None seq h =
-    let m = mapped_some (λ (n : ℕ). WithdrawsNumber n) (number_in w) (WithdrawsNumber seq) h in
+    let m = option_map_some (λ (n : ℕ). WithdrawsNumber n) (number_in w) (WithdrawsNumber seq) h in
     record { number = w; are = refl; ended = refl; said = m.1 ∙ ap (λ (n : ℕ). some_number n) (same m.0 seq m.2) }
   where
     some_number : ℕ → Option ℕ

@@ -8,6 +8,7 @@ use Rattle.std.specs.declared.cmp.Ordering.{Ordering}
 use Rattle.std.specs.declared.cmp.Ordering.TheVariants.{Less, Equal, Greater}
 use Rattle.std.proofs.lemmas.List.{append-nil}
 use Rattle.std.proofs.lemmas.Bool.{true≢false}
+use Rattle.std.specs.Cmp.{both_ways}
 use Rattle.sorted_lists.specs.SortedList.{by_order, keys, Rises, contains, insert_key, insert_keys, value_of}
 use Rattle.sorted_lists.specs.SortedList.{with_value, without_key}
 use Rattle.sorted_lists.specs.Members.{In, HaveSame}
@@ -15,7 +16,7 @@ use Rattle.sorted_lists.proofs.Orders.{Exact}
 use Rattle.sorted_lists.proofs.Sets.{eq_same, contains-insert_key, contains_in}
 use Rattle.sorted_lists.proofs.Sets.{in_contains, in_map, from_map, keys-with_value, value_key, rises_insert}
 use Rattle.sorted_lists.proofs.Sets.{rises_insert_keys}
-use Rattle.sorted_lists.proofs.RunOrder.{in_with, with_has, with_in, in_without, without_in, unique, both_ways}
+use Rattle.sorted_lists.proofs.RunOrder.{in_with, with_has, with_in, in_without, without_in, unique}
 use Rattle.sorted_lists.proofs.SameSets.{same_sets}
 use Rattle.sorted_lists.proofs.Members.{same_itself, same_is, same_back, same_then, same_more}
 

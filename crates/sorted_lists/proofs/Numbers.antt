@@ -2,32 +2,28 @@
 use Rattle.std.proofs.Common.{◌≡◌, ℕ, ◌+◌, ◌<◌, ◌≤◌, Bool, true, false, cond, ◌||◌, List, [], ◌∷◌, Option, Some}
 use Rattle.std.proofs.Common.{None, length, refl, sym, ap, ◌∙◌, subst, arith, inl, inr}
 use Rattle.std.proofs.lemmas.Bool.{true≢false, false_from_ne_true}
-use Rattle.std.specs.Cmp.{IsTotalOrder}
+use Rattle.std.specs.Cmp.{IsTotalOrder, both_ways}
 use Rattle.std.specs.Ordering.{nat_cmp, ordering_then, is_eq, is_le, eq_by_cmp}
 use Rattle.std.specs.declared.cmp.Ordering.{Ordering}
 use Rattle.std.specs.declared.cmp.Ordering.TheVariants.{Less, Equal, Greater}
 use Rattle.std.proofs.lemmas.Cmp.{nat_cmp_total, on_total, then_total, tied_itself}
 use Rattle.std.proofs.lemmas.Bool.Decides.{nat_tests}
+use Rattle.std.proofs.lemmas.Map.Keys.{le_from_is_le}
 use Rattle.sorted_lists.specs.SortedList.{IsExact, by_order, keys, Rises, value_of, with_value, without_key}
 use Rattle.sorted_lists.specs.SortedList.{last_up_to}
 use Rattle.sorted_lists.specs.SortedList.{first_from}
 use Rattle.sorted_lists.specs.Runs.{Number, Run, next, number_cmp, AreRuns, AreOfOne, IsRuns, has, start_at, end_at}
 use Rattle.sorted_lists.proofs.Sets.{In, eq_same, eq_itself}
 use Rattle.sorted_lists.proofs.RunOrder.{IsLast, last_is, IsFirst, first_is, none_from_on, has_in, IsIn, has_from}
-use Rattle.sorted_lists.proofs.RunOrder.{le_trans, lt_not_le, both_ways, in_without, without_in, behind_head}
+use Rattle.sorted_lists.proofs.RunOrder.{le_trans, lt_not_le, in_without, without_in, behind_head}
 use Rattle.sorted_lists.proofs.MapChanges.{length-without, rises_without}
 use Rattle.sorted_lists.proofs.Orders.{Exact, less_back, nat_same, nat_itself, then_second, nat_less}
 use Rattle.sorted_lists.proofs.RunLists.{Follows, runs_rise, are_runs, not_empty, apart, gap_behind, Start, End}
 use Rattle.sorted_lists.proofs.RunLists.{start_found, end_found, longer_runs, longer_has}
+use Rattle.sorted_lists.proofs.TwoOrders.{nat_le}
 
 nat_step : (m n : ℕ) → nat_cmp m n ≡ Less → is_le (nat_cmp (m + 1) n) ≡ true
 nat_step m n h = grind (arith, nat_tests)
-
-nat_le_cmp : (m n : ℕ) → m ≤ n → is_le (nat_cmp m n) ≡ true
-nat_le_cmp m n h = grind (arith, nat_tests)
-
-cmp_nat_le : (m n : ℕ) → is_le (nat_cmp m n) ≡ true → m ≤ n
-cmp_nat_le m n h = grind (arith, nat_tests)
 
 module _ {P : Type 0} {R : P → P → Ordering} (o : IsTotalOrder R) (exact : IsExact R) where
   same_number : (a b : Number P) → number_cmp R a b ≡ Equal → a ≡ b
@@ -154,10 +150,10 @@ module _ {P : Type 0} {R : P → P → Ordering} (o : IsTotalOrder R) (exact : I
     go Greater p = absurd (n p)
 
   pub size_le : (p : P) (m n : ℕ) → m ≤ n → is_le (number_cmp R (p, m) (p, n)) ≡ true
-  size_le p m n h = ap is_le (then_second (R p p) (nat_cmp m n) (tied_itself o p)) ∙ nat_le_cmp m n h
+  size_le p m n h = ap is_le (then_second (R p p) (nat_cmp m n) (tied_itself o p)) ∙ nat_le m n h
 
   pub le_size : (p : P) (m n : ℕ) → is_le (number_cmp R (p, m) (p, n)) ≡ true → m ≤ n
-  le_size p m n h = cmp_nat_le m n (sym (ap is_le (then_second (R p p) (nat_cmp m n) (tied_itself o p))) ∙ h)
+  le_size p m n h = le_from_is_le m n (sym (ap is_le (then_second (R p p) (nat_cmp m n) (tied_itself o p))) ∙ h)
 
   pub record IsGap (es : List (Run P)) (q : Number P) (n : ℕ) : Type 0 where
     pub from : q.1 ≤ n

@@ -4,7 +4,7 @@ use Rattle.std.specs.Cmp.{IsTotalOrder}
 use Rattle.std.specs.Ordering.{is_eq, nat_cmp, ordering_then, ordering_reverse}
 use Rattle.std.specs.declared.cmp.Ordering.{Ordering}
 use Rattle.std.specs.declared.cmp.Ordering.TheVariants.{Less, Equal, Greater}
-use Rattle.std.proofs.lemmas.Cmp.{tied_itself}
+use Rattle.std.proofs.lemmas.Cmp.{nat_cmp_total, tied_itself}
 use Rattle.std.proofs.lemmas.Bool.Decides.{nat_tests}
 use Rattle.sorted_lists.specs.SortedList.{IsExact}
 
@@ -37,6 +37,9 @@ nat_same a b e = grind (arith, nat_tests)
 
 pub nat_itself : (a : ℕ) → nat_cmp a a ≡ Equal
 nat_itself a = grind (arith, nat_tests)
+
+pub exact_numbers : Exact nat_cmp
+exact_numbers = record { total = nat_cmp_total; same = nat_same; itself = nat_itself }
 
 pub then_equal : (x y : Ordering) → ordering_then x y ≡ Equal → (x ≡ Equal) × (y ≡ Equal)
 then_equal Less y e = absurd cc

@@ -1,5 +1,5 @@
 -- Which numbers follow one another from one on.
-use Rattle.std.proofs.Common.{inl, inr, ℕ, suc, zero, ◌+◌, ◌≤◌, ◌<◌, arith}
+use Rattle.std.proofs.Common.{◌≡◌, inl, inr, ℕ, suc, zero, ◌+◌, ◌≤◌, ◌<◌, length, get_or, refl, ap, ◌∙◌, arith}
 use Rattle.std.proofs.lemmas.Bool.{cases_eq}
 use Rattle.sorted_lists.specs.Range.{numbers_from}
 use Rattle.sorted_lists.proofs.Sets.{In}
@@ -16,3 +16,12 @@ in_numbers first (suc n) x a b = elim (cases_eq x first) [
   | inl e ↦ inl e
   | inr m ↦ inr (in_numbers (first + 1) n x (omega (arith, m)) (omega arith))
 ]
+
+pub length-numbers : (first n : ℕ) → length (numbers_from first n) ≡ n
+length-numbers first zero = refl
+length-numbers first (suc n) = ap suc (length-numbers (first + 1) n)
+
+pub number_at : (first n i : ℕ) → i < n → get_or (numbers_from first n) i 0 ≡ first + i
+number_at first zero i l = absurd (omega arith)
+number_at first (suc n) zero l = omega arith
+number_at first (suc n) (suc i) l = number_at (first + 1) n i (omega arith) ∙ omega arith

@@ -5,6 +5,7 @@ use Rattle.std.proofs.lemmas.Bool.{true≢false, or_cases, or_left, or_right, fa
 use Rattle.std.specs.Ordering.{eq_by_cmp, is_le}
 use Rattle.std.specs.declared.cmp.Ordering.{Ordering}
 use Rattle.std.specs.declared.cmp.Ordering.TheVariants.{Less}
+use Rattle.std.specs.Cmp.{both_ways}
 use Rattle.sorted_lists.specs.SortedList.{keys, Rises, value_of, with_value, without_key, last_up_to, first_from}
 use Rattle.sorted_lists.specs.Runs.{has, AreRuns, start_at, end_at}
 use Rattle.sorted_lists.proofs.Orders.{Exact}
@@ -14,7 +15,7 @@ use Rattle.sorted_lists.proofs.MapChanges.{rises_without, without_absent}
 use Rattle.sorted_lists.proofs.RunOrder.{tri, lt_le, le_itself, lt_irrefl, le_split, lt_trans, lt_le_trans}
 use Rattle.sorted_lists.proofs.RunOrder.{le_lt_trans, le_trans, lt_not_le, in_with, with_has, with_in, in_without}
 use Rattle.sorted_lists.proofs.RunOrder.{without_in, unique, behind_head, IsLast, none_up_to, last_is, IsFirst}
-use Rattle.sorted_lists.proofs.RunOrder.{none_from_on, first_is, has_in, IsIn, has_from, both_ways}
+use Rattle.sorted_lists.proofs.RunOrder.{none_from_on, first_is, has_in, IsIn, has_from}
 
 -- what a key and the next one are to each other
 pub record Follows {K : Type 0} (R : K → K → Ordering) (next : K → K) : Type 0 where

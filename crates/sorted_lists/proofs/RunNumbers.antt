@@ -1,7 +1,7 @@
 -- The numbers of runs one by one: which they are, their order, and where each run ends.
 use Rattle.std.proofs.Common.{◌≡◌, inl, inr, ℕ, zero, suc, ◌+◌, ◌-◌, ◌≤◌, ◌<◌, true, not, ◌&&◌, ◌||◌, List, [], ◌∷◌}
 use Rattle.std.proofs.Common.{map, length, sym, ap, ◌∙◌, subst, arith, refl}
-use Rattle.std.specs.Cmp.{IsTotalOrder}
+use Rattle.std.specs.Cmp.{IsTotalOrder, both_ways}
 use Rattle.std.specs.Ordering.{nat_cmp, is_le}
 use Rattle.std.specs.declared.cmp.Ordering.{Ordering}
 use Rattle.std.specs.declared.cmp.Ordering.TheVariants.{Less, Greater}
@@ -15,7 +15,7 @@ use Rattle.sorted_lists.proofs.Orders.{Exact, then_second, nat_less}
 use Rattle.sorted_lists.proofs.Sets.{In, in_map, from_map, in_contains, contains_in, contains_append, rises_append}
 use Rattle.sorted_lists.proofs.Sets.{before_each, each_before}
 use Rattle.sorted_lists.proofs.Ranges.{from_numbers, in_numbers}
-use Rattle.sorted_lists.proofs.RunOrder.{both_ways, has_in, has_from, IsIn, le_split, lt_le, le_itself, lt_trans}
+use Rattle.sorted_lists.proofs.RunOrder.{has_in, has_from, IsIn, le_split, lt_le, le_itself, lt_trans}
 use Rattle.sorted_lists.proofs.RunOrder.{lt_le_trans, le_lt_trans}
 use Rattle.sorted_lists.proofs.RunLists.{Follows, not_empty, gap_behind}
 use Rattle.sorted_lists.proofs.Numbers.{exact_numbers, follow, thing_le, squeezed, size_le, le_size}

@@ -4,7 +4,7 @@ use Rattle.std.proofs.Common.{sym, ap, ◌∙◌, subst, Option, Some, None}
 use Rattle.std.proofs.lemmas.Bool.{true≢false, or_cases, or_right, or_left}
 use Rattle.std.specs.Prelude.{is_some}
 use Rattle.std.specs.List.{list_any, filter, flat_map}
-use Rattle.std.specs.Cmp.{IsTotalOrder}
+use Rattle.std.specs.Cmp.{IsTotalOrder, both_ways}
 use Rattle.std.specs.Ordering.{eq_by_cmp, is_eq}
 use Rattle.std.specs.declared.cmp.Ordering.{Ordering}
 use Rattle.std.specs.declared.cmp.Ordering.TheVariants.{Less, Equal, Greater}
@@ -90,6 +90,12 @@ module _ {K : Type 0} {R : K → K → Ordering} (e : Exact R) where
 
   pub eq_itself : (x : K) → eq_by_cmp R x x ≡ true
   eq_itself x = ap is_eq (e.itself x)
+
+  -- a comparison of two keys says the same from either side
+  pub eq_turned : (x y : K) → eq_by_cmp R x y ≡ eq_by_cmp R y x
+  eq_turned x y = both_ways (eq_by_cmp R x y) (eq_by_cmp R y x) (turn x y) (turn y x) where
+    turn : (x y : K) → eq_by_cmp R x y ≡ true → eq_by_cmp R y x ≡ true
+    turn x y h = subst (λ (z : K). eq_by_cmp R z x ≡ true) (eq_same x y h) (eq_itself x)
 
   pub contains-insert_key : (k : K) (xs : List K) (q : K)
       → contains R (insert_key R k xs) q ≡ (eq_by_cmp R q k || contains R xs q)

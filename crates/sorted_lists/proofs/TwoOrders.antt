@@ -29,9 +29,6 @@ then_then Less y z = refl
 then_then Equal y z = refl
 then_then Greater y z = refl
 
-pub le_nat : (a b : ℕ) → is_le (nat_cmp a b) ≡ true → a ≤ b
-le_nat a b h = grind (arith, nat_tests)
-
 pub nat_le : (a b : ℕ) → a ≤ b → is_le (nat_cmp a b) ≡ true
 nat_le a b h = grind (arith, nat_tests)
 

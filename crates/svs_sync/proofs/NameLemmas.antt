@@ -1,15 +1,15 @@
 -- The names of sync Interests, as octets.
-use Rattle.std.proofs.Common.{◌≡◌, ◌↔◌, ℕ, zero, suc, Bool, true, false, List, [], ◌∷◌, ◌++◌, length}
-use Rattle.std.proofs.Common.{append_assoc, drop, drop_at, refl}
+use Rattle.std.proofs.Common.{◌≡◌, ◌↔◌, ℕ, zero, suc, true, List, [], ◌∷◌, ◌++◌, length}
+use Rattle.std.proofs.Common.{append_assoc, refl}
 use Rattle.std.proofs.Common.{sym, ap, subst, ◌∙◌, arith}
-use Rattle.std.proofs.lemmas.Bool.{and_parts, and_from, false≢true}
+use Rattle.std.proofs.lemmas.Bool.{and_parts, and_from}
 use Rattle.std.proofs.lemmas.Slice.Eq.{bytes_eq-Decides}
-use Rattle.ndn_tlv.specs.Spelling.{number, head, element}
+use Rattle.ndn_tlv.specs.Spelling.{number, element}
 use Rattle.ndn_tlv.specs.Elements.{IsOctets}
 use Rattle.ndn_name.specs.Names.{Component, IsComponent, IsName, encoding}
 use Rattle.ndn_name.proofs.Encodings.{encoding-push, encoding-same, IsName-append, IsOctets-behind}
 use Rattle.ndn_interest.specs.Interest.{without_last, ends_in_digest}
-use Rattle.ndn_interest.proofs.LastLemmas.{digest_ends, without-push, ends-push}
+use Rattle.ndn_interest.proofs.LastLemmas.{digest_spelled, digest_ends, without-push, ends-push}
 use Rattle.svs_vector.specs.Rosters.{has_same_octets}
 use Rattle.svs_sync.proofs.OctetLemmas.{IsOctets-encoding}
 use Rattle.svs_sync.specs.SyncInterest.{sync_name, is_sync_name}
@@ -21,13 +21,6 @@ between = 0x36 ∷ 1 ∷ 2 ∷ 2 ∷ 32 ∷ []
 version_spelled : element 0x36 (2 ∷ []) ≡ 0x36 ∷ 1 ∷ 2 ∷ []
 unfolding number
 version_spelled = refl
-
-digest_head : head 2 32 ≡ 2 ∷ 32 ∷ []
-unfolding number
-digest_head = refl
-
-digest_spelled : (digest : List ℕ) → length digest ≡ 32 → element 2 digest ≡ 2 ∷ 32 ∷ digest
-digest_spelled digest long = ap (λ (n : ℕ). head 2 n ++ digest) long ∙ ap (λ (h : List ℕ). h ++ digest) digest_head
 
 -- the group's name, the version and a digest, as octets
 pub spelled : (group : List Component) (digest : List ℕ) → length digest ≡ 32
@@ -109,18 +102,6 @@ has_digest group name valid h =
     }
 
 -- ---- answers of the test
-
-pub refused : (b : Bool) → (b ≡ true → ⊥) → false ≡ b
-refused true h = absurd (h refl)
-refused false h = refl
-
-pub agreed : (a b : Bool) → (a ≡ true → b ≡ true) → (b ≡ true → a ≡ true) → a ≡ b
-agreed true b h k = sym (h refl)
-agreed false b h k = refused b (λ e. absurd (false≢true (k e)))
-
-pub behind_same : (front a b : List ℕ) → front ++ a ≡ front ++ b → a ≡ b
-behind_same front a b e =
-    sym (drop_at front a (length front) refl) ∙ ap (drop (length front)) e ∙ drop_at front b (length front) refl
 
 -- ---- the name that the test takes
 

@@ -5,8 +5,8 @@ use Rattle.std.specs.Prelude.{nat_lt, replicate, unwrap_or}
 use Rattle.std.proofs.lemmas.List.{length-set, length-replicate}
 use Rattle.ndn_tlv.specs.Listing.{gather, ◌>>=◌}
 use Rattle.ndn_tlv.specs.Elements.{elements}
+use Rattle.ndn_tlv.proofs.Steps.{bind_ok}
 use Rattle.ndn_name.specs.Names.{Component}
-use Rattle.ndn_name.proofs.Encodings.{bind_ok}
 use Rattle.ndn_sign.specs.Ring.{NamedKey}
 use Rattle.ndn_interest.specs.Interest.{Interest, interest_of}
 use Rattle.ndn_interest.specs.Signer.{ensured, signer_of}

@@ -141,15 +141,6 @@ told_of_changes changed v w new told joined = (
   covered true e = refl
   covered false e = absurd cc
 
-pub Covers-at : (v w : List ℕ) (p : ℕ) → Covers v w → slice_index w p ≤ slice_index v p
-Covers-at v w p h =
-    let e : slice_index (join v w) p ≡ max (slice_index v p) (slice_index w p) = join-at v w p in
-    let f : slice_index (join v w) p ≡ slice_index v p = ap (λ (x : List ℕ). slice_index x p) h in
-    omega (arith, e, f)
-
-pub covers_trans : (u v w : List ℕ) → Covers u v → Covers v w → Covers u w
-covers_trans u v w a b = ap (λ (x : List ℕ). join x w) (sym a) ∙ (join_assoc u v w ∙ (ap (join u) b ∙ a))
-
 -- a vector that is covered joins into what covers it
 pub join_covered : (v w : List ℕ) → Covers w v → join v w ≡ w
 join_covered v w h = join_comm v w ∙ h
@@ -160,7 +151,3 @@ join_zeros zero w h = refl
 join_zeros (suc n) [] h = absurd (omega arith)
 join_zeros (suc n) (m ∷ w) h =
     let e : max 0 m ≡ m = omega arith in let t : join (replicate n 0) w ≡ w = join_zeros n w (omega arith) in cc
-
-pub covers_rest : (n m : ℕ) (v w : List ℕ) → Covers (n ∷ v) (m ∷ w) → Covers v w
-unfolding join
-covers_rest n m v w h = cc

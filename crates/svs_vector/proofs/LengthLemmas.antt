@@ -3,12 +3,13 @@ use Rattle.std.proofs.Common.{ℕ, ◌+◌, ◌*◌, ◌^◌, ◌≤◌, List, [
 use Rattle.std.proofs.Math.Nat.{mul-suc, mul-le-mul_left}
 use Rattle.std.specs.List.{All, flat_map}
 use Rattle.std.specs.Map.{keys_of}
-use Rattle.std.proofs.lemmas.Bool.{cases_lt, le-ltb, lt-ltb}
+use Rattle.std.proofs.lemmas.Bool.{cases_lt}
 use Rattle.std.proofs.lemmas.List.Elements.{All-head, All-tail}
 use Rattle.ndn_tlv.specs.Spelling.{number, head, element}
 use Rattle.ndn_tlv.specs.NumberField.{number_field}
 use Rattle.ndn_tlv.proofs.Numbers.{number-narrow, number-16, number-32, number-64}
 use Rattle.ndn_name.specs.Names.{Component, encoding}
+use Rattle.ndn_name.proofs.SizeLemmas.{width}
 use Rattle.ndn_packet.proofs.Lengths.{length-element}
 use Rattle.svs_vector.specs.StateVector.{Entry}
 use Rattle.svs_vector.specs.WrittenVector.{entry_value, in_canonical_order, known_entries, written_entry}
@@ -33,18 +34,6 @@ head_short typ len = omega (arith, length-append (number typ) (number len), numb
 pub element_short : (typ : ℕ) (value : List ℕ) → length (element typ value) ≤ length value + 18
 element_short typ value = omega (arith, length-element typ value, head_short typ (length value))
 
-pub field_short : (n : ℕ) → length (number_field n) ≤ 8
-field_short n = elim (cases_lt n (2 ^ 8)) [
-  | inl a ↦ rw (lt-ltb n (2 ^ 8) a) (omega arith)
-  | inr a ↦ elim (cases_lt n (2 ^ 16)) [
-    | inl b ↦ rw (le-ltb n (2 ^ 8) a, lt-ltb n (2 ^ 16) b) (omega arith)
-    | inr b ↦ elim (cases_lt n (2 ^ 32)) [
-      | inl d ↦ rw (le-ltb n (2 ^ 8) a, le-ltb n (2 ^ 16) b, lt-ltb n (2 ^ 32) d) (omega arith)
-      | inr d ↦ rw (le-ltb n (2 ^ 8) a, le-ltb n (2 ^ 16) b, le-ltb n (2 ^ 32) d) (omega arith)
-    ]
-  ]
-]
-
 -- ---- entries whose names have so many octets at most
 
 abbrev pub IsWithin : ℕ → List Component → Type 0
@@ -60,7 +49,7 @@ value_short most e h =
       length-append name number,
       element_short 7 (encoding e.0),
       element_short 204 (number_field e.1),
-      field_short e.1,
+      width e.1,
     )
 
 pub entries_short : (most : ℕ) (es : List Entry) → All (IsWithin most) (keys_of es)

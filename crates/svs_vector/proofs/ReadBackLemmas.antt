@@ -21,6 +21,7 @@ use Rattle.ndn_tlv.proofs.Fields.{fields-nothing, fields-field}
 use Rattle.ndn_tlv.proofs.NumberFields.{number_of-number_field}
 use Rattle.ndn_name.specs.Names.{Component, IsName, encoding, name_of}
 use Rattle.ndn_name.proofs.Encodings.{name_of-encoding}
+use Rattle.ndn_name.proofs.SizeLemmas.{width}
 use Rattle.ndn_packet.proofs.ReadBack.{alone, followed, gathers, gathered-nothing}
 use Rattle.svs_vector.specs.declared.vector_fault.VectorFault.{VectorFault}
 use Rattle.svs_vector.specs.declared.entry.EntryField.TheVariants as entry_field
@@ -37,7 +38,7 @@ use Rattle.svs_vector.specs.WrittenVector.{in_canonical_order, known_entries, en
 use Rattle.svs_vector.specs.WrittenVector.{written_vector}
 use Rattle.svs_vector.proofs.JoinLemmas.{join_assoc, join_zeros}
 use Rattle.svs_vector.proofs.OrderLemmas.{names_in_order, numbers_in_order, names_known, numbers_known}
-use Rattle.svs_vector.proofs.LengthLemmas.{field_short, value_short, body_short, IsWithin}
+use Rattle.svs_vector.proofs.LengthLemmas.{value_short, body_short, IsWithin}
 use Rattle.svs_vector.proofs.SortedLemmas.{known_in_order, other_way}
 use Rattle.svs_vector.proofs.ToldLemmas.{told_by, told_more, told_none, Counts, stranger_counts, member_counts}
 use Rattle.svs_vector.proofs.ToldLemmas.{join_zeros_behind}
@@ -76,7 +77,7 @@ module _ (o typ : ℕ) (entry : Entry) (is : IsWritten entry) where
       let read : elements v (entry_value entry) ≡ (a then (b then nothing)) =
       followed v 7 (encoding entry.0) (element 204 number) (b then nothing) (omega arith) (omega arith)
       (omega (arith, is.name.1))
-      (alone p 204 number (omega arith) (omega arith) (omega (arith, field_short entry.1))) in
+      (alone p 204 number (omega arith) (omega arith) (omega (arith, width entry.1))) in
       let none : EntrySoFar = record { name = None; number = None } in
       let named : EntrySoFar = record { name = Some entry.0; number = None } in
       let whole : EntrySoFar = record { name = Some entry.0; number = Some entry.1 } in

@@ -1,29 +1,31 @@
 use Rattle.std.proofs.Common.{◌≡◌, ◌++◌, length, eqb, None, Some, sym, ap, ◌∙◌}
-use Rattle.std.proofs.lemmas.Bool.{eqb-true, eq-eqb}
+use Rattle.std.specs.Cmp.{both_ways}
+use Rattle.std.proofs.lemmas.Bool.{eqb-true, eq-eqb, false_from_ne_true}
 use Rattle.std.proofs.lemmas.Bool.Decides.{Decides-eqb}
+use Rattle.std.proofs.lemmas.List.{append_cancel_left}
 use Rattle.std.proofs.lemmas.Slice.Eq.{strip_prefix_is}
 use Rattle.ndn_name.specs.Names.{encoding}
-use Rattle.svs_sync.proofs.NameLemmas.{between, is_of_group, has_digest, refused, agreed, behind_same}
+use Rattle.svs_sync.proofs.NameLemmas.{between, is_of_group, has_digest}
 use Rattle.svs_sync.proofs.sync_interest.is_sync_name.Goals as goal
 
 pub returns-in_default : goal.returns-in_default
-returns-in_default c = refused _ (λ yes.
+returns-in_default c = sym (false_from_ne_true _ (λ yes.
     let d = has_digest c.args.group.now c.args.name.now c.octets.ensures.name yes in
     strip_prefix_is Decides-eqb c.octets.result.now c.octets-2.result.now None c.in_default.ensures.cases
     (between ++ d.digest)
-    (c.octets.ensures.spelled ∙ d.octets ∙ ap (λ o. o ++ (between ++ d.digest)) (sym c.octets-2.ensures.spelled)))
+    (c.octets.ensures.spelled ∙ d.octets ∙ ap (λ o. o ++ (between ++ d.digest)) (sym c.octets-2.ensures.spelled))))
 
 pub returns-in-None : goal.returns-in-None
-returns-in-None c = refused _ (λ yes.
+returns-in-None c = sym (false_from_ne_true _ (λ yes.
     let d = has_digest c.args.group.now c.args.name.now c.octets.ensures.name yes in
     let front =
     strip_prefix_is Decides-eqb c.octets.result.now c.octets-2.result.now (Some c.in-Some.behind)
     c.in-Some.ensures.cases in
     let behind =
-    behind_same (encoding c.args.group.now) c.in-Some.behind.now (between ++ d.digest)
+    append_cancel_left (encoding c.args.group.now) c.in-Some.behind.now (between ++ d.digest)
     (ap (λ o. o ++ c.in-Some.behind.now) (sym c.octets-2.ensures.spelled) ∙ sym front ∙ c.octets.ensures.spelled
     ∙ d.octets) in
-    strip_prefix_is Decides-eqb c.in-Some.behind.now between None c.in-None.ensures.cases d.digest behind)
+    strip_prefix_is Decides-eqb c.in-Some.behind.now between None c.in-None.ensures.cases d.digest behind))
 
 pub returns-in-Some-strip_prefix : goal.returns-in-Some-strip_prefix
 returns-in-Some-strip_prefix c =
@@ -41,12 +43,12 @@ returns-in-Some-strip_prefix c =
     ∙ front
     ∙ ap (λ o. o ++ c.in-Some.behind.now) c.octets-2.ensures.spelled
     ∙ ap (λ o. encoding group ++ o) behind in
-    agreed (eqb (length digest) 32) _
+    both_ways (eqb (length digest) 32) _
     (λ long. is_of_group group name digest c.octets-2.ensures.name c.octets.ensures.name whole
     (eqb-true (length digest) 32 long))
     (λ yes.
     let d = has_digest group name c.octets.ensures.name yes in
     let same =
-    behind_same between digest d.digest
-    (behind_same (encoding group) (between ++ digest) (between ++ d.digest) (sym whole ∙ d.octets)) in
+    append_cancel_left between digest d.digest
+    (append_cancel_left (encoding group) (between ++ digest) (between ++ d.digest) (sym whole ∙ d.octets)) in
     eq-eqb (length digest) 32 (ap length same ∙ d.long))
