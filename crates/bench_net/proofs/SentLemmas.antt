@@ -4,6 +4,7 @@ use Rattle.std.proofs.Common.{◌∷◌, ◌++◌, length, get_or, position, Vec
 use Rattle.std.proofs.Common.{sym, ap, subst, ◌∙◌, arith, if◌then◌else◌}
 use Rattle.std.specs.List.{list_any, position_or_len, All}
 use Rattle.std.specs.Str.{bytes_eq}
+use Rattle.std.proofs.Math.Bool.{and-false, or-false}
 use Rattle.std.proofs.lemmas.Bool.{ltb-true, ltb-false, eqb-true, and_parts}
 use Rattle.std.proofs.lemmas.Slice.Eq.{bytes_eq-Decides}
 use Rattle.std.proofs.lemmas.List.{length-append, length-map, map-append, get_or_append_left, get_or_push}
@@ -17,12 +18,6 @@ use Rattle.bench_net.specs.declared.sent.Packet.{Packet}
 use Rattle.bench_net.specs.SentFields.{lists_of, packets_of, is_told, TellsOf}
 use Rattle.bench_net.proofs.Places.{place-map, position-map, insert_key-map, any_within, place_found, place_missing}
 use Rattle.bench_net.proofs.Places.{found_at, missing_at}
-
-equal : (v w : List ℕ) → bytes_eq v w ≡ true → v ≡ w
-equal v w = (bytes_eq-Decides v w).0
-
-same : (v : List ℕ) → bytes_eq v v ≡ true
-same v = (bytes_eq-Decides v v).1 refl
 
 -- A vector put in among those that were told of, which is number i of them then.
 pub record PutIn (ks more : List (List ℕ)) (w : List ℕ) (i : ℕ) : Type 0 where
@@ -46,7 +41,7 @@ module _ (ks : List (List ℕ)) (w : List ℕ) where
         longer = omega arith;
         within = lt;
         kept = λ k h. refl;
-        stands = sym (equal w (get_or ks i []) (position-Some (bytes_eq w) ks i [] itself).1);
+        stands = sym ((bytes_eq-Decides w (get_or ks i [])).0 (position-Some (bytes_eq w) ks i [] itself).1);
         found = λ v j h. h;
         itself = itself;
         missing = λ v h differs. h;
@@ -77,7 +72,7 @@ module _ (ks : List (List ℕ)) (w : List ℕ) where
       let end : i ≡ length ks = omega (arith, le, prefix_len-le-length (λ x. not (bytes_eq w x)) ks) in
       let here : eqb (length ks) (length ks) ≡ true = grind arith in
       let place : position_or_len (bytes_eq w) (ks ++ w ∷ []) ≡ i =
-      position_or_len_push (bytes_eq w) ks w ∙ rw (end, here, same w) (omega arith) in
+      position_or_len_push (bytes_eq w) ks w ∙ rw (end, here, (bytes_eq-Decides w w).1 refl) (omega arith) in
       let longer = length-append ks (w ∷ []) in
       record {
         longer = omega (arith, longer);
@@ -110,14 +105,6 @@ pair_equal (s, i) (t, j) e =
     let second : i ≡ j = eqb-true i j both.1 in
     cc
 
-or_false : (b : Bool) → (b || false) ≡ b
-or_false true = refl
-or_false false = refl
-
-and_false : (b : Bool) → (b && false) ≡ false
-and_false true = refl
-and_false false = refl
-
 -- a pair that is put in is found, and no other
 pair_put : (told : List (ℕ × ℕ)) (new pair : ℕ × ℕ)
     → list_any (is_pair pair) (insert_key is_pair told new) ≡ (list_any (is_pair pair) told || is_pair pair new)
@@ -129,7 +116,7 @@ pair_put told new pair = by (list_any (is_pair new) told) refl
         let yes : list_any (is_pair pair) told ≡ true =
         ap (λ (p : ℕ × ℕ). list_any (is_pair p) told) (pair_equal pair new e) ∙ there in
         rw yes refl
-    found false e there = sym (or_false (list_any (is_pair pair) told))
+    found false e there = sym (or-false (list_any (is_pair pair) told))
 
     by : (b : Bool) → list_any (is_pair new) told ≡ b
         → list_any (is_pair pair) (if b then told else told ++ new ∷ [])
@@ -137,7 +124,7 @@ pair_put told new pair = by (list_any (is_pair new) told) refl
     by true e = found (is_pair pair new) refl e
     by false e =
         list_any-append (is_pair pair) told (new ∷ [])
-        ∙ ap (λ (c : Bool). list_any (is_pair pair) told || c) (or_false (is_pair pair new))
+        ∙ ap (λ (c : Bool). list_any (is_pair pair) told || c) (or-false (is_pair pair new))
 
 -- no pair tells of a vector that is not there
 none_behind : (told : List (ℕ × ℕ)) (sender end : ℕ) → All (λ pair. pair.1 < end) told
@@ -146,7 +133,7 @@ none_behind told sender end below =
     list_any_none (is_pair (sender, end)) told (λ k d h. let lt = below k d h in differs (get_or told k d) lt)
   where
     differs : (pair : ℕ × ℕ) → pair.1 < end → is_pair (sender, end) pair ≡ false
-    differs (t, j) lt = let no : eqb end j ≡ false = grind arith in rw no (and_false (eqb sender t))
+    differs (t, j) lt = let no : eqb end j ≡ false = grind arith in rw no (and-false (eqb sender t))
 
 within_put : (told : List (ℕ × ℕ)) (sender i low high : ℕ) → low ≤ high → i < high → All (λ pair. pair.1 < low) told
     → All (λ pair. pair.1 < high) (insert_key is_pair told (sender, i))
@@ -186,7 +173,7 @@ module _ (ks : List (List ℕ)) (told : List (ℕ × ℕ)) (packets : List SentP
     where
       numbers_are : (b : Bool) → bytes_eq v w ≡ b → eqb j number ≡ b
       numbers_are true e =
-          let v-is = equal v w e in
+          let v-is = (bytes_eq-Decides v w).0 e in
           let at-w : position (bytes_eq w) ks ≡ Some j =
           ap (λ (x : List ℕ). position (bytes_eq x) ks) (sym v-is) ∙ at in
           let is : number ≡ j = (place_found (bytes_eq w) ks j at-w).0 in
@@ -198,7 +185,7 @@ module _ (ks : List (List ℕ)) (told : List (ℕ × ℕ)) (packets : List SentP
           by true h =
               let is : j ≡ number = eqb-true j number h in
               let v-stands = position-Some (bytes_eq v) ks j [] at in
-              let v-is : v ≡ get_or ks j [] = equal v (get_or ks j []) v-stands.1 in
+              let v-is : v ≡ get_or ks j [] = (bytes_eq-Decides v (get_or ks j [])).0 v-stands.1 in
               let kept : get_or more j [] ≡ get_or ks j [] = put.kept j v-stands.0 in
               let w-is : get_or more j [] ≡ w = ap (λ (n : ℕ). get_or more n []) is ∙ put.stands in
               let both : bytes_eq v w ≡ true = (bytes_eq-Decides v w).1 (v-is ∙ sym kept ∙ w-is) in
@@ -211,7 +198,7 @@ module _ (ks : List (List ℕ)) (told : List (ℕ × ℕ)) (packets : List SentP
     where
       by : (b : Bool) → bytes_eq v w ≡ b → is_told s v more pairs ≡ (is_told s v ks told || (eqb s sender && b))
       by true e =
-          let v-is = equal v w e in
+          let v-is = (bytes_eq-Decides v w).0 e in
           let at-w : position (bytes_eq w) ks ≡ None =
           ap (λ (x : List ℕ). position (bytes_eq x) ks) (sym v-is) ∙ none in
           let known : position (bytes_eq v) more ≡ Some number =
@@ -223,7 +210,7 @@ module _ (ks : List (List ℕ)) (told : List (ℕ × ℕ)) (packets : List SentP
           rw (none, known) (pair_put told (sender, number) (s, number) ∙ rw (nobody, here) refl)
       by false e =
           let known = put.missing v none e in
-          rw (none, known) (sym (and_false (eqb s sender)))
+          rw (none, known) (sym (and-false (eqb s sender)))
 
   told_more : (s : ℕ) (v : List ℕ) → is_told s v more pairs ≡ (is_told s v ks told || (eqb s sender && bytes_eq v w))
   told_more s v = by (position (bytes_eq v) ks) refl
@@ -239,7 +226,7 @@ module _ (ks : List (List ℕ)) (told : List (ℕ × ℕ)) (packets : List SentP
     answers = λ s v.
         list_any-append (λ (p : SentPacket). eqb s p.sender && bytes_eq v p.vector) packets
         (sent_packet sender w octets ∷ [])
-        ∙ ap (λ (b : Bool). was_sent s v packets || b) (or_false (eqb s sender && bytes_eq v w))
+        ∙ ap (λ (b : Bool). was_sent s v packets || b) (or-false (eqb s sender && bytes_eq v w))
         ∙ ap (λ (b : Bool). b || (eqb s sender && bytes_eq v w)) (tells.answers s v)
         ∙ sym (told_more s v);
   }

@@ -16,6 +16,7 @@ use Rattle.fetch_board.proofs.Totals.{total_set}
 use Rattle.fetch_board.proofs.Marks.{own, found_triple}
 use Rattle.fetch_board.proofs.Moves.{St, each_view}
 use Rattle.fetch_board.proofs.Phases.{found}
+use Rattle.fetch_board.proofs.Ends.{there}
 use Rattle.fetch_board.proofs.Seats.{none_of}
 
 at_below : {A : Type 0} (xs : List A) (i : ℕ) (x : A) → get_elem? xs i ≡ some x → i < length xs
@@ -27,11 +28,6 @@ at_or : {A : Type 0} (xs : List A) (i : ℕ) (x d : A) → get_elem? xs i ≡ so
 at_or [] i x d e = absurd (some-ne-none x (sym e))
 at_or (y ∷ ys) zero x d e = some-injective y x e
 at_or (y ∷ ys) (suc i) x d e = at_or ys i x d e
-
-pub there : {A : Type 0} (xs : List A) (i : ℕ) → i < length xs → (x : A) × (get_elem? xs i ≡ some x)
-there [] i h = absurd (omega arith)
-there (x ∷ xs) zero h = (x, refl)
-there (x ∷ xs) (suc i) h = there xs i (omega arith)
 
 module _ {T : Type 0} where
   -- where no seat has a share, nothing is known

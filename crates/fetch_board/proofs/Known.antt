@@ -18,11 +18,6 @@ module _ {T : Type 0} where
   known_decides i taken.Done v w d = ap known d.1.learns
   known_decides i taken.Spent v w d = ap known d.learns
 
-  pub known_takes : (i : ℕ) (answer : Taken) (v w : SeatData T) → Takes i v answer w
-      → known w ≡ after_claim i answer (known v)
-  known_takes i answer v w t = known_decides i answer (after_looks i t.0 v) w t.1
-      ∙ ap (after_claim i answer) (known_looks i t.0 v)
-
   -- what is so where the claim decides after these looks
   pub known_after : (i : ℕ) (answer : Taken) (v u w : SeatData T) → (ends : List ℕ) × (u ≡ after_looks i ends v)
       → Decides i u answer w → known w ≡ after_claim i answer (known v)

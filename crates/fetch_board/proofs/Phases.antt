@@ -72,7 +72,7 @@ due_places n a (placing b) h = ap placing (same_only a b h)
 due_places n a (done b) h = absurd (omega arith)
 due_places n a spent h = absurd (omega arith)
 
-one_most : (b : Bool) → one b ≤ 1
+pub one_most : (b : Bool) → one b ≤ 1
 one_most true = omega arith
 one_most false = omega arith
 
@@ -226,9 +226,3 @@ module _ {T : Type 0} (tries seats : ℕ) (s : St T) (r : Kept tries seats s) wh
         subst (λ q. pairs i b v.placing ≤ entries_due tries q (places b)) p
         (count_at i (places b)) in
         only (pairs i b v.placing) a b c (λ e. subst (λ k. 0 < pairs i k v.placing) (sym e) h)
-
-pub within_16 : (n : ℕ) (w : Word) → n ≤ 16 → IsWithinTries n w → IsWithinTries 16 w
-within_16 n (Wanted a) le h = omega arith
-within_16 n (Held a) le h = omega arith
-within_16 n (Done a) le h = omega arith
-within_16 n Spent le h = tt

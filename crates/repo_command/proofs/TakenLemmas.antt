@@ -3,8 +3,8 @@ use Rattle.std.proofs.Common.{◌≡◌, ℕ, ◌-◌, ◌<◌, Bool, true, fals
 use Rattle.std.proofs.Common.{Result, Ok, Err, if◌then◌else◌, refl, sym, ap, ◌∙◌, arith}
 use Rattle.std.specs.Prelude.{unwrap_or, ok_or}
 use Rattle.ndn_tlv.specs.Listing.{◌>>=◌}
+use Rattle.ndn_tlv.proofs.Steps.{bind_ok}
 use Rattle.ndn_name.specs.Names.{Component}
-use Rattle.ndn_name.proofs.Encodings.{bind_ok}
 use Rattle.ndn_sign.specs.Ring.{NamedKey}
 use Rattle.ndn_interest.specs.declared.signature_refusal.SignatureRefusal.{SignatureRefusal}
 use Rattle.ndn_interest.specs.Interest.{interest_of}

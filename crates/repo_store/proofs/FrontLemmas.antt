@@ -8,11 +8,12 @@ use Rattle.std.specs.declared.cmp.Ordering.TheVariants.{Less, Equal, Greater}
 use Rattle.std.specs.Cmp.{IsTotalOrder}
 use Rattle.std.proofs.lemmas.Bool.{true≢false, cases_lt, and_parts, and_from, eqb-true, eq-eqb}
 use Rattle.std.proofs.lemmas.Cmp.{nat_cmp_total, on_total, then_total, tied_itself}
+use Rattle.std.proofs.lemmas.Map.Keys.{le_from_is_le}
 use Rattle.sorted_lists.specs.SortedList.{Rises, keys, first_from}
 use Rattle.sorted_lists.specs.Members.{In}
 use Rattle.sorted_lists.specs.Least.{Passes, IsFirstBy}
 use Rattle.sorted_lists.proofs.Orders.{Exact, then_equal, nat_same}
-use Rattle.sorted_lists.proofs.TwoOrders.{first_le, second_le, then_le, le_nat, nat_le, less_nat, nat_tied}
+use Rattle.sorted_lists.proofs.TwoOrders.{first_le, second_le, then_le, nat_le, less_nat, nat_tied}
 use Rattle.sorted_lists.proofs.Sets.{in_map, from_map}
 use Rattle.sorted_lists.proofs.RunOrder.{le_itself, lt_not_le, IsFirst, first_is, none_from_on}
 use Rattle.sorted_lists.proofs.LeastOnes.{lesser_first, first_same}
@@ -73,7 +74,7 @@ start front from = record { front = front; slot = from; part = first_part }
 from_start : (a : Fronted) (front from : ℕ) → front ≡ a.front → is_le (fronted_cmp (start front from) a) ≡ true
     → from ≤ a.slot
 from_start a front from same h =
-    le_nat from a.slot
+    le_from_is_le from a.slot
     (first_le (nat_cmp from a.slot) (part_cmp first_part a.part) (same_front (start front from) a same h))
 
 not_start : (a : Fronted) (front from : ℕ) → front ≡ a.front → from ≤ a.slot
@@ -88,8 +89,8 @@ not_start a front from same low less =
 front_between : (x own : Fronted) (front from : ℕ) → own.front ≡ front
     → is_le (fronted_cmp (start front from) x) ≡ true → is_le (fronted_cmp x own) ≡ true → x.front ≡ front
 front_between x own front from same low high =
-    let above : front ≤ x.front = le_nat front x.front (first_le (nat_cmp front x.front) _ low) in
-    let below : x.front ≤ own.front = le_nat x.front own.front (first_le (nat_cmp x.front own.front) _ high) in
+    let above : front ≤ x.front = le_from_is_le front x.front (first_le (nat_cmp front x.front) _ low) in
+    let below : x.front ≤ own.front = le_from_is_le x.front own.front (first_le (nat_cmp x.front own.front) _ high) in
     omega (arith, above, below, same)
 
 -- ---- what is found by a front

@@ -6,8 +6,9 @@ use Rattle.fetch_board.specs.Rule.{Kept}
 use Rattle.fetch_board.specs.Seats.{IsSeatOf}
 use Rattle.fetch_board.specs.Answers.{Rests, Settled}
 use Rattle.fetch_board.proofs.Opened.{at_fields}
-use Rattle.fetch_board.proofs.Closes.{closes, closes_at, there}
+use Rattle.fetch_board.proofs.Closes.{closes, closes_at}
 use Rattle.fetch_board.proofs.board.Board.close.Goals as goal
+use Rattle.fetch_board.proofs.Ends.{there}
 
 pub settle-outcome-requires-clause-words : goal.settle-outcome-requires-clause-words
 settle-outcome-requires-clause-words g c = λ i n near word ne.
