@@ -9,11 +9,8 @@ use Rattle.fetch_board.specs.Counts.{one, items, pairs, triples, paid, released,
 use Rattle.fetch_board.specs.Seats.{SeatData, claimed, finished, forgone, returned}
 use Rattle.fetch_board.specs.Answers.{known, met, after_claim}
 use Rattle.fetch_board.proofs.Marks.{mine, own, other, item_own, newest, newest_item, paid_own, paid_less, pair_own}
+use Rattle.fetch_board.proofs.Phases.{one_most}
 use Rattle.fetch_work.specs.Works.{Works, Visits}
-
-one_most : (b : Bool) → one b ≤ 1
-one_most true = omega arith
-one_most false = omega arith
 
 count_new : (i a : ℕ) (xs : List (ℕ × ℕ)) → pairs i a xs ≡ 0 → ((j b : ℕ) → pairs j b xs ≤ 1) → (j b : ℕ)
     → pairs j b ((i, a) ∷ xs) ≤ 1

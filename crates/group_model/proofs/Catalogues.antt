@@ -8,6 +8,7 @@ use Rattle.std.specs.List.{list_any}
 use Rattle.std.specs.Prelude.{filter, find, is_some, ◌==◌}
 use Rattle.std.specs.Ordering.{nat_cmp}
 use Rattle.std.specs.declared.cmp.Ordering.{Ordering}
+use Rattle.std.proofs.Math.Bool.{and-true}
 use Rattle.sorted_lists.specs.SortedList.{Rises, IsBefore}
 use Rattle.repo_plan.specs.Parts.{Pair, pair_cmp, part_of}
 use Rattle.repo_plan.proofs.Orders.{exact_parts, exact_pairs}
@@ -25,7 +26,7 @@ use Rattle.group_model.specs.World.{member, logs, catalogue_at}
 use Rattle.group_model.specs.Sound.{IsSoundMember, IsPublished, IsHiddenSoundly}
 use Rattle.group_model.specs.Catalogues.{HoldsNoWithdrawal, BelongsInCatalogue, ListsThose, ListsInOrder}
 use Rattle.group_model.specs.Catalogues.{JoinListsThose, JoinListsInOrder}
-use Rattle.group_model.proofs.Lists.{and_one, same_any, any_in, none_in, from_filter, each_all, all_in}
+use Rattle.group_model.proofs.Lists.{same_any, any_in, none_in, from_filter, each_all, all_in}
 use Rattle.group_model.proofs.Parts.{from_numbered, IsIn, in_published, IsPartOf, from_parts_in, in_parts_in}
 use Rattle.group_model.proofs.Parts.{from_all_parts}
 use Rattle.group_model.proofs.Among.{at_pair, is_published, in_all_parts}
@@ -234,7 +235,7 @@ lists_those out w sound j pair l =
 any_withdraws : (ls : Logs) (pair : Pair)
     → list_any (λ q. withdraws pair q && true) (published ls) ≡ list_any (withdraws pair) (published ls)
 any_withdraws ls pair =
-    same_any (λ q. withdraws pair q && true) (withdraws pair) (published ls) (λ q i. and_one (withdraws pair q))
+    same_any (λ q. withdraws pair q && true) (withdraws pair) (published ls) (λ q i. and-true (withdraws pair q))
 
 pub join_lists_those : JoinListsThose
 join_lists_those ls pair =

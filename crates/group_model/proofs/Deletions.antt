@@ -143,10 +143,6 @@ pub same_log_hides : (ps : List Publication) (m : Member) → (member_hides_all 
 same_log_hides [] m = refl
 same_log_hides (p ∷ ps) m = same_log_hides ps (member_hides_too (pair_in p) m)
 
-pub known_hides : (ps : List Publication) (m : Member) → (member_hides_all ps m).known ≡ m.known
-known_hides [] m = refl
-known_hides (p ∷ ps) m = known_hides ps (member_hides_too (pair_in p) m)
-
 -- the catalogued publications of a name are hidden
 pub sound_deletes : (ls : Logs) (j : ℕ) (name : List (ℕ × List ℕ)) (m : Member) → IsSoundMember ls j m
     → IsSoundMember ls j (member_hides_all (catalogued_under ls m name) m)

@@ -15,6 +15,7 @@ use Rattle.repo_plan.proofs.Orders.{exact_parts}
 use Rattle.sorted_lists.proofs.Sets.{In, contains_in, in_contains, rises_with_value, value_of-with_value}
 use Rattle.repo_plan.proofs.Known.{from_parts_of, in_parts_of}
 use Rattle.repo_plan.proofs.Changes.{unclaimed_at}
+use Rattle.repo_plan.proofs.Changes.{at_set}
 use Rattle.repo_object.specs.Objects.{Post, contents_of, shape_in}
 use Rattle.group_model.specs.Publications.{Logs, last_of, count, shape_at}
 use Rattle.group_model.specs.Member.{Member, member_holds, member_hides, plan_of, gains, tries_of, with_tries}
@@ -23,7 +24,7 @@ use Rattle.group_model.specs.Changes.{publishes, takes}
 use Rattle.group_model.specs.Sound.{IsSoundMember, IsPublished, IsKnown, IsHeldSoundly, IsHiddenSoundly}
 use Rattle.group_model.proofs.Lists.{contains-insert_keys, rises_insert_keys}
 use Rattle.group_model.proofs.Plans.{IsWanted, wanted_parts}
-use Rattle.group_model.proofs.Members.{known_published, known_more, Keeps, wanted_kept, at_set, Grows, counts_grown}
+use Rattle.group_model.proofs.Members.{known_published, known_more, Keeps, wanted_kept, Grows, counts_grown}
 use Rattle.group_model.proofs.Parents.{record_lists_itself, parent_within}
 
 -- ---- any gain

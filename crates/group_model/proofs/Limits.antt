@@ -10,6 +10,7 @@ use Rattle.repo_plan.specs.declared.part.Part.{Part}
 use Rattle.sorted_lists.specs.SortedList.{value_of, Rises}
 use Rattle.repo_plan.specs.Parts.{part_cmp}
 use Rattle.sorted_lists.specs.Range.{numbers_from}
+use Rattle.sorted_lists.proofs.Ranges.{length-numbers}
 use Rattle.repo_plan.proofs.Known.{unclaimed_rises}
 use Rattle.svs_sync.specs.declared.fired.Fired.{Fired}
 use Rattle.svs_sync.specs.declared.fired.Fired.TheVariants.{Early, Quiet, Send}
@@ -43,7 +44,6 @@ use Rattle.group_model.specs.Limits.{IsWithinSteps, HasSmallPackets, StaysWithin
 use Rattle.group_model.specs.Limits.{RunsStayWithin}
 use Rattle.group_model.proofs.Settles.{settles, settle_each, logs_settled, logs_gathered}
 use Rattle.group_model.proofs.Worlds.{same_logs, sound_after}
-use Rattle.group_model.proofs.Runs.{length_numbers}
 use Rattle.group_model.proofs.Lasting.{lasts}
 use Rattle.group_model.proofs.Tries.{filter_short, take_short, rises_take, each_tried_at, few_attempts}
 
@@ -252,7 +252,7 @@ within_command s w issued j (Insert name first last) short h = go (can_start (me
   few : length (indexes (starting name first last)) ≤ 200
   few =
       let e : length (numbers_from first (last + 1 - first)) ≡ last + 1 - first =
-      length_numbers first (last + 1 - first) in
+      length-numbers first (last + 1 - first) in
       omega (arith, e, short)
 
   go : (b : Bool)

@@ -7,6 +7,7 @@ use Rattle.std.proofs.lemmas.List.{length-set, get_or-set_same, get_or-set_other
 use Rattle.std.specs.Prelude.{◌==◌, replicate}
 use Rattle.repo_plan.specs.declared.part.Part.{Part}
 use Rattle.sorted_lists.specs.Range.{numbers_from}
+use Rattle.sorted_lists.proofs.Ranges.{length-numbers, number_at}
 use Rattle.svs_vector.specs.Vectors.{covers}
 use Rattle.svs_sync.specs.declared.fired.Fired.{Fired}
 use Rattle.svs_sync.specs.declared.fired.Fired.TheVariants.{Early, Quiet, Send}
@@ -38,7 +39,7 @@ use Rattle.group_model.specs.Machines.{MachinesFollowTable, MachinesBegin, Reach
 use Rattle.group_model.proofs.Settles.{member_settled}
 use Rattle.group_model.proofs.Worlds.{sound_after}
 use Rattle.group_model.proofs.Lasting.{lasts}
-use Rattle.group_model.proofs.Runs.{sound_opening, length_numbers}
+use Rattle.group_model.proofs.Runs.{sound_opening}
 use Rattle.svs_sync.specs.Suppression
 
 -- what befell a machine makes the second of the first
@@ -268,11 +269,6 @@ makes out w Event.Traffic j h l = makes_none (member w j)
 
 -- ---- whole runs
 
-number_at : (a n j : ℕ) → j < n → get_or (numbers_from a n) j 0 ≡ a + j
-number_at a zero j l = absurd (omega arith)
-number_at a (suc n) zero l = omega arith
-number_at a (suc n) (suc j) l = number_at (a + 1) n j (omega arith) ∙ omega arith
-
 makes_all : (out : Outside) (es : List Event) (w : World) (j : ℕ) → EventsAreTaken out w es → IsSoundGroup w
     → j < length w.members → Makes (befall out w j es) (member w j) (member (after_events out w es) j)
 makes_all out [] w j h s l = makes_none (member w j)
@@ -305,7 +301,7 @@ machines_begin out n j l =
     } in
     let from_zero : 0 + j ≡ j = omega arith in
     ap (λ (m : Member). m.machine)
-    (get_or-map f (numbers_from 0 n) j 0 no_member (subst (λ (k : ℕ). j < k) (sym (length_numbers 0 n)) l))
+    (get_or-map f (numbers_from 0 n) j 0 no_member (subst (λ (k : ℕ). j < k) (sym (length-numbers 0 n)) l))
     ∙ ap (λ (i : ℕ). (f i).machine) (number_at 0 n j l ∙ from_zero)
 
 pub reached_machines : ReachedMachinesFollowTable
@@ -314,6 +310,6 @@ reached_machines out n es j h l =
       known = replicate n 0;
       machine = record { members = n; heard = None; deadline = periodic (out.draw i 0); draws = 1 };
     } in
-    let wide : length (opening_world out n).members ≡ n = length-map (numbers_from 0 n) f ∙ length_numbers 0 n in
+    let wide : length (opening_world out n).members ≡ n = length-map (numbers_from 0 n) f ∙ length-numbers 0 n in
     machines_follow_table out (opening_world out n) (sound_opening out n) es n j (first_machine out j) h
     (subst (λ (k : ℕ). j < k) (sym wide) l) (machines_begin out n j l)

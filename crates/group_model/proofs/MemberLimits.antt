@@ -1,11 +1,10 @@
 -- How far the counts of one member go.
 use Rattle.std.proofs.Common.{◌≡◌, ℕ, suc, zero, ◌+◌, ◌-◌, ◌*◌, ◌≤◌, Bool, true, false, cond, not, List, [], ◌∷◌}
 use Rattle.std.proofs.Common.{length, get_or, set, refl, sym, ap, ◌∙◌, subst, arith, Option, Some, None}
-use Rattle.std.proofs.lemmas.Cmp.{nat_cmp_total}
 use Rattle.std.specs.Ordering.{nat_cmp, eq_by_cmp}
 use Rattle.repo_plan.specs.declared.part.Part.{Part}
 use Rattle.sorted_lists.specs.SortedList.{value_of, with_value}
-use Rattle.sorted_lists.proofs.Orders.{Exact, nat_same, nat_itself}
+use Rattle.sorted_lists.proofs.Orders.{exact_numbers}
 use Rattle.sorted_lists.proofs.Sets.{value_of-with_value}
 use Rattle.svs_sync.specs.KeptVector.{Keeper}
 use Rattle.repo_process.specs.Processes.{Process, BlockState, indexes, has_index, has_block, with_block, with_it}
@@ -14,9 +13,6 @@ use Rattle.repo_process.specs.Processes.BlockState.{Unknown, Already, Waiting, W
 use Rattle.group_model.specs.Member.{Member, tries_of}
 use Rattle.group_model.specs.World.{no_member}
 use Rattle.group_model.specs.Limits.{IsMemberWithin}
-
-exact_numbers : Exact nat_cmp
-exact_numbers = record { total = nat_cmp_total; same = nat_same; itself = nat_itself }
 
 -- a change that uses at most one draw, tries no part more than 16 times, and keeps insertions short
 pub mem_change : (old new : ℕ) (m n : Member) → n.machine.draws ≤ m.machine.draws + (new - old)

@@ -1,13 +1,13 @@
 -- What each change of a member keeps.
-use Rattle.std.proofs.Common.{◌≡◌, ◌≢◌, ◌⊎◌, inl, inr, ℕ, suc, zero, ◌-◌, ◌≤◌, max, Bool, true, false, cond, List, []}
-use Rattle.std.proofs.Common.{◌∷◌, length, get_or, set, refl, sym, ap, ◌∙◌, subst, arith, Option, Some, None}
+use Rattle.std.proofs.Common.{◌≡◌, inl, inr, ℕ, ◌-◌, ◌≤◌, max, Bool, true, false, cond, List}
+use Rattle.std.proofs.Common.{length, get_or, refl, sym, ap, ◌∙◌, subst, arith, Option, Some, None}
 use Rattle.std.proofs.lemmas.List.{length-set}
 use Rattle.repo_plan.specs.declared.part.Part.{Part}
 use Rattle.sorted_lists.specs.SortedList.{contains}
 use Rattle.repo_plan.specs.Parts.{Pair, pair_cmp, pair_of, record_of, parent, parts_behind}
 use Rattle.repo_plan.specs.declared.shape.Shape.{Shape}
 use Rattle.repo_plan.specs.Plan.{is_wanted, is_claimed}
-use Rattle.repo_plan.proofs.Changes.{unclaimed_at}
+use Rattle.repo_plan.proofs.Changes.{at_set, unclaimed_at}
 use Rattle.svs_vector.specs.Vectors.{join, covers}
 use Rattle.svs_vector.proofs.JoinLemmas.{join-at, length-join}
 use Rattle.svs_sync.specs.KeptVector.{Keeper, steady_kept, hears_kept}
@@ -215,15 +215,6 @@ sound_learns draw moment ls j told m t s =
     }
 
 -- ---- claims
-
-pub at_set : (xs : List (Option Part)) (f g : ℕ) (x : Option Part) (t : Part) → get_or (set xs f x) g None ≡ Some t
-    → ((g ≡ f) × (x ≡ Some t)) ⊎ ((g ≢ f) × (get_or xs g None ≡ Some t))
-at_set [] f g x t e = absurd cc
-at_set (y ∷ ys) zero zero x t e = inl (refl, e)
-at_set (y ∷ ys) zero (suc g) x t e = inr (λ p. cc, e)
-at_set (y ∷ ys) (suc f) zero x t e = inr (λ p. cc, e)
-at_set (y ∷ ys) (suc f) (suc g) x t e =
-    elim (at_set ys f g x t e) [ inl r ↦ inl (ap suc r.0, r.1) | inr r ↦ inr (λ p. r.0 (omega (arith, p)), r.1) ]
 
 pub sound_claims : (ls : Logs) (j f : ℕ) (t : Part) (m : Member) → is_wanted (plan_of ls m) t ≡ true
     → is_claimed (plan_of ls m) t ≡ false → IsSoundMember ls j m → IsSoundMember ls j (member_with_claim f (Some t) m)

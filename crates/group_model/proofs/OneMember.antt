@@ -2,8 +2,8 @@
 use Rattle.std.proofs.Common.{◌≡◌, inl, inr, ℕ, ◌≤◌, ◌<◌, Bool, true, false, not, ◌&&◌, List, [], map, length, get_or}
 use Rattle.std.proofs.Common.{refl, sym, ap, ◌∙◌, subst, arith}
 use Rattle.std.specs.Prelude.{filter}
-use Rattle.std.proofs.lemmas.Bool.{true≢false, cases_lt, cases_eq, true_from_ne_false}
-use Rattle.std.proofs.lemmas.List.{get_or_past}
+use Rattle.std.proofs.lemmas.Bool.{true≢false, cases_eq, true_from_ne_false}
+use Rattle.std.proofs.Math.Bool.{and-true}
 use Rattle.repo_object.specs.Objects.{Post, shape_in, contents_of}
 use Rattle.repo_plan.specs.declared.part.Part.{Part}
 use Rattle.sorted_lists.specs.SortedList.{contains}
@@ -17,9 +17,9 @@ use Rattle.group_model.specs.Publications.{count, post_at, shape_at, is_object, 
 use Rattle.group_model.specs.Member.{Member, plan_of, member_holds, member_hides, holds_all, is_listed, knows_withdrawn}
 use Rattle.group_model.specs.Sound.{IsKnown}
 use Rattle.group_model.specs.OneMember.{KnowsAll, JoinsByItself}
-use Rattle.group_model.proofs.Lists.{and_one, each_all, same_filter, same_any, all_in}
+use Rattle.group_model.proofs.Lists.{each_all, same_filter, same_any, all_in}
 use Rattle.group_model.proofs.Parents.{parent_within, parent_of_parent}
-use Rattle.group_model.proofs.Parts.{IsIn, in_published, IsPartOf, from_parts_in, in_parts_in}
+use Rattle.group_model.proofs.Parts.{IsIn, in_range, in_published, IsPartOf, from_parts_in, in_parts_in}
 use Rattle.group_model.proofs.Plans.{IsWanted, wanted_from}
 
 -- ---- where all is held
@@ -35,17 +35,9 @@ listed_whole m ps each = same_filter (is_listed ps m) (is_unwithdrawn ps) ps (λ
     ap (λ (b : Bool). withdraws (pair_in p) q && b)
     (each_all (member_holds m) (parts_in q) (each q k) (part_of (pair_in q) 0)
     (in_parts_in q (part_of (pair_in q) 0) (record { pair = refl; counted = omega arith })))
-    ∙ and_one (withdraws (pair_in p) q))))
+    ∙ and-true (withdraws (pair_in p) q))))
 
 -- ---- where nothing is wanted
-
-in_range : (logs : Logs) (p n : ℕ) → 1 ≤ n → n ≤ length (get_or logs p []) → p < length logs
-in_range logs p n a b = elim (cases_lt p (length logs)) [
-  | inl h ↦ h
-  | inr h ↦
-      absurd (let e : get_or logs p [] ≡ [] = get_or_past logs p [] h in
-      let z : length (get_or logs p []) ≡ 0 = ap length e in omega (arith, z))
-]
 
 nothing_in : (xs : List Part) (x : Part) → xs ≡ [] → contains part_cmp xs x ≡ true → ⊥
 nothing_in xs x e c = true≢false (sym c ∙ ap (λ (ys : List Part). contains part_cmp ys x) e)

@@ -90,7 +90,7 @@ in_published ls q i =
       post = r.3 ∙ ap (λ (n : ℕ). get_or (get_or ls n []) (q.seq - 1) no_post) same;
     }
 
-in_range : (ls : Logs) (p n : ℕ) → 1 ≤ n → n ≤ length (get_or ls p []) → p < length ls
+pub in_range : (ls : Logs) (p n : ℕ) → 1 ≤ n → n ≤ length (get_or ls p []) → p < length ls
 in_range ls p n a b = elim (cases_lt p (length ls)) [
   | inl h ↦ h
   | inr h ↦

@@ -11,30 +11,15 @@ use Rattle.repo_plan.specs.Parts.{Pair, pair_cmp, part_cmp, pair_of, part_of, re
 use Rattle.repo_plan.specs.declared.shape.Shape.{Shape}
 use Rattle.repo_plan.specs.Plan.{is_wanted, shape_of, can_be_asked}
 use Rattle.repo_plan.proofs.Orders.{exact_parts, exact_pairs}
-use Rattle.sorted_lists.proofs.Sets.{eq_same, eq_itself}
+use Rattle.sorted_lists.proofs.Sets.{eq_same}
 use Rattle.group_model.specs.Publications.{Logs, count, shape_at}
 use Rattle.group_model.specs.Member.{Member, member_holds, member_hides, told_by, plan_of}
 use Rattle.group_model.specs.Sound.{IsKnown}
 use Rattle.repo_plan.specs.Plan
 use Rattle.repo_plan.proofs.Changes
+use Rattle.repo_plan.proofs.Changes.{record_eq}
 
 -- ---- what held records tell
-
-same_pair : (pair : Pair) (t : Part) → t.part ≡ 0
-    → eq_by_cmp part_cmp (part_of pair 0) t ≡ eq_by_cmp pair_cmp pair (pair_of t)
-same_pair pair t z = go (eq_by_cmp part_cmp (part_of pair 0) t) (eq_by_cmp pair_cmp pair (pair_of t)) refl refl where
-  go : (a b : Bool) → eq_by_cmp part_cmp (part_of pair 0) t ≡ a → eq_by_cmp pair_cmp pair (pair_of t) ≡ b → a ≡ b
-  go true true p q = refl
-  go false false p q = refl
-  go true false p q =
-      let same : part_of pair 0 ≡ t = eq_same exact_parts (part_of pair 0) t p in
-      absurd
-      (true≢false (sym (eq_itself exact_pairs pair) ∙ ap (λ (u : Part). eq_by_cmp pair_cmp pair (pair_of u)) same ∙ q))
-  go false true p q =
-      let same : pair ≡ pair_of t = eq_same exact_pairs pair (pair_of t) q in
-      let whole : part_of pair 0 ≡ t = λ i. record { publisher = (same i).0; seq = (same i).1; part = sym z i } in
-      absurd
-      (true≢false (sym (eq_itself exact_parts (part_of pair 0)) ∙ ap (eq_by_cmp part_cmp (part_of pair 0)) whole ∙ p))
 
 other_part : (pair : Pair) (t : Part) → (t.part == 0) ≡ false → eq_by_cmp part_cmp (part_of pair 0) t ≡ false
 other_part pair t z =
@@ -69,7 +54,7 @@ told-at ls (t ∷ ts) pair = go (told-at ls ts pair) (t.part == 0) refl where
       ∙ ap (λ (x : Option Shape). cond (eq_by_cmp pair_cmp pair (pair_of t)) (Some (shape_at ls pair)) x) h
       ∙ either (eq_by_cmp pair_cmp pair (pair_of t)) (contains part_cmp ts (part_of pair 0)) (Some (shape_at ls pair))
       ∙ ap (λ (b : Bool). cond (b || contains part_cmp ts (part_of pair 0)) (Some (shape_at ls pair)) None)
-      (sym (same_pair pair t (eqb-true t.part 0 z)))
+      (sym (record_eq pair t (eqb-true t.part 0 z)))
   go h false z =
       h
       ∙ ap (λ (b : Bool). cond (b || contains part_cmp ts (part_of pair 0)) (Some (shape_at ls pair)) None)

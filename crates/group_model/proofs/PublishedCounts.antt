@@ -1,14 +1,15 @@
 -- How many publications and parts there are.
-use Rattle.std.proofs.Common.{◌≡◌, ℕ, suc, zero, ◌+◌, ◌-◌, ◌*◌, ◌/◌, ◌≤◌, Bool, true, false, cond, List, [], ◌∷◌, ◌++◌}
+use Rattle.std.proofs.Common.{◌≡◌, ℕ, suc, zero, ◌+◌, ◌-◌, ◌*◌, ◌≤◌, List, [], ◌∷◌, ◌++◌}
 use Rattle.std.proofs.Common.{length, get_or, set, refl, sym, ap, ◌∙◌, subst, arith}
 use Rattle.std.proofs.lemmas.List.{length-map, length-append, length_push}
 use Rattle.std.proofs.lemmas.List.Sums.{sum_by-le}
 use Rattle.std.proofs.lemmas.List.Concat.{length-flat_map}
-use Rattle.std.specs.Prelude.{nat_le}
-use Rattle.repo_plan.specs.Parts.{parts_behind, index_packets, most_listed}
+use Rattle.repo_plan.specs.Parts.{parts_behind}
 use Rattle.sorted_lists.specs.Range.{numbers_from}
 use Rattle.sorted_lists.proofs.Sets.{In}
+use Rattle.sorted_lists.proofs.Ranges.{length-numbers}
 use Rattle.repo_object.specs.Objects.{Post, contents_of, shape_in}
+use Rattle.repo_object.proofs.IndexLemmas.{index_few}
 use Rattle.group_model.specs.Publications.{Logs, Publication, no_post, numbered_publications, published_from, published}
 use Rattle.group_model.specs.Publications.{parts_in, all_parts}
 use Rattle.group_model.specs.Member.{Member}
@@ -17,7 +18,6 @@ use Rattle.group_model.specs.Steps.{comes_to, new_parts}
 use Rattle.group_model.specs.Limits.{IsWithinSteps, PartsStayFew}
 use Rattle.group_model.proofs.Lists.{in_at}
 use Rattle.group_model.proofs.Parts.{in_published}
-use Rattle.group_model.proofs.Runs.{length_numbers}
 use Rattle.group_model.proofs.Tries.{filter_short}
 
 -- ---- publications
@@ -80,12 +80,6 @@ few_published (x ∷ xs) (suc j) m o e h each (suc p) k = few_published xs j m o
 
 -- ---- parts
 
-few_index : (segments : ℕ) → segments ≤ 20000 → index_packets segments ≤ 100
-few_index segments l = go (nat_le segments most_listed) where
-  go : (b : Bool) → cond b 0 ((segments + most_listed - 1) / most_listed) ≤ 100
-  go true = omega arith
-  go false = omega (arith, l)
-
 few_parts_in : (w : World) (s : ℕ) → IsWithinSteps s w → (q : Publication) → In q (published (logs w))
     → length (parts_in q) ≤ 20101
 few_parts_in w s h q i =
@@ -94,8 +88,8 @@ few_parts_in w s h q i =
     subst HasFew (sym there.post) (h.segments q.publisher (q.seq - 1)) in
     let size : length (parts_in q) ≡ parts_behind (shape_in q.post) + 1 =
     length-map (numbers_from 0 (parts_behind (shape_in q.post) + 1)) _
-    ∙ length_numbers 0 (parts_behind (shape_in q.post) + 1) in
-    omega (arith, few, few_index (length (contents_of q.post)) few, size)
+    ∙ length-numbers 0 (parts_behind (shape_in q.post) + 1) in
+    omega (arith, few, index_few (length (contents_of q.post)) few, size)
 
 all_few : (w : World) (s : ℕ) → IsWithinSteps s w → length (all_parts (logs w)) ≤ s * 20101
 all_few w s h =

@@ -3,6 +3,7 @@ use Rattle.std.proofs.Common.{◌≡◌, ℕ, suc, zero, ◌+◌, List, [], ◌�
 use Rattle.std.proofs.Common.{ap, ◌∙◌, subst, arith, None}
 use Rattle.std.proofs.lemmas.List.{length-map}
 use Rattle.sorted_lists.specs.Range.{numbers_from}
+use Rattle.sorted_lists.proofs.Ranges.{length-numbers}
 use Rattle.svs_sync.specs.Suppression.{periodic}
 use Rattle.repo_object.specs.Objects.{Post}
 use Rattle.group_model.specs.Publications.{no_post, numbered_publications, published_from, published}
@@ -11,7 +12,7 @@ use Rattle.group_model.specs.World.{no_member, logs, logs_of, opening_world}
 use Rattle.group_model.specs.Steps.{after_events}
 use Rattle.group_model.proofs.PublishedCounts.{HasFew}
 use Rattle.group_model.specs.Limits.{IsMemberWithin, IsWithinSteps, BeginsWithin, ReachedRunsStayWithin}
-use Rattle.group_model.proofs.Runs.{sound_opening, length_numbers}
+use Rattle.group_model.proofs.Runs.{sound_opening}
 use Rattle.group_model.proofs.Limits.{within_all}
 
 nothing_published : (p : ℕ) (f : ℕ → Member) (xs : List ℕ) → ((x : ℕ) → (f x).log ≡ [])
@@ -60,7 +61,7 @@ reached_within out n es few l taken r size =
       known = replicate n 0;
       machine = record { members = n; heard = None; deadline = periodic (out.draw j 0); draws = 1 };
     } in
-    let wide : length (opening_world out n).members ≡ n = length-map (numbers_from 0 n) f ∙ length_numbers 0 n in
+    let wide : length (opening_world out n).members ≡ n = length-map (numbers_from 0 n) f ∙ length-numbers 0 n in
     let none : 0 + length es ≡ length es = omega arith in
     subst (λ (k : ℕ). IsWithinSteps k (after_events out (opening_world out n) es)) none
     (within_all out 0 (opening_world out n) es (sound_opening out n) (omega (arith, l)) (omega (arith, wide, few)) taken

@@ -1,9 +1,11 @@
 -- Whole runs, from the opening on.
-use Rattle.std.proofs.Common.{◌≡◌, inl, inr, ℕ, suc, zero, ◌+◌, ◌≤◌, ◌<◌, max, Bool, cond, List, [], ◌∷◌, map, length}
+use Rattle.std.proofs.Common.{◌≡◌, inl, inr, ℕ, suc, zero, ◌≤◌, ◌<◌, max, Bool, cond, List, [], ◌∷◌, map, length}
 use Rattle.std.proofs.Common.{get_or, set, replicate, refl, sym, ap, ◌∙◌, subst, arith, Some, None}
 use Rattle.std.proofs.lemmas.Bool.{true≢false, cases_eq}
 use Rattle.std.proofs.lemmas.List.{get_or-set_same, get_or-map, length-map, length-replicate}
 use Rattle.sorted_lists.specs.Range.{numbers_from}
+pub use Rattle.sorted_lists.proofs.Ranges.{length-numbers as length_numbers}
+use Rattle.sorted_lists.proofs.Ranges.{length-numbers}
 use Rattle.repo_plan.specs.Plan.{no_claims}
 use Rattle.svs_vector.specs.Vectors.{join}
 use Rattle.svs_sync.specs.Suppression.{periodic}
@@ -26,20 +28,16 @@ use Rattle.svs_vector.proofs.JoinLemmas.{join-at}
 
 -- ---- the opening
 
-pub length_numbers : (a n : ℕ) → length (numbers_from a n) ≡ n
-length_numbers a zero = refl
-length_numbers a (suc n) = ap suc (length_numbers (a + 1) n)
-
 pub nothing_published : (f : ℕ → Member) (xs : List ℕ) (p : ℕ) → ((x : ℕ) → (f x).log ≡ [])
     → last_of (logs_of (map f xs)) p ≡ 0
 nothing_published f [] p e = refl
 nothing_published f (x ∷ xs) zero e = ap length (e x)
 nothing_published f (x ∷ xs) (suc p) e = nothing_published f xs p e
 
-abbrev zeros : ℕ → List ℕ
+abbrev pub zeros : ℕ → List ℕ
 zeros n = replicate n 0
 
-all_zeros : (n p : ℕ) → get_or (zeros n) p 0 ≡ 0
+pub all_zeros : (n p : ℕ) → get_or (zeros n) p 0 ≡ 0
 all_zeros zero p = refl
 all_zeros (suc n) zero = refl
 all_zeros (suc n) (suc p) = all_zeros n p
@@ -55,7 +53,7 @@ sound_opening out n =
     let wide : length (logs (opening_world out n)) ≡ n =
     length-map (map f (numbers_from 0 n)) (λ (m : Member). m.log)
     ∙ length-map (numbers_from 0 n) f
-    ∙ length_numbers 0 n in
+    ∙ length-numbers 0 n in
     record {
       members = λ j l.
           let short : j < length (numbers_from 0 n) = subst (λ (k : ℕ). j < k) (length-map (numbers_from 0 n) f) l in

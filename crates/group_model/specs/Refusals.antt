@@ -22,15 +22,6 @@ pub data Refusal : Type 0 where
   NumbersSpent : Refusal
   NoSuchNumber : Refusal
 
--- The number that a report has for a refusal; what is foreign ends a report without one.
-abbrev pub reported_number : Refusal → Option ℕ
-reported_number NoSuchPacket = Some 5
-reported_number FetcherBusy = Some 6
-reported_number FetcherIdle = Some 7
-reported_number NumbersSpent = Some 8
-reported_number NoSuchNumber = Some 14
-reported_number Foreign = None
-
 -- ---- foreign octets
 
 abbrev pub has_sent : World → SyncInterest → Bool

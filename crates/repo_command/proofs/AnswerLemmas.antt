@@ -1,5 +1,5 @@
 -- An answer that was written is read back.
-use Rattle.std.proofs.Common.{◌≡◌, ℕ, ◌+◌, ◌^◌, ◌<◌, ◌≤◌, List, [], ◌∷◌, ◌++◌, length, length-append, append_assoc}
+use Rattle.std.proofs.Common.{◌≡◌, ℕ, ◌+◌, ◌^◌, ◌<◌, List, [], ◌∷◌, ◌++◌, length, length-append, append_assoc}
 use Rattle.std.proofs.Common.{Option, Some, None, Result, Ok, refl, ap, ◌∙◌, arith}
 use Rattle.std.specs.Prelude.{ok_or}
 use Rattle.std.specs.Option.{option_and_then}
@@ -14,6 +14,7 @@ use Rattle.ndn_tlv.specs.Listing.{Listing, nothing, ◌then◌, gathered, ◌>>=
 use Rattle.ndn_tlv.specs.Elements.{Item, placed, elements}
 use Rattle.ndn_tlv.specs.OrderTable.{place_of, fields, once}
 use Rattle.ndn_tlv.proofs.NumberFields.{number_of-number_field}
+use Rattle.ndn_name.proofs.SizeLemmas.{width}
 use Rattle.ndn_packet.proofs.ReadBack.{alone}
 use Rattle.repo_command.specs.declared.answer.Answer.{Answer}
 use Rattle.repo_command.specs.declared.answer_fields.AnswerField.{AnswerField}
@@ -23,7 +24,7 @@ use Rattle.repo_command.specs.OrderTables.{repo_command_response}
 use Rattle.repo_command.specs.Answers.{IsSmall, IsAnswer, NoAnswer, none, written_field, response_value, written_answer}
 use Rattle.repo_command.specs.Answers.{AnswerSoFar, no_number, with_number, with_answer_field, bad_answer_field}
 use Rattle.repo_command.specs.Answers.{answer_fields, whole_answer, response_among, answer_in, answer_of}
-use Rattle.repo_command.proofs.LengthLemmas.{field_short, number_element-size}
+use Rattle.repo_command.proofs.LengthLemmas.{number_element-size, written-size}
 use Rattle.repo_command.proofs.FieldLemmas.{field_again, fields_end}
 
 abbrev behind_process : List (Place AnswerField)
@@ -55,7 +56,7 @@ next_number :
     ≡ gather_answer (with_number s field n) behind (o + length (element typ (number_field n))) rest
 next_number places behind field o typ n rest s place above below small =
     field_again with_answer_field bad_answer_field places behind field o typ (number_field n) rest s
-    (with_number s field n) place above below (omega (arith, field_short n)) (number_taken s field o typ n small)
+    (with_number s field n) place above below (omega (arith, width n)) (number_taken s field o typ n small)
 
 -- ---- field by field, from the last
 
@@ -129,10 +130,6 @@ whole_again (Some p) None (Some d) code small = rw (lt-ltb code 65536 small) ref
 whole_again (Some p) (Some i) None code small = rw (lt-ltb code 65536 small) refl
 whole_again (Some p) (Some i) (Some d) code small = rw (lt-ltb code 65536 small) refl
 
-field-size : (typ : ℕ) (n : Option ℕ) → typ < 253 → length (written_field typ n) ≤ 10
-field-size typ None low = omega arith
-field-size typ (Some n) low = number_element-size typ n low
-
 pub answer_again : (a : Answer) → IsAnswer a → answer_of (written_answer a) ≡ Some a
 answer_again a is =
     let value = response_value a in
@@ -147,10 +144,10 @@ answer_again a is =
       length-append ((p ++ c) ++ i) d,
       length-append (p ++ c) i,
       length-append p c,
-      field-size 206 a.process (omega arith),
+      written-size 206 a.process (omega arith),
       number_element-size 208 a.code (omega arith),
-      field-size 209 a.inserted (omega arith),
-      field-size 210 a.deleted (omega arith),
+      written-size 209 a.inserted (omega arith),
+      written-size 210 a.deleted (omega arith),
     ) in
     let read : elements 0 (written_answer a) ≡ (e then nothing) = alone 0 207 value (omega arith) (omega arith) long in
     let all : answer_fields e ≡ Ok (made a.process a.code a.inserted a.deleted) =

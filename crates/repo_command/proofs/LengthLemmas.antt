@@ -1,16 +1,17 @@
 -- How many octets a command has: fewer than a packet may have.
-use Rattle.std.proofs.Common.{ℕ, ◌^◌, ◌<◌, ◌≤◌, List, [], ◌∷◌, ◌++◌, length, length-append, Option, Some, None, inl}
-use Rattle.std.proofs.Common.{inr, arith}
-use Rattle.std.proofs.lemmas.Bool.{cases_lt, le-ltb, lt-ltb}
+use Rattle.std.proofs.Common.{ℕ, ◌<◌, ◌≤◌, List, [], ◌∷◌, ◌++◌, length, length-append, Option, Some, None}
+use Rattle.std.proofs.Common.{arith}
 use Rattle.sha2.specs.Sha256.{sha256}
 use Rattle.sha2.proofs.Facts256.{length-sha256}
 use Rattle.ndn_tlv.specs.Spelling.{element}
 use Rattle.ndn_tlv.specs.NumberField.{number_field}
 use Rattle.ndn_name.specs.Names.{Component, encoding}
+use Rattle.ndn_name.proofs.SizeLemmas.{width}
 use Rattle.ndn_packet.specs.Written.{written_info}
 use Rattle.ndn_interest.specs.WrittenInterest.{written_digested}
 use Rattle.ndn_interest.proofs.WriteLemmas.{length-digested, length-named}
 use Rattle.repo_object.proofs.Sizes.{element-at_most, element-narrow, pushed-size}
+pub use Rattle.repo_object.proofs.PacketSizes.{info-size}
 use Rattle.repo_command.specs.declared.command.Command.{Command}
 use Rattle.repo_command.specs.declared.command.Command.TheVariants.{Insert, Check, Delete}
 use Rattle.repo_command.specs.declared.verb.Verb.{Verb}
@@ -33,21 +34,9 @@ command_name-size node verb.Delete short =
 
 -- ---- parameters
 
-pub field_short : (n : ℕ) → length (number_field n) ≤ 8
-field_short n = elim (cases_lt n (2 ^ 8)) [
-  | inl a ↦ rw (lt-ltb n (2 ^ 8) a) (omega arith)
-  | inr a ↦ elim (cases_lt n (2 ^ 16)) [
-    | inl b ↦ rw (le-ltb n (2 ^ 8) a, lt-ltb n (2 ^ 16) b) (omega arith)
-    | inr b ↦ elim (cases_lt n (2 ^ 32)) [
-      | inl d ↦ rw (le-ltb n (2 ^ 8) a, le-ltb n (2 ^ 16) b, lt-ltb n (2 ^ 32) d) (omega arith)
-      | inr d ↦ rw (le-ltb n (2 ^ 8) a, le-ltb n (2 ^ 16) b, le-ltb n (2 ^ 32) d) (omega arith)
-    ]
-  ]
-]
-
 pub number_element-size : (typ n : ℕ) → typ < 253 → length (element typ (number_field n)) ≤ 10
 number_element-size typ n low =
-    omega (arith, field_short n, element-narrow typ (number_field n) low (omega (arith, field_short n)))
+    omega (arith, width n, element-narrow typ (number_field n) low (omega (arith, width n)))
 
 pub value-size : (c : Command) → named_length c ≤ 400 → length (parameters_value c) ≤ 424
 value-size (Insert name first last) short =
@@ -73,7 +62,7 @@ parameters-size c short =
 
 -- ---- answers
 
-written-size : (typ : ℕ) (n : Option ℕ) → typ < 253 → length (written_field typ n) ≤ 10
+pub written-size : (typ : ℕ) (n : Option ℕ) → typ < 253 → length (written_field typ n) ≤ 10
 written-size typ None low = omega arith
 written-size typ (Some n) low = number_element-size typ n low
 
@@ -96,17 +85,6 @@ answer-size a =
     omega (arith, long, element-at_most 207 (response_value a) (omega arith) (omega (arith, long)))
 
 -- ---- the packet
-
-pub info-size : (key_name : List Component) → length (encoding key_name) ≤ 205 → length (written_info key_name) ≤ 216
-info-size key_name short =
-    let inner = element-at_most 7 (encoding key_name) (omega arith) (omega arith) in
-    omega (
-      arith,
-      length-append (element 0x1b (4 ∷ [])) (element 0x1c (element 7 (encoding key_name))),
-      element-narrow 0x1b (4 ∷ []) (omega arith) (omega arith),
-      inner,
-      element-at_most 0x1c (element 7 (encoding key_name)) (omega arith) (omega (arith, inner)),
-    )
 
 -- a command within the limits is a packet
 pub command-size : (node : List Component) (c : Command) (key_name : List Component) (key : List ℕ)

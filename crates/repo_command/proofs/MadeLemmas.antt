@@ -16,6 +16,7 @@ use Rattle.ndn_name.specs.declared.fault.PacketFault.{PacketFault}
 use Rattle.ndn_name.specs.declared.name_fault.NameFault.{NameFault}
 use Rattle.ndn_name.specs.Names.{Component, IsName, encoding}
 use Rattle.ndn_name.proofs.Encodings.{name_of-encoding}
+use Rattle.ndn_name.proofs.SizeLemmas.{width}
 use Rattle.ndn_sign.specs.Ring.{NamedKey, key_number, pair}
 use Rattle.ndn_interest.specs.Interest.{Interest}
 use Rattle.ndn_interest.specs.WrittenInterest as written
@@ -37,7 +38,7 @@ use Rattle.repo_command.specs.Parameters.{Parameters, no_parameters, good_name, 
 use Rattle.repo_command.specs.Parameters.{parameters_in, parameter_among, parameters_of, command_from}
 use Rattle.repo_command.specs.Verdict.{packet_or, command_interest_verdict, command_verdict}
 use Rattle.repo_command.proofs.NameLemmas.{IsName-command, verb_in-made}
-use Rattle.repo_command.proofs.LengthLemmas.{field_short, value-size, command-size}
+use Rattle.repo_command.proofs.LengthLemmas.{value-size, command-size}
 use Rattle.repo_command.proofs.FieldLemmas.{field_again, last_field}
 use Rattle.repo_command.proofs.VerdictLemmas.{from_client}
 
@@ -87,14 +88,14 @@ value_again (Insert name first last) o is short =
     field_again with_parameter bad_parameter_field repo_command_parameter behind_name Name o 7 (encoding name) (b ++ d)
     no_parameters named refl (omega arith) (omega arith) (omega (arith, short)) (name_taken o 7 name is.0)
     ∙ field_again with_parameter bad_parameter_field behind_name behind_first StartBlockId p 204 (number_field first) d
-    named begun refl (omega arith) (omega arith) (omega (arith, field_short first))
+    named begun refl (omega arith) (omega arith) (omega (arith, width first))
     (number_taken first (λ m. record named { first = Some m }) is.1)
     ∙ last_field with_parameter bad_parameter_field behind_first behind_last EndBlockId q 205 (number_field last) begun
-    (given (Insert name first last)) refl (omega arith) (omega arith) (omega (arith, field_short last))
+    (given (Insert name first last)) refl (omega arith) (omega arith) (omega (arith, width last))
     (number_taken last (λ m. record begun { last = Some m }) is.2)
 value_again (Check process) o is short =
     last_field with_parameter bad_parameter_field repo_command_parameter [] ProcessId o 206 (number_field process)
-    no_parameters (given (Check process)) refl (omega arith) (omega arith) (omega (arith, field_short process))
+    no_parameters (given (Check process)) refl (omega arith) (omega arith) (omega (arith, width process))
     (number_taken process (λ m. record no_parameters { process = Some m }) is)
 value_again (Delete name) o is short =
     last_field with_parameter bad_parameter_field repo_command_parameter behind_name Name o 7 (encoding name)

@@ -1,10 +1,11 @@
 -- The names of commands, as octets.
 use Rattle.std.proofs.Common.{◌≡◌, ◌↔◌, ℕ, zero, suc, ◌<◌, Bool, true, false, ltb, List, [], ◌∷◌, ◌++◌, length}
-use Rattle.std.proofs.Common.{length-append, append_assoc, drop, drop_at, slice_index, Option, Some, None}
+use Rattle.std.proofs.Common.{length-append, append_assoc, slice_index, Option, Some, None}
 use Rattle.std.proofs.Common.{if◌then◌else◌, refl, sym, ap, ◌∙◌, arith}
 use Rattle.std.specs.List.{list_all}
 use Rattle.std.specs.Str.{bytes_eq}
-use Rattle.std.proofs.lemmas.Bool.{and_parts, and_from, false≢true, ltb-true}
+use Rattle.std.proofs.lemmas.Bool.{and_parts, and_from, false_from_ne_true, ltb-true}
+use Rattle.std.proofs.lemmas.List.{append_cancel_left}
 use Rattle.std.proofs.lemmas.Slice.Eq.{bytes_eq-Decides}
 use Rattle.ndn_tlv.specs.Spelling.{number, head, element}
 use Rattle.ndn_tlv.specs.Elements.{IsElement, IsOctets}
@@ -12,19 +13,12 @@ use Rattle.ndn_tlv.proofs.ElementLemmas.{element_alone}
 use Rattle.ndn_name.specs.Names.{Component, IsComponent, IsName, encoding}
 use Rattle.ndn_name.proofs.Encodings.{encoding-push, IsName-append, number-some}
 use Rattle.ndn_interest.specs.Interest.{without_last, ends_in_digest}
-use Rattle.ndn_interest.proofs.LastLemmas.{digest_ends, without-push, ends-push}
+use Rattle.ndn_interest.proofs.LastLemmas.{digest_spelled, digest_ends, without-push, ends-push}
 use Rattle.repo_command.specs.declared.verb.Verb.{Verb}
 use Rattle.repo_command.specs.declared.verb.Verb.TheVariants.{Insert, Check, Delete}
 use Rattle.repo_command.specs.Verbs.{verb_text, verb_component, command_name, is_command_name, verb_in, between}
 
 -- ---- what is spelled
-
-digest_head : head 2 32 ≡ 2 ∷ 32 ∷ []
-unfolding number
-digest_head = refl
-
-digest_spelled : (digest : List ℕ) → length digest ≡ 32 → element 2 digest ≡ (2 ∷ 32 ∷ []) ++ digest
-digest_spelled digest long = ap (λ (n : ℕ). head 2 n ++ digest) long ∙ ap (λ (h : List ℕ). h ++ digest) digest_head
 
 verb_spelled : (verb : Verb) → element 8 (verb_text verb) ++ 2 ∷ 32 ∷ [] ≡ between verb
 unfolding number
@@ -169,18 +163,6 @@ has_digest node verb name valid h =
 
 -- ---- answers of the test
 
-pub refused : (b : Bool) → (b ≡ true → ⊥) → false ≡ b
-refused true h = absurd (h refl)
-refused false h = refl
-
-pub agreed : (a b : Bool) → (a ≡ true → b ≡ true) → (b ≡ true → a ≡ true) → a ≡ b
-agreed true b h k = sym (h refl)
-agreed false b h k = refused b (λ e. absurd (false≢true (k e)))
-
-pub behind_same : (front a b : List ℕ) → front ++ a ≡ front ++ b → a ≡ b
-behind_same front a b e =
-    sym (drop_at front a (length front) refl) ∙ ap (drop (length front)) e ∙ drop_at front b (length front) refl
-
 -- ---- the verb of a name
 
 component_differs : (v w : Verb) → element 8 (verb_text w) ≡ element 8 (verb_text v) → v ≡ w
@@ -212,14 +194,14 @@ only_verb node v w digest h =
     let octets : encoding front ≡ encoding (command_name node v) =
     ap encoding (sym (without-push front (2, digest))) ∙ same in
     component_differs v w
-    (behind_same (encoding node) (element 8 (verb_text w)) (element 8 (verb_text v))
+    (append_cancel_left (encoding node) (element 8 (verb_text w)) (element 8 (verb_text v))
     (sym (encoding-push node (verb_component w)) ∙ octets ∙ encoding-push node (verb_component v)))
 
 not_named : (node : List Component) (v w : Verb) (digest : List ℕ) → (v ≡ w → ⊥)
     → is_command_name node v (command_name node w ++ (2, digest) ∷ []) ≡ false
 not_named node v w digest apart =
-    sym (refused (is_command_name node v (command_name node w ++ (2, digest) ∷ []))
-    (λ yes. apart (only_verb node v w digest yes)))
+    false_from_ne_true (is_command_name node v (command_name node w ++ (2, digest) ∷ []))
+    (λ yes. apart (only_verb node v w digest yes))
 
 pub verb_in-made : (node : List Component) (w : Verb) (digest : List ℕ)
     → verb_in node (command_name node w ++ (2, digest) ∷ []) ≡ Some w

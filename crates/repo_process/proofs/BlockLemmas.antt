@@ -17,13 +17,7 @@ use Rattle.sorted_lists.specs.Range.{numbers_from}
 use Rattle.sorted_lists.proofs.Orders.{nat_less, nat_itself}
 use Rattle.repo_process.specs.Fields.{blocks_from}
 use Rattle.repo_process.proofs.Numbered.{later}
-use Rattle.repo_process.proofs.Numbers.{same_key, key_below, key_above}
-
-next : (first i : ℕ) → first + suc i ≡ (first + 1) + i
-next first i = omega arith
-
-here : (first : ℕ) → first + 0 ≡ first
-here first = omega arith
+use Rattle.repo_process.proofs.Numbers.{same_key, key_below, key_above, here, next}
 
 -- a content that has come
 abbrev pub come : List ℕ → Option (List ℕ)

@@ -10,23 +10,13 @@ use Rattle.std.proofs.lemmas.Bool.{and_parts, and_from, leb-true, le-leb, eq-eqb
 use Rattle.std.proofs.lemmas.List.{length-map}
 use Rattle.sorted_lists.specs.SortedList.{by_order, value_of, with_value}
 use Rattle.sorted_lists.specs.Range.{numbers_from}
-use Rattle.sorted_lists.proofs.Orders.{Exact, nat_same, nat_itself}
+use Rattle.sorted_lists.proofs.Orders.{exact_numbers, nat_same}
+use Rattle.sorted_lists.proofs.Ranges.{length-numbers}
 use Rattle.sorted_lists.proofs.Sets.{value_of-with_value}
-use Rattle.std.proofs.lemmas.Cmp.{nat_cmp_total}
 use Rattle.repo_process.specs.Processes.{Process, indexes, has_index, has_block, missing, is_whole, with_block}
 use Rattle.repo_process.specs.Processes.{without_block, object_of}
-use Rattle.repo_process.proofs.Numbers.{same_key}
+use Rattle.repo_process.proofs.Numbers.{same_key, here, next}
 use Rattle.repo_process.proofs.BlockLemmas.{but, other}
-use Rattle.repo_process.proofs.ProcessLemmas.{length-numbers}
-
-exact_numbers : Exact nat_cmp
-exact_numbers = record { total = nat_cmp_total; same = nat_same; itself = nat_itself }
-
-next : (first i : ℕ) → first + suc i ≡ (first + 1) + i
-next first i = omega arith
-
-here : (first : ℕ) → first + 0 ≡ first
-here first = omega arith
 
 -- ---- a test that passes at each of the numbers
 

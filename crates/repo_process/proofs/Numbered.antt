@@ -8,13 +8,7 @@ use Rattle.std.specs.declared.cmp.Ordering.{Ordering}
 use Rattle.sorted_lists.specs.SortedList.{by_order, keys, IsBefore, Rises, value_of, with_value}
 use Rattle.sorted_lists.proofs.Orders.{nat_less, nat_itself}
 use Rattle.repo_process.specs.Fields.{numbered_from}
-use Rattle.repo_process.proofs.Numbers.{nat_greater, same_key, key_below, key_above}
-
-next : (first i : ℕ) → first + suc i ≡ (first + 1) + i
-next first i = omega arith
-
-here : (first : ℕ) → first + 0 ≡ first
-here first = omega arith
+use Rattle.repo_process.proofs.Numbers.{nat_greater, same_key, key_below, key_above, here, next}
 
 module _ {A : Type 0} where
   pub value_of-below : (n first : ℕ) (xs : List A) → n < first → value_of nat_cmp (numbered_from first xs) n ≡ None

@@ -1,5 +1,5 @@
 -- Numbers as keys.
-use Rattle.std.proofs.Common.{◌≡◌, ℕ, ◌<◌, true, false, sym, ap}
+use Rattle.std.proofs.Common.{◌≡◌, ℕ, suc, ◌+◌, ◌<◌, true, false, sym, ap, arith}
 use Rattle.std.specs.Ordering.{nat_cmp, eq_by_cmp, is_eq}
 use Rattle.std.specs.Cmp.{nat_cmp_is}
 use Rattle.std.specs.declared.cmp.Ordering.TheVariants.{Greater}
@@ -16,3 +16,11 @@ key_below a b less = ap is_eq (nat_less a b less)
 
 pub key_above : (a b : ℕ) → b < a → eq_by_cmp nat_cmp a b ≡ false
 key_above a b more = ap is_eq (nat_greater a b more)
+
+-- ---- one number after another
+
+pub here : (first : ℕ) → first + 0 ≡ first
+here first = omega arith
+
+pub next : (first i : ℕ) → first + suc i ≡ (first + 1) + i
+next first i = omega arith

@@ -8,6 +8,7 @@ use Rattle.std.proofs.lemmas.List.{length-set}
 use Rattle.ndn_name.specs.Names.{Component}
 use Rattle.sorted_lists.specs.SortedList.{value_of}
 use Rattle.sorted_lists.specs.Range.{numbers_from}
+pub use Rattle.sorted_lists.proofs.Ranges.{length-numbers}
 use Rattle.repo_object.specs.Objects.{NamedContents}
 use Rattle.repo_process.specs.Processes.{Process, starting, indexes, has_block, present, missing, is_whole, with_block}
 use Rattle.repo_process.specs.Processes.{without_block, object_of}
@@ -15,10 +16,6 @@ use Rattle.repo_process.specs.Arrivals.{whole_object}
 use Rattle.repo_process.specs.Fields.{blocks_from}
 use Rattle.repo_process.proofs.BlockLemmas.{come, missing_in, other, block_at, with_block_at, without_block_at}
 use Rattle.repo_process.proofs.BlockLemmas.{come_or_missing, all_come, come_again, contents_again, no_blocks}
-
-pub length-numbers : (first n : ℕ) → length (numbers_from first n) ≡ n
-length-numbers first zero = refl
-length-numbers first (suc n) = ap suc (length-numbers (first + 1) n)
 
 -- a process of these contents that was not published
 abbrev pub of_contents : List Component → (first last : ℕ) → List (List ℕ) → Process

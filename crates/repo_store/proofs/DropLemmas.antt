@@ -10,7 +10,7 @@ use Rattle.std.proofs.lemmas.List.Filters.{length-filter_both}
 use Rattle.sorted_lists.specs.SortedList.{by_order, keys, Rises, without_key, first_from}
 use Rattle.sorted_lists.specs.Members.{In}
 use Rattle.sorted_lists.proofs.Orders.{then_second}
-use Rattle.sorted_lists.proofs.TwoOrders.{first_le, then_then}
+use Rattle.sorted_lists.proofs.TwoOrders.{first_le, then_then, nat_le}
 use Rattle.sorted_lists.proofs.Sets.{eq_same, eq_itself}
 use Rattle.sorted_lists.proofs.MapChanges.{length-without}
 use Rattle.sorted_lists.proofs.RunOrder.{Le, lt_not_le, in_without, first_is, none_from_on}
@@ -25,7 +25,7 @@ use Rattle.repo_store.specs.Kept.{Held, KeptState}
 use Rattle.repo_store.specs.StoreList.{is_in_any}
 use Rattle.repo_store.specs.Slots.{AreSame, held_outside, held_outside_all}
 use Rattle.repo_store.proofs.StoreLemmas.{outside_more}
-use Rattle.repo_store.proofs.IndexLemmas.{PartLe, nat_least}
+use Rattle.repo_store.proofs.IndexLemmas.{PartLe}
 
 abbrev PairLe : Pair → Pair → Type 0
 PairLe a b = Le exact_pairs a b
@@ -91,7 +91,7 @@ first_up_to pair t inside less =
     lt_not_le exact_parts t (first_of pair) less
     (ap is_le (then_then (nat_cmp pair.0 t.publisher) (nat_cmp pair.1 t.seq) (nat_cmp 0 t.part)
     ∙ then_second (pair_cmp pair (pair_of t)) (nat_cmp 0 t.part) tied)
-    ∙ nat_least t.part)
+    ∙ nat_le 0 t.part (omega arith))
 
 all_outside : (pair : Pair) (old now : KeptState) → Dropping pair old now
     → ((h : Held) → In h now.held → is_in pair h.0 ≡ true → ⊥) → now.held ≡ held_outside pair old.held

@@ -8,10 +8,10 @@ use Rattle.std.specs.Cmp.Lexicographic.{pointwise}
 use Rattle.std.proofs.lemmas.Bool.{true≢false, and_parts, and_from, eq-eqb}
 use Rattle.std.proofs.lemmas.List.{take-append-drop, append_cancel_left}
 use Rattle.std.proofs.lemmas.Slice.Eq.{slice_eq-Decides}
+use Rattle.std.specs.Cmp.{both_ways}
 use Rattle.sha2.specs.Sha256.{sha256}
 use Rattle.sha2.proofs.Facts256.{length-sha256}
 use Rattle.ndn_tlv.specs.Spelling.{element}
-use Rattle.sorted_lists.proofs.RunOrder.{both_ways}
 use Rattle.sorted_lists.proofs.Members.{same_itself}
 use Rattle.sorted_lists.proofs.LeastOnes.{first_of_same}
 use Rattle.repo_plan.proofs.Orders.{exact_parts}

@@ -47,13 +47,10 @@ PartLe a b = Le exact_parts a b
 
 -- ---- the first part
 
-pub nat_least : (n : ℕ) → is_le (nat_cmp 0 n) ≡ true
-nat_least n = nat_le 0 n (omega arith)
-
 pub first_part_least : (t : Part) → PartLe first_part t
 first_part_least t =
-    then_le (nat_cmp 0 t.publisher) _ (nat_least t.publisher)
-    (then_le (nat_cmp 0 t.seq) (nat_cmp 0 t.part) (nat_least t.seq) (nat_least t.part))
+    then_le (nat_cmp 0 t.publisher) _ (nat_le 0 t.publisher (omega arith))
+    (then_le (nat_cmp 0 t.seq) (nat_cmp 0 t.part) (nat_le 0 t.seq (omega arith)) (nat_le 0 t.part (omega arith)))
 
 -- ---- from a name on
 

@@ -21,11 +21,10 @@ use Rattle.ndn_tlv.proofs.Places.{fields_stand}
 use Rattle.ndn_name.specs.declared.fault.Field.TheVariants as field_names
 use Rattle.ndn_name.specs.declared.fault.PacketFault.{PacketFault}
 use Rattle.ndn_name.specs.declared.fault.PacketFault.TheVariants.{BadField, Missing}
-use Rattle.ndn_name.specs.declared.name_fault.NameFault.{NameFault}
 use Rattle.ndn_name.specs.Faults.{packet_fault}
 use Rattle.ndn_name.specs.Names.{Component, name_of}
 use Rattle.ndn_name.proofs.Encodings.{IsOctets-before, IsOctets-behind, name_of-encoded}
-use Rattle.ndn_packet.specs.Contents.{ok_or, name_or, name_in}
+use Rattle.ndn_packet.specs.Contents.{ok_or, name_in}
 use Rattle.ndn_packet.specs.SignatureInfo.{Info, info_in}
 use Rattle.ndn_packet.specs.Outer.{outer_of}
 use Rattle.ndn_packet.proofs.Gathering.{Each, Stands, elements_stand}
@@ -33,6 +32,7 @@ use Rattle.ndn_packet.proofs.Outers.{outer_ok}
 use Rattle.ndn_data.specs.MetaInfo.{Meta, meta_in}
 use Rattle.ndn_data.specs.Data.{data_table, Data, DataSoFar, no_data_field, signed_before, with_data_field, data_fields}
 use Rattle.ndn_data.specs.Data.{data_from, data_of}
+use Rattle.ndn_data.proofs.SignedLemmas.{name_or_ok, some_is}
 use Rattle.repo_store.specs.Places.{first_of_type, IsNamed}
 
 -- ---- the places of the table
@@ -64,12 +64,6 @@ pub record IsFirstName (items : List Item) (name : List Component) : Type 0 wher
 
 abbrev done : DataSoFar → Result DataSoFar PacketFault
 done s = Ok s
-
--- a name that was read
-name_or_ok : (bad : PacketFault) (r : Result (List Component) NameFault) (name : List Component)
-    → name_or bad r ≡ Ok name → r ≡ Ok name
-name_or_ok bad (Ok n) name e = let same : n ≡ name = cc in ap (λ (x : List Component). Ok x) same
-name_or_ok bad (Err f) name e = absurd cc
 
 module _ (whole : List ℕ) where
   -- what is taken at a place that the table has
@@ -253,10 +247,6 @@ pub record IsNameFound (octets : List ℕ) (items : List Item) : Type 0 where
   pub element : Item
   pub first : first_of_type 0x07 items ≡ Some element
   pub named : IsNamed octets element.value_start element.end
-
-some_is : {A : Type 0} (fault : PacketFault) (o : Option A) (x : A) → ok_or o fault ≡ Ok x → o ≡ Some x
-some_is fault (Some y) x e = cc
-some_is fault None x e = absurd cc
 
 -- a packet has a name among its fields
 record HasName (s : DataSoFar) (d : Data) : Type 0 where

@@ -3,6 +3,7 @@ use Rattle.std.proofs.Common.{◌≡◌, ℕ, ◌+◌, Bool, true, false, cond, 
 use Rattle.std.proofs.Common.{subst, ◌∙◌}
 use Rattle.std.specs.Prelude.{IsOk, unwrap_or, ◌&&◌, ◌||◌}
 use Rattle.std.specs.List.{filter}
+use Rattle.std.proofs.Math.Bool.{or-false}
 use Rattle.std.proofs.lemmas.List.Elements.{filter_agree}
 use Rattle.std.proofs.lemmas.List.Filters.{length-filter_both}
 use Rattle.ndn_data.specs.Data.{data_of}
@@ -67,19 +68,15 @@ lengths_in_any pairs packets =
     length-filter_both (λ e. is_in_any pairs e.0) (λ e. not (is_in_any pairs e.0)) (λ e. refl) packets
 
 -- one publication is as a list of it alone
-or_false : (b : Bool) → (b || false) ≡ b
-or_false true = refl
-or_false false = refl
-
 pub in_any_one : (pair : Pair) (packets : Packets) → packets_in_any (pair ∷ []) packets ≡ packets_in pair packets
 in_any_one pair packets =
-    filter_agree (λ e. is_in_any (pair ∷ []) e.0) (λ e. is_in pair e.0) (λ e. or_false (is_in pair e.0)) packets
+    filter_agree (λ e. is_in_any (pair ∷ []) e.0) (λ e. is_in pair e.0) (λ e. or-false (is_in pair e.0)) packets
 
 pub outside_all_one : (pair : Pair) (packets : Packets)
     → packets_outside_all (pair ∷ []) packets ≡ packets_outside pair packets
 outside_all_one pair packets =
     filter_agree (λ e. not (is_in_any (pair ∷ []) e.0)) (λ e. not (is_in pair e.0))
-    (λ e. ap not (or_false (is_in pair e.0))) packets
+    (λ e. ap not (or-false (is_in pair e.0))) packets
 
 -- what is outside of all is outside of the first, and then of the others
 pub outside_more : {V : Type 0} (pair : Pair) (pairs : List Pair) (es : List (Part × V))

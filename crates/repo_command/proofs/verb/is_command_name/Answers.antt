@@ -1,32 +1,34 @@
 use Rattle.std.proofs.Common.{◌≡◌, ◌++◌, length, eqb, None, Some, sym, ap, ◌∙◌}
-use Rattle.std.proofs.lemmas.Bool.{eqb-true, eq-eqb}
+use Rattle.std.specs.Cmp.{both_ways}
+use Rattle.std.proofs.lemmas.Bool.{eqb-true, eq-eqb, false_from_ne_true}
 use Rattle.std.proofs.lemmas.Bool.Decides.{Decides-eqb}
+use Rattle.std.proofs.lemmas.List.{append_cancel_left}
 use Rattle.std.proofs.lemmas.Slice.Eq.{strip_prefix_is}
 use Rattle.ndn_name.specs.Names.{encoding}
 use Rattle.repo_command.specs.Verbs.{between}
-use Rattle.repo_command.proofs.NameLemmas.{is_of_node, has_digest, refused, agreed, behind_same}
+use Rattle.repo_command.proofs.NameLemmas.{is_of_node, has_digest}
 use Rattle.repo_command.proofs.verb.is_command_name.Goals as goal
 
 pub returns-in_default : goal.returns-in_default
-returns-in_default c = refused _ (λ yes.
+returns-in_default c = sym (false_from_ne_true _ (λ yes.
     let d = has_digest c.args.node.now c.args.verb c.args.name.now c.octets.ensures.name yes in
     strip_prefix_is Decides-eqb c.octets.result.now c.octets-2.result.now None c.in_default.ensures.cases
     (between c.args.verb ++ d.digest)
     (c.octets.ensures.spelled ∙ d.octets
-    ∙ ap (λ o. o ++ (between c.args.verb ++ d.digest)) (sym c.octets-2.ensures.spelled)))
+    ∙ ap (λ o. o ++ (between c.args.verb ++ d.digest)) (sym c.octets-2.ensures.spelled))))
 
 pub returns-in-None : goal.returns-in-None
-returns-in-None c = refused _ (λ yes.
+returns-in-None c = sym (false_from_ne_true _ (λ yes.
     let d = has_digest c.args.node.now c.args.verb c.args.name.now c.octets.ensures.name yes in
     let front =
     strip_prefix_is Decides-eqb c.octets.result.now c.octets-2.result.now (Some c.in-Some.behind)
     c.in-Some.ensures.cases in
     let behind =
-    behind_same (encoding c.args.node.now) c.in-Some.behind.now (between c.args.verb ++ d.digest)
+    append_cancel_left (encoding c.args.node.now) c.in-Some.behind.now (between c.args.verb ++ d.digest)
     (ap (λ o. o ++ c.in-Some.behind.now) (sym c.octets-2.ensures.spelled) ∙ sym front ∙ c.octets.ensures.spelled
     ∙ d.octets) in
     strip_prefix_is Decides-eqb c.in-Some.behind.now c.between.result.now None c.in-None.ensures.cases d.digest
-    (behind ∙ ap (λ o. o ++ d.digest) (sym c.between.ensures)))
+    (behind ∙ ap (λ o. o ++ d.digest) (sym c.between.ensures))))
 
 pub returns-in-Some-strip_prefix : goal.returns-in-Some-strip_prefix
 returns-in-Some-strip_prefix c =
@@ -45,12 +47,12 @@ returns-in-Some-strip_prefix c =
     ∙ front
     ∙ ap (λ o. o ++ c.in-Some.behind.now) c.octets-2.ensures.spelled
     ∙ ap (λ o. encoding node ++ o) (behind ∙ ap (λ o. o ++ digest) c.between.ensures) in
-    agreed (eqb (length digest) 32) _
+    both_ways (eqb (length digest) 32) _
     (λ long. is_of_node node verb name digest c.octets-2.ensures.name c.octets.ensures.name whole
     (eqb-true (length digest) 32 long))
     (λ yes.
     let d = has_digest node verb name c.octets.ensures.name yes in
     let same =
-    behind_same (between verb) digest d.digest
-    (behind_same (encoding node) (between verb ++ digest) (between verb ++ d.digest) (sym whole ∙ d.octets)) in
+    append_cancel_left (between verb) digest d.digest
+    (append_cancel_left (encoding node) (between verb ++ digest) (between verb ++ d.digest) (sym whole ∙ d.octets)) in
     eq-eqb (length digest) 32 (ap length same ∙ d.long))
