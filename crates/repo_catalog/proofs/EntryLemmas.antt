@@ -85,7 +85,7 @@ module _ (k : Pair) where
   abbrev sifted : Entry → List Entry → Ordering → List Entry
   sifted e es c = cond (not (is_eq c)) (e ∷ without k es) (without k es)
 
-  without_behind : (x : Pair) (es : List Entry) → IsBefore pair_cmp x (map publication_of es) → pair_cmp x k ≡ Equal
+  pub without_behind : (x : Pair) (es : List Entry) → IsBefore pair_cmp x (map publication_of es) → pair_cmp x k ≡ Equal
       → without k es ≡ es
   without_behind x [] b equal = refl
   without_behind x (e ∷ es) b equal =

@@ -8,3 +8,4 @@ pub mod MergeLemmas
 pub mod NamedLemmas
 pub mod PairLemmas
 mod RowLemmas
+mod SumLemmas

@@ -15,6 +15,7 @@ use crate::entry_row::EntryRow;
 use crate::merge::forget;
 use crate::name_index::{NameIndex, key_of, name_hash};
 use crate::search::place_of;
+use crate::sums::Sums;
 use ndn_name::NameView;
 use std::alloc::{AllocError, Global};
 use std::marker::Model;
@@ -31,6 +32,7 @@ pub struct Catalogue {
     // Empty. Entries are set aside here while others take their places.
     aside: Vec<Entry>,
     names: NameIndex,
+    sums: Sums,
     spare: usize,
 }
 
@@ -56,6 +58,7 @@ impl Catalogue {
             entries: EntryRow::new(alloc),
             aside: Vec::new(alloc),
             names: NameIndex::new(alloc),
+            sums: Sums::new(),
             spare: 0,
         }
     }
@@ -101,6 +104,7 @@ impl Catalogue {
             return false;
         };
         self.names.insert(key_of(&entry));
+        self.sums.add(&entry);
         self.entries.insert(place, entry);
         true
     }
@@ -118,7 +122,8 @@ impl Catalogue {
     {
         fresh.sort_unstable_by_key(|entry| (entry.publisher, entry.seq));
         self.spare -= fresh.len();
-        self.entries.merge(fresh, &mut self.aside, &mut self.names);
+        self.entries
+            .merge(fresh, &mut self.aside, &mut self.names, &mut self.sums);
     }
 
     /// Removes the entry of a publisher and number, and tells whether there was one.
@@ -129,8 +134,9 @@ impl Catalogue {
         let Ok(place) = self.place(publisher, seq) else {
             return false;
         };
-        let key = key_of(&self.entries.as_slice()[place]);
-        self.names.remove(key);
+        let entry = &self.entries.as_slice()[place];
+        self.names.remove(key_of(entry));
+        self.sums.subtract(entry);
         self.entries.remove(place);
         true
     }
@@ -162,7 +168,12 @@ impl Catalogue {
         requires { Rises pair_cmp publications.now }
         ensures { self.new ≡ record self.old { entries = without_all publications.now self.old.entries } }
     {
-        forget(&mut self.names, self.entries.as_slice(), publications);
+        forget(
+            &mut self.names,
+            &mut self.sums,
+            self.entries.as_slice(),
+            publications,
+        );
         self.entries.remove_all(publications);
     }
 
@@ -236,7 +247,8 @@ impl Catalogue {
         &self.entries.as_slice()[place]
     }
 
-    /// How many entries there are, and how many segments and octets their objects have together.
+    /// How many entries there are, and how many segments and octets their objects have together. The sums are kept as
+    /// entries come and go, so that no entry is read.
     pub fn totals(&self) -> (u32, u64, u64)
         requires few { length self.now.entries < 2 ^ 32 }
         requires segments { sum_by (λ e. e.segments) self.now.entries < 2 ^ 64 }
@@ -245,13 +257,11 @@ impl Catalogue {
         ensures segments { result.1 ≡ sum_by (λ e. e.segments) self.now.entries }
         ensures octets { result.2 ≡ sum_by (λ e. e.octets) self.now.entries }
     {
-        let mut segments = 0;
-        let mut octets = 0;
-        for entry in self.entries.as_slice() {
-            segments += u64::from(entry.segments);
-            octets += entry.octets;
-        }
-        (self.entries.as_slice().len() as u32, segments, octets)
+        (
+            self.entries.as_slice().len() as u32,
+            self.sums.segments,
+            self.sums.octets,
+        )
     }
 
     /// Whether both list the same entries.

@@ -11,6 +11,7 @@ mod laws;
 mod merge;
 mod name_index;
 mod search;
+mod sums;
 
 pub use catalogue::Catalogue;
 pub use entry::Entry;

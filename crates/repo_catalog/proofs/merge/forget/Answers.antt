@@ -1,21 +1,26 @@
-use Rattle.std.proofs.Common.{◌≡◌, ◌+◌, ◌&&◌, ◌∷◌, ◌++◌, arith, Bool, not, List, [], take, get_or, Some, None, Ok, Err}
-use Rattle.std.proofs.Common.{sym, ap, subst, ◌∙◌}
+use Rattle.std.proofs.Common.{◌≡◌, ◌+◌, ◌&&◌, ◌∷◌, ◌++◌, arith, Bool, not, false, List, [], take, get_or, Some, None}
+use Rattle.std.proofs.Common.{Ok, Err, sym, ap, subst, ◌∙◌}
 use Rattle.std.specs.Ordering.{eq_by_cmp}
 use Rattle.std.proofs.lemmas.List.{take_all, take_more}
-use Rattle.sorted_lists.specs.SortedList.{contains}
-use Rattle.repo_plan.specs.Parts.{Pair}
+use Rattle.sorted_lists.specs.SortedList.{contains, Rises}
+use Rattle.sorted_lists.proofs.Inserted.{rises_parts}
+use Rattle.repo_plan.specs.Parts.{Pair, pair_cmp}
+use Rattle.repo_plan.proofs.Orders.{exact_pairs}
 use Rattle.repo_catalog.specs.declared.entry.Entry.{Entry}
 use Rattle.repo_catalog.specs.Entries.{publication_of, entry_of, without_all}
 use Rattle.repo_catalog.specs.NameKeys.{Key, KeyList, key_cmp, key_of, has_hash, is_key, IsIndexOf}
+use Rattle.repo_catalog.specs.Sums.{sums_of}
 use Rattle.repo_catalog.proofs.EntryLemmas.{found_place, entry_at, no_entry_between}
 use Rattle.repo_catalog.proofs.IndexLemmas.{is_key-listed, is_key-missing}
-use Rattle.repo_catalog.proofs.ManyLemmas.{removes_all, entry_is_of}
+use Rattle.repo_catalog.proofs.ManyLemmas.{removes_all, entry_is_of, without_none}
+use Rattle.repo_catalog.proofs.SumLemmas.{is_behind, sums_with_one_gone, sums_with_none_gone}
 use Rattle.repo_catalog.proofs.merge.forget.Goals as goal
 use Rattle.repo_catalog.proofs.merge.forget.Goals.{in-Ok, in_default}
 
 pub loop-publisher-init : goal.loop-publisher-init
 loop-publisher-init c = record {
   indexed = λ q. c.requires.indexed q ∙ sym (ap (has_hash q.0) (removes_all [] c.args.entries.now q.1));
+  summed = c.requires.summed ∙ ap sums_of (sym (without_none c.args.entries.now));
   room = omega arith;
 }
 
@@ -28,6 +33,9 @@ loop-publisher-preserved c =
     let k : Pair = (p.0, c.from.result) in
     let same : k ≡ p = λ j. (p.0, c.from.ensures j) in
     let more : take (i + 1) pairs ≡ take i pairs ++ p ∷ [] = take_more pairs i (0, 0) c.loop-publisher-test.true in
+    let all : without_all (take i pairs ++ k ∷ []) es ≡ without_all (take (i + 1) pairs) es =
+    ap (λ (z : Pair). without_all (take i pairs ++ z ∷ []) es) same
+    ∙ ap (λ (ps : List Pair). without_all ps es) (sym more) in
     elim c.match-place_of.branch [
       | in-Ok w ↦
           let x = w.index-entries-place.result in
@@ -37,6 +45,10 @@ loop-publisher-preserved c =
           entry_at k es w.in-Ok.place x c.requires.in_order at
           ∙ ap (λ (e : Entry). Some e) (sym w.index-entries-place.is) in
           let of : k ≡ publication_of x = entry_is_of k es x there in
+          let in_order : Rises pair_cmp (take i pairs ++ p ∷ []) =
+          subst (Rises pair_cmp) more (rises_parts exact_pairs (i + 1) pairs c.requires.rises).0 in
+          let stays : contains pair_cmp (take i pairs) k ≡ false =
+          ap (contains pair_cmp (take i pairs)) same ∙ is_behind (take i pairs) p in_order in
           record {
             indexed = λ q.
                 ap (λ (l : KeyList). contains key_cmp l.keys q) w.names-is
@@ -47,6 +59,12 @@ loop-publisher-preserved c =
                 ∙ is_key-listed (take i pairs) x k es q there of
                 ∙ ap (λ (z : Pair). is_key (without_all (take i pairs ++ z ∷ []) es) q) same
                 ∙ ap (λ (ps : List Pair). is_key (without_all ps es) q) (sym more);
+            summed =
+                w.sums-is
+                ∙ w.subtract.ensures (without_all (take i pairs ++ k ∷ []) es)
+                (c.loop-publisher.invariant.summed
+                ∙ sums_with_one_gone (take i pairs) k x es c.requires.in_order there stays)
+                ∙ ap sums_of all;
             room = omega (arith, ap (λ (l : KeyList). l.spare) w.names-is, w.remove.ensures.room);
           }
       | in_default w ↦
@@ -61,6 +79,11 @@ loop-publisher-preserved c =
                 ∙ is_key-missing (take i pairs) k es q none
                 ∙ ap (λ (z : Pair). is_key (without_all (take i pairs ++ z ∷ []) es) q) same
                 ∙ ap (λ (ps : List Pair). is_key (without_all ps es) q) (sym more);
+            summed =
+                w.sums-is
+                ∙ c.loop-publisher.invariant.summed
+                ∙ sums_with_none_gone (take i pairs) k es none
+                ∙ ap sums_of all;
             room = omega (arith, ap (λ (l : KeyList). l.spare) w.names-is);
           }
     ]
@@ -70,3 +93,9 @@ returns-clause-indexed c =
     subst (λ (ps : List Pair). IsIndexOf (without_all ps c.args.entries.now) c.loop-publisher.names.keys)
     (take_all c.loop-publisher.publisher-index c.args.publications.now (omega (arith, c.loop-publisher-test.false)))
     c.loop-publisher.invariant.indexed
+
+pub returns-clause-summed : goal.returns-clause-summed
+returns-clause-summed c =
+    c.loop-publisher.invariant.summed
+    ∙ ap (λ (ps : List Pair). sums_of (without_all ps c.args.entries.now))
+    (take_all c.loop-publisher.publisher-index c.args.publications.now (omega (arith, c.loop-publisher-test.false)))

@@ -11,6 +11,7 @@ use Rattle.sorted_lists.specs.SortedList.{contains}
 use Rattle.repo_catalog.specs.declared.entry.Entry.{Entry}
 use Rattle.repo_catalog.specs.Entries.{publication_of, is_of, beside, entry_of, with_entry, with_entries, IsCatalogue}
 use Rattle.repo_catalog.specs.NameKeys.{Key, key_cmp, key_of, is_key}
+use Rattle.repo_catalog.specs.Sums.{sums_of}
 use Rattle.repo_catalog.proofs.EntryLemmas.{found_place, entry_at, no_entry_between, with_entry_between}
 use Rattle.repo_catalog.proofs.EntryLemmas.{with_entry_rises}
 use Rattle.repo_catalog.proofs.EntryLemmas.{IsPlace}
@@ -20,6 +21,7 @@ use Rattle.repo_catalog.proofs.ManyLemmas.{adds_all, with_entries_rises, or_none
 use Rattle.repo_catalog.proofs.MergeLemmas.{IsAhead, rest_rises, front_rises, rises_dropped, rises_joined, none_ahead}
 use Rattle.repo_catalog.proofs.MergeLemmas.{none_behind, with_entry-append, inserted_between, passed_by, taken_in}
 use Rattle.repo_catalog.proofs.MergeLemmas.{no_items}
+use Rattle.repo_catalog.proofs.SumLemmas.{sums_with}
 use Rattle.repo_catalog.proofs.merge.merge.Goals as goal
 
 pub loop-entry-init : goal.loop-entry-init
@@ -37,6 +39,7 @@ loop-entry-init c =
           ap (λ (xs : List Entry). option_or (entry_of k xs) (entry_of k fs)) all
           ∙ sym (adds_all fs es k c.requires.in_order);
       indexed = λ q. c.requires.indexed q ∙ ap (λ (xs : List Entry). is_key xs q) (sym all);
+      summed = c.requires.summed ∙ ap sums_of (sym all);
       len = omega (arith, empty, c.args.aside.now.ok);
       room = omega arith;
       room_aside = omega arith;
@@ -114,6 +117,7 @@ loop-entry-preserved-in-Err c =
           ∙ ap (λ (b : Bool). eq_by_cmp key_cmp q (key_of x) || b) (before.indexed q)
           ∙ is_key-with x (es ++ aside) q before.in_order (ap is_some missing)
           ∙ ap (λ (xs : List Entry). is_key xs q) (sym whole);
+      summed = c.add.ensures (es ++ aside) before.summed ∙ sums_with x (es ++ aside) missing ∙ ap sums_of (sym whole);
       len =
           omega (
             arith,
@@ -161,6 +165,7 @@ loop-entry-preserved c =
           ∙ ap (λ (xs : List Entry). option_or (entry_of k (es ++ aside)) (entry_of k xs)) (sym popped)
           ∙ before.all k;
       indexed = before.indexed;
+      summed = before.summed;
       len = omega (arith, before.len, c.in-Some.ensures.len);
       room = before.room;
       room_aside = before.room_aside;

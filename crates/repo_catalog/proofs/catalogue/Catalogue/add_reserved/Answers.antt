@@ -6,9 +6,11 @@ use Rattle.sorted_lists.specs.SortedList.{contains}
 use Rattle.repo_catalog.specs.declared.entry.Entry.{Entry}
 use Rattle.repo_catalog.specs.Entries.{EntryList, publication_of, lists, with_entry, IsCatalogue}
 use Rattle.repo_catalog.specs.NameKeys.{Key, key_cmp, key_of, is_key}
+use Rattle.repo_catalog.specs.Sums.{sums_of}
 use Rattle.repo_catalog.proofs.EntryLemmas.{found_place, entry_at, no_entry_between, with_entry_at, with_entry_between}
 use Rattle.repo_catalog.proofs.EntryLemmas.{with_entry_rises}
 use Rattle.repo_catalog.proofs.IndexLemmas.{is_key-with}
+use Rattle.repo_catalog.proofs.SumLemmas.{sums_with}
 use Rattle.repo_catalog.proofs.catalogue.Catalogue.add_reserved.Goals as goal
 
 pub returns-in_default-clause-added : goal.returns-in_default-clause-added
@@ -50,6 +52,10 @@ invariant_of-self-2 c =
           ∙ ap (λ (b : Bool). eq_by_cmp key_cmp q (key_of c.args.entry) || b) (c.self.invariant.indexed q)
           ∙ is_key-with c.args.entry es q c.self.invariant.in_order (ap is_some missing)
           ∙ ap (λ (xs : List Entry). is_key xs q) (sym entries);
+      summed =
+          c.add.ensures es c.self.invariant.summed
+          ∙ sums_with c.args.entry es missing
+          ∙ ap sums_of (sym entries);
       room =
           omega (
             arith,

@@ -7,10 +7,12 @@ use Rattle.repo_plan.specs.Parts.{Pair}
 use Rattle.repo_catalog.specs.declared.entry.Entry.{Entry}
 use Rattle.repo_catalog.specs.Entries.{EntryList, publication_of, entry_of, without, IsCatalogue}
 use Rattle.repo_catalog.specs.NameKeys.{Key, key_cmp, key_of, is_key}
+use Rattle.repo_catalog.specs.Sums.{sums_of}
 use Rattle.repo_catalog.proofs.EntryLemmas.{found_place, entry_at, no_entry_between, without_at, without_between}
 use Rattle.repo_catalog.proofs.EntryLemmas.{without_rises}
 use Rattle.repo_catalog.proofs.IndexLemmas.{is_key-without}
 use Rattle.repo_catalog.proofs.ManyLemmas.{entry_is_of}
+use Rattle.repo_catalog.proofs.SumLemmas.{sums_without}
 use Rattle.repo_catalog.proofs.catalogue.Catalogue.remove.Goals as goal
 
 pub returns-in_default-clause-removed : goal.returns-in_default-clause-removed
@@ -54,12 +56,18 @@ invariant_of-self c =
       indexed = λ q.
           c.remove.ensures.keys q
           ∙ ap (λ (key : Key). not (eq_by_cmp key_cmp q key) && contains key_cmp c.self.inside.names.keys q)
-          c.key_of-key.ensures
+          c.key_of.ensures
           ∙ ap (λ (b : Bool). not (eq_by_cmp key_cmp q (key_of x)) && b)
           (c.self.invariant.indexed q ∙ ap (λ (l : EntryList). is_key l.entries q) c.self.view_is)
           ∙ is_key-without x es q (ap (λ (p : Pair). entry_of p es) (sym of) ∙ there)
           ∙ ap (λ (p : Pair). is_key (without p es) q) (sym of)
           ∙ ap (λ (xs : List Entry). is_key xs q) (sym left);
+      summed =
+          c.subtract.ensures (without k es)
+          (c.self.invariant.summed
+          ∙ ap (λ (l : EntryList). sums_of l.entries) c.self.view_is
+          ∙ sums_without k x es c.in-Ok.ensures.ordered there)
+          ∙ ap sums_of (sym left);
       room = omega (arith, c.remove-2.ensures.len, c.remove-2.ensures.capacity, c.self.invariant.room);
       room_aside = omega (arith, c.remove-2.ensures.len, c.self.invariant.room_aside);
       room_for_names = omega (arith, c.remove.ensures.room, c.self.invariant.room_for_names);

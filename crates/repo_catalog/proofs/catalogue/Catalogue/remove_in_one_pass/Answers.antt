@@ -2,6 +2,7 @@ use Rattle.std.proofs.Common.{List, sym, ap, subst, ◌∙◌, arith}
 use Rattle.repo_catalog.specs.declared.entry.Entry.{Entry}
 use Rattle.repo_catalog.specs.Entries.{EntryList, without_all, IsCatalogue}
 use Rattle.repo_catalog.specs.NameKeys.{is_key}
+use Rattle.repo_catalog.specs.Sums.{sums_of}
 use Rattle.repo_catalog.proofs.ManyLemmas.{without_all_rises}
 use Rattle.repo_catalog.proofs.catalogue.Catalogue.remove_in_one_pass.Goals as goal
 
@@ -17,6 +18,10 @@ invariant_of-self c =
           c.forget.ensures.indexed q
           ∙ ap (λ (xs : List Entry). is_key (without_all pairs xs) q) c.as_slice.ensures
           ∙ ap (λ (xs : List Entry). is_key xs q) (sym left);
+      summed =
+          c.forget.ensures.summed
+          ∙ ap (λ (xs : List Entry). sums_of (without_all pairs xs)) c.as_slice.ensures
+          ∙ ap sums_of (sym left);
       room = omega (arith, c.remove_all.ensures.len, c.remove_all.ensures.capacity, c.self.invariant.room);
       room_aside = omega (arith, c.remove_all.ensures.len, c.self.invariant.room_aside);
       room_for_names = omega (arith, c.forget.ensures.room, c.self.invariant.room_for_names);
