@@ -54,7 +54,7 @@ module _ (pattern : Pattern) (ls : Logs) (m : Mirror) (sound : IsSoundMirror pat
             h ∙ ap (λ (b : Bool). cond b (get_or m.known pair.0 0) 0) e in
             absurd (omega (arith, k.from_one, k.to_known, at))
 
-  known_to : (pair : Pair) → is_publisher pattern.publisher pair.0 ≡ true → IsKnown m.known pair
+  pub known_to : (pair : Pair) → is_publisher pattern.publisher pair.0 ≡ true → IsKnown m.known pair
       → IsKnown (asked_numbers pattern.publisher 0 m.known) pair
   known_to pair e k =
       let at : get_or (asked_numbers pattern.publisher 0 m.known) pair.0 0 ≡ get_or m.known pair.0 0 =

@@ -33,9 +33,6 @@ use Rattle.repo_member.specs.InGroup.{LogsGrow}
 use Rattle.repo_holdings.proofs.GainingLemmas.{contains-value, value_of-put}
 use Rattle.repo_member.proofs.ChangeLemmas.{keys_put, rises_put}
 
-same_some : (a b : List ℕ) → (let o : Option (List ℕ) = Some a in o) ≡ Some b → a ≡ b
-same_some a b h = cc
-
 pub begins_truly : BeginsTruly
 begins_truly g logs members number moment draw =
     record { in_order = tt; published = λ t h. absurd cc; packets = λ t octets h. absurd cc }

@@ -1,17 +1,17 @@
 mod GroupLemmas
-mod MemberLemmas
+pub mod MemberLemmas
 mod PostLemmas
 mod OwnLemmas
 mod VectorLemmas
 mod ChangeLemmas
-mod TruePackets
+pub mod TruePackets
 mod FoundLemmas
 mod ReplyLemmas
 mod GroupPlans
 mod GroupCatalogues
-mod LastingPackets
+pub mod LastingPackets
 mod EventLemmas
-mod OutcomeLemmas
+pub mod OutcomeLemmas
 mod CallLogs
 mod CallVectors
 mod PlanChanges
@@ -27,6 +27,9 @@ mod CommandEvents
 mod CallReach
 mod CallPackets
 mod SegmentDigests
+mod PassingPackets
+mod TrueHolders
+pub mod HolderTakes
 mod TrueMembers
 mod TrueChanges
 mod TrueSyncs

@@ -45,11 +45,6 @@ pub reading : {A : Type 0} (f : PlanState → A) (m : Inside) (a : Alone) → Is
     → f (held_plan m.held) ≡ f (alone_plan a)
 reading f m a is view = ap f (plan_is m is) ∙ ap (λ (x : Alone). f (alone_plan x)) view
 
--- what the member asks for, as what it holds has it
-pub asked_of : (m : Inside) (a : Alone) (t : Part) → IsMember m → alone m ≡ a → is_asked (alone_plan a) t ≡ true
-    → is_asked (held_plan m.held) t ≡ true
-asked_of m a t is view asked = reading (λ p. is_asked p t) m a is view ∙ asked
-
 -- ---- what is learnt
 
 hears_members : (now : ℕ) (told known : List ℕ) (draw : ℕ) (k : Keeper) (heard : Option (List ℕ))

@@ -1,19 +1,17 @@
 -- What came of a fetch, taken part after part.
-use Rattle.std.proofs.Common.{◌≡◌, ◌⊎◌, inl, inr, ℕ, ◌+◌, ◌<◌, Bool, true, false, cond, not, ◌||◌}
-use Rattle.std.proofs.Common.{List, [], ◌∷◌, ◌++◌, map, length, append_assoc, refl, sym, ap, ◌∙◌, subst, Option}
-use Rattle.std.proofs.Common.{Some, None, option_map, is_some, unwrap_or, count_by, sum_by, take}
-use Rattle.std.proofs.Common.{zero, suc, arith}
+use Rattle.std.proofs.Common.{◌≡◌, ◌⊎◌, inl, inr, ℕ, ◌<◌, Bool, true, cond, not, List, [], ◌∷◌, ◌++◌, map, length}
+use Rattle.std.proofs.Common.{append_assoc, refl, sym, ap, ◌∙◌, subst, Option, Some, None, option_map, is_some}
+use Rattle.std.proofs.Common.{unwrap_or, count_by, sum_by, take, arith}
 use Rattle.std.specs.Prelude.{IfSome}
 use Rattle.std.specs.List.{All, filter}
-use Rattle.std.specs.Ordering.{is_eq}
-use Rattle.std.specs.declared.cmp.Ordering.{Ordering}
 use Rattle.std.proofs.lemmas.Bool.{and_parts, not-true}
 use Rattle.std.proofs.lemmas.List.{map-append, length-map}
 use Rattle.std.proofs.lemmas.List.Elements.{All-head, All-tail, All-map, All-weaker, All-take}
 use Rattle.std.proofs.lemmas.List.Elements.{All-filter, filter_passes}
 use Rattle.std.proofs.lemmas.List.Sums.{sum_by-cons}
+use Rattle.ndn_name.specs.Names.{Component}
 use Rattle.repo_plan.specs.declared.part.Part.{Part}
-use Rattle.sorted_lists.specs.SortedList.{IsBefore, Rises, contains}
+use Rattle.sorted_lists.specs.SortedList.{Rises}
 use Rattle.repo_plan.specs.Parts.{part_cmp, pair_of}
 use Rattle.repo_plan.specs.Plan.{PlanState, holds, hides, is_asked, is_wanted, is_claimed, is_unclaimed}
 use Rattle.repo_plan.specs.Plan.{is_after}
@@ -22,12 +20,14 @@ use Rattle.repo_plan.proofs.Changes.{wanted_parts}
 use Rattle.repo_plan.proofs.Known.{unclaimed_rises}
 use Rattle.repo_plan.proofs.Orders.{exact_parts}
 use Rattle.sorted_lists.proofs.Sets.{rises_filter}
+use Rattle.sorted_lists.proofs.SameSets.{not_behind}
+use Rattle.sorted_lists.proofs.Inserted.{rises_parts}
 use Rattle.repo_object.specs.declared.job.Job.{Job}
 use Rattle.repo_object.specs.Verdict.{CheckedPart}
 use Rattle.repo_member.specs.Groups.{GroupKeys, HaveKeys}
 use Rattle.repo_holdings.specs.Records.{Packet}
 use Rattle.group_model.specs.Member.{with_tries}
-use Rattle.repo_member.specs.Alone.{Alone, IsOfGroup, alone_plan, want_of, alone_takes}
+use Rattle.repo_member.specs.Alone.{Alone, alone_holdings, alone_plan, want_of, alone_takes}
 use Rattle.repo_holdings.specs.Taking.{Fetched, with_fetched}
 use Rattle.repo_holdings.specs.StoredParents.{lists_at}
 use Rattle.repo_holdings.specs.Gaining.{IsArrival}
@@ -37,25 +37,26 @@ use Rattle.repo_holdings.specs.declared.told.Arrival.{Arrival}
 use Rattle.repo_member.specs.Members.{alone, IsMember}
 use Rattle.repo_member.specs.declared.member.Member.TheInside.{Inside}
 use Rattle.repo_holdings.specs.declared.holdings.taking.Tried.{Tried}
-use Rattle.repo_member.specs.Outcomes.{job_for, IsPlannedJob, WereTried, JobsArePlanned, PlannedJobsAreOutcomes}
-use Rattle.repo_member.specs.Outcomes.{IsOutcome, outcome_of, IsFetched, AreFetched}
+use Rattle.repo_member.specs.Outcomes.{IsJobOf, AreFetchedOf, WereTried, HolderJobsArePlanned, HolderJobsAreOutcomes}
+use Rattle.repo_member.specs.Outcomes.{JobsArePlanned, PlannedJobsAreOutcomes, IsOutcome, outcome_of, IsFetched}
+use Rattle.repo_member.specs.Outcomes.{AreFetched}
+use Rattle.repo_member.specs.TrueHolders.{MembersTakeAll}
 use Rattle.repo_holdings.specs.Taking.{PartsDiffer, CanBeTaken}
-use Rattle.repo_holdings.specs.Taking.{AreTakable, came, arrival_octets, with_all_fetched}
+use Rattle.repo_holdings.specs.Taking.{AreTakable, came, arrival_octets}
 use Rattle.repo_member.specs.Outcomes.{octets_in}
-use Rattle.repo_holdings.specs.Taking.{with_all_tries}
 use Rattle.repo_holdings.specs.HoldingsState.{HoldingsState, held_plan}
+use Rattle.repo_holdings.specs.Wanting.{want_at, job_at}
 use Rattle.repo_holdings.specs.Taking.{takes_too}
 use Rattle.repo_member.proofs.GroupLemmas.{ring_length}
 use Rattle.repo_holdings.proofs.AskedLemmas.{asked_member}
-use Rattle.repo_member.proofs.MemberLemmas.{plan_is, want_part, want_lists}
+use Rattle.repo_member.proofs.MemberLemmas.{plan_is, want_at_part, want_part, want_lists}
 
 -- ---- what is taken in all
 
-pub takes_all : (xs : List Fetched) (a : Alone)
-    → alone_takes xs a ≡ record a { store = with_all_fetched xs a.store; attempts = with_all_tries xs a.attempts }
-takes_all [] a = refl
-takes_all (x ∷ xs) a =
-    takes_all xs
+pub members_take_all : MembersTakeAll
+members_take_all [] a = refl
+members_take_all (x ∷ xs) a =
+    members_take_all xs
     (record a { store = with_fetched x.part x.packet a.store; attempts = with_tries x.part x.attempts a.attempts })
 
 -- what was checked for a want of the member comes as its part
@@ -239,88 +240,88 @@ module _ (m : Inside) (a : Alone) (view : alone m ≡ a) (mid : HoldingsState) (
         claims = h.claims;
         attempts = h.attempts;
       }) (taken ∙ ap (takes_too xs) room)
-      ∙ sym (takes_all xs (alone m)) ∙ ap (alone_takes xs) view
+      ∙ sym (members_take_all xs (alone m)) ∙ ap (alone_takes xs) view
 
--- ---- what a member plans can be taken, whatever came of it
-
-apart_before : (t : Part) (ts : List Part) → IsBefore part_cmp t ts → contains part_cmp ts t ≡ false
-apart_before t [] before = refl
-apart_before t (u ∷ us) before =
-    ap (λ (o : Ordering). is_eq o || contains part_cmp us t) before.0 ∙ apart_before t us before.1
+-- ---- what is planned can be taken, whatever came of it
 
 apart_in_order : (ts : List Part) → Rises part_cmp ts → PartsDiffer ts
 apart_in_order [] rises = tt
-apart_in_order (t ∷ ts) rises = (apart_before t ts rises.0, apart_in_order ts rises.1)
+apart_in_order (t ∷ ts) rises = (not_behind exact_parts t ts rises.0, apart_in_order ts rises.1)
 
-before_take : (t : Part) (n : ℕ) (ts : List Part) → IsBefore part_cmp t ts → IsBefore part_cmp t (take n ts)
-before_take t zero ts before = tt
-before_take t (suc n) [] before = tt
-before_take t (suc n) (u ∷ us) before = (before.0, before_take t n us before.1)
+pub parts_of_jobs : (publishers : List (List Component)) (group : List Component) (h : HoldingsState) (ts : List Part)
+    → map (λ (job : Job). job.want.part) (map (job_at publishers group h) ts) ≡ ts
+parts_of_jobs publishers group h [] = refl
+parts_of_jobs publishers group h (t ∷ ts) =
+    λ i. want_at_part publishers group h.store t i ∷ parts_of_jobs publishers group h ts i
 
-rises_take : (n : ℕ) (ts : List Part) → Rises part_cmp ts → Rises part_cmp (take n ts)
-rises_take zero ts rises = tt
-rises_take (suc n) [] rises = tt
-rises_take (suc n) (t ∷ ts) rises = (before_take t n ts rises.0, rises_take n ts rises.1)
+-- the next parts differ
+pub next_differ : (h : HoldingsState) (after : Option Part) (most : ℕ)
+    → PartsDiffer (take most (filter (is_after after) (unclaimed (held_plan h))))
+next_differ h after most =
+    let next : List Part = filter (is_after after) (unclaimed (held_plan h)) in
+    apart_in_order (take most next)
+    (rises_parts exact_parts most next
+    (rises_filter exact_parts.total (is_after after) (unclaimed (held_plan h)) (unclaimed_rises (held_plan h)))).0
 
-module _ (g : GroupKeys) (a : Alone) where
-  parts_of_jobs : (ts : List Part) → map (λ (job : Job). job.want.part) (map (job_for g a) ts) ≡ ts
-  parts_of_jobs [] = refl
-  parts_of_jobs (t ∷ ts) = rw (want_part g a.store t, parts_of_jobs ts) refl
-
-  planned_job : (t : Part) → HaveKeys g.members → IsOfGroup g a → is_unclaimed (alone_plan a) t ≡ true
-      → IsPlannedJob g a (job_for g a t)
+module _ (g : GroupKeys) (h : HoldingsState) where
+  planned_job : (t : Part) → HaveKeys g.members → length g.members.names ≡ length h.known
+      → is_unclaimed (held_plan h) t ≡ true → IsJobOf g h (job_at g.members.names g.name h t)
   planned_job t have of free =
-      let same : (want_of g a.store t).part ≡ t = want_part g a.store t in
-      let wanted : is_wanted (alone_plan a) t ≡ true =
-      (and_parts (is_wanted (alone_plan a) t) (not (is_claimed (alone_plan a) t)) free).0 in
-      let inside : t.publisher < length a.known =
-      asked_member (alone_plan a) t (wanted_parts (alone_plan a) t wanted).asked in
+      let same : (want_at g.members.names g.name h.store t).part ≡ t = want_part g h.store t in
+      let wanted : is_wanted (held_plan h) t ≡ true =
+      (and_parts (is_wanted (held_plan h) t) (not (is_claimed (held_plan h) t)) free).0 in
+      let inside : t.publisher < length h.known =
+      asked_member (held_plan h) t (wanted_parts (held_plan h) t wanted).asked in
       let there : t.publisher < length g.members.ring =
       let long = ring_length g.members have in omega (arith, inside, of, long) in
       record {
-        unclaimed = ap (is_unclaimed (alone_plan a)) same ∙ free;
+        unclaimed = ap (is_unclaimed (held_plan h)) same ∙ free;
         publisher = subst (λ (u : Part). u.publisher < length g.members.ring) (sym same) there;
-        wanted = ap (want_of g a.store) (sym same);
-        base = ap (attempts_of (alone_plan a)) (sym same);
+        wanted = ap (want_at g.members.names g.name h.store) (sym same);
+        base = ap (attempts_of (held_plan h)) (sym same);
       }
 
-pub jobs_are_planned : JobsArePlanned
-jobs_are_planned g a after most have of =
-    let ts = take most (filter (is_after after) (unclaimed (alone_plan a))) in
-    let rises =
-    rises_take most (filter (is_after after) (unclaimed (alone_plan a)))
-    (rises_filter exact_parts.total (is_after after) (unclaimed (alone_plan a)) (unclaimed_rises (alone_plan a))) in
+pub holder_jobs_are_planned : HolderJobsArePlanned
+holder_jobs_are_planned g h after most have of =
+    let ts : List Part = take most (filter (is_after after) (unclaimed (held_plan h))) in
     let free =
-    All-take (λ t. is_unclaimed (alone_plan a) t ≡ true) most (filter (is_after after) (unclaimed (alone_plan a)))
-    (All-filter (is_after after) (λ t. is_unclaimed (alone_plan a) t ≡ true) (unclaimed (alone_plan a))
-    (filter_passes (is_unclaimed (alone_plan a)) (known_parts (alone_plan a)))) in
+    All-take (λ t. is_unclaimed (held_plan h) t ≡ true) most (filter (is_after after) (unclaimed (held_plan h)))
+    (All-filter (is_after after) (λ t. is_unclaimed (held_plan h) t ≡ true) (unclaimed (held_plan h))
+    (filter_passes (is_unclaimed (held_plan h)) (known_parts (held_plan h)))) in
     record {
-      apart = subst PartsDiffer (sym (parts_of_jobs g a ts)) (apart_in_order ts rises);
-      each = All-map (IsPlannedJob g a) (job_for g a) ts
-          (All-weaker (λ t. is_unclaimed (alone_plan a) t ≡ true) (λ t. IsPlannedJob g a (job_for g a t))
-          (λ t h. planned_job g a t have of h) ts free);
+      apart = subst PartsDiffer (sym (parts_of_jobs g.members.names g.name h ts)) (next_differ h after most);
+      each = All-map (IsJobOf g h) (job_at g.members.names g.name h) ts
+          (All-weaker (λ t. is_unclaimed (held_plan h) t ≡ true)
+          (λ t. IsJobOf g h (job_at g.members.names g.name h t)) (λ t is. planned_job g h t have of is) ts free);
     }
 
-all_fetched : (g : GroupKeys) (a : Alone) (jobs : List Job) (parts : List (Option CheckedPart)) (ns : List ℕ)
-    → All (IsPlannedJob g a) jobs → WereTried g jobs parts ns → AreFetched g a jobs parts ns
-all_fetched g a [] [] [] each were = tt
-all_fetched g a [] [] (n ∷ ns) each were = were
-all_fetched g a [] (part ∷ parts) ns each were = were
-all_fetched g a (job ∷ jobs) [] ns each were = were
-all_fetched g a (job ∷ jobs) (part ∷ parts) [] each were = were
-all_fetched g a (job ∷ jobs) (part ∷ parts) (n ∷ ns) each were =
-    let one : IsPlannedJob g a job = All-head (IsPlannedJob g a) job jobs each in (
+all_fetched : (g : GroupKeys) (h : HoldingsState) (jobs : List Job) (parts : List (Option CheckedPart)) (ns : List ℕ)
+    → All (IsJobOf g h) jobs → WereTried g jobs parts ns → AreFetchedOf g h jobs parts ns
+all_fetched g h [] [] [] each were = tt
+all_fetched g h [] [] (n ∷ ns) each were = were
+all_fetched g h [] (part ∷ parts) ns each were = were
+all_fetched g h (job ∷ jobs) [] ns each were = were
+all_fetched g h (job ∷ jobs) (part ∷ parts) [] each were = were
+all_fetched g h (job ∷ jobs) (part ∷ parts) (n ∷ ns) each were =
+    let one : IsJobOf g h job = All-head (IsJobOf g h) job jobs each in (
       record {
         unclaimed = one.unclaimed;
         wanted = one.wanted;
         checked = were.0;
         few = omega (arith, one.base, were.1);
       },
-      all_fetched g a jobs parts ns (All-tail (IsPlannedJob g a) job jobs each) were.2,
+      all_fetched g h jobs parts ns (All-tail (IsJobOf g h) job jobs each) were.2,
     )
 
-pub planned_jobs_are_outcomes : PlannedJobsAreOutcomes
-planned_jobs_are_outcomes g a jobs parts attempts planned were = record {
+pub holder_jobs_are_outcomes : HolderJobsAreOutcomes
+holder_jobs_are_outcomes g h jobs parts attempts planned were = record {
   apart = planned.apart;
-  each = all_fetched g a jobs parts attempts planned.each were;
+  each = all_fetched g h jobs parts attempts planned.each were;
 }
+
+pub jobs_are_planned : JobsArePlanned
+jobs_are_planned g a after most have of = holder_jobs_are_planned g (alone_holdings a) after most have of
+
+pub planned_jobs_are_outcomes : PlannedJobsAreOutcomes
+planned_jobs_are_outcomes g a jobs parts attempts planned were =
+    holder_jobs_are_outcomes g (alone_holdings a) jobs parts attempts planned were

@@ -7,8 +7,12 @@ pub use Rattle.repo_member.proofs.DeletionLemmas.{deletes_alike}
 pub use Rattle.repo_member.proofs.LastingPackets.{begins_truly, grows_truly, publishes_truly, accepts_truly}
 pub use Rattle.repo_member.proofs.LastingPackets.{takes_truly, stays_true, logs_begin, logs_grow}
 pub use Rattle.repo_member.proofs.TrueMembers.{true_is_alone, true_is_of, true_stores, stores_those, logs_those}
-pub use Rattle.repo_member.proofs.TrueMembers.{wants_published, wants_are_true, packets_are_there, packets_pass}
-pub use Rattle.repo_member.proofs.TrueMembers.{packets_pass_for_members, accepts_the_claimed, takes_the_true}
+pub use Rattle.repo_member.proofs.PassingPackets.{packets_are_there, packets_pass}
+pub use Rattle.repo_member.proofs.TrueHolders.{member_is_holder, holder_stores_truly, holder_stores_those}
+pub use Rattle.repo_member.proofs.TrueHolders.{holders_want_published, holders_want_truly, packets_pass_for_holders}
+pub use Rattle.repo_member.proofs.HolderTakes.{fetched_are_stored, holders_take_truly}
+pub use Rattle.repo_member.proofs.TrueMembers.{wants_published, wants_are_true, packets_pass_for_members}
+pub use Rattle.repo_member.proofs.TrueMembers.{accepts_the_claimed, takes_the_true}
 pub use Rattle.repo_member.proofs.TrueChanges.{begins_true, publishes_true, others_publish, logs_have_grown}
 pub use Rattle.repo_member.proofs.TrueChanges.{learns_true, hears_true, inserts_true, blocks_true, deletes_true}
 pub use Rattle.repo_member.proofs.TrueChanges.{obeys_true, fires_true, resets_true, restarts_true, ends_claims_true}
@@ -22,6 +26,7 @@ pub use Rattle.repo_member.proofs.EventLemmas.{gathering_is_event, settle_is_eve
 pub use Rattle.repo_member.proofs.CommandEvents.{starts_alike, keeps_alike, order_is_event, order_is_answered}
 pub use Rattle.repo_member.proofs.CommandEvents.{issue_is_event, issue_is_answered, block_is_event, block_states_alike}
 pub use Rattle.repo_member.proofs.OrderLemmas.{made_orders_are_taken, orders_beyond}
+pub use Rattle.repo_member.proofs.OutcomeLemmas.{members_take_all, holder_jobs_are_planned, holder_jobs_are_outcomes}
 pub use Rattle.repo_member.proofs.OutcomeLemmas.{jobs_are_planned, planned_jobs_are_outcomes}
 pub use Rattle.repo_member.proofs.CallLogs.{logs_go_on, publications_stay, withdrawals_stay, logged_packets_stay}
 pub use Rattle.repo_member.proofs.CallVectors.{numbers_never_fall, known_is_the_join}

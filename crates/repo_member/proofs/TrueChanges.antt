@@ -1,5 +1,5 @@
 -- Which changes leave a member one whose stored packets are those of their parts.
-use Rattle.std.proofs.Common.{◌≡◌, inl, inr, ℕ, zero, suc, ◌+◌, ◌-◌, Bool, true, false, cond, not, List, [], ◌∷◌, ◌++◌}
+use Rattle.std.proofs.Common.{◌≡◌, inl, inr, ℕ, zero, suc, ◌+◌, Bool, true, false, cond, not, List, [], ◌∷◌, ◌++◌}
 use Rattle.std.proofs.Common.{length, get_or, set, replicate, Option, Some, None, refl, sym, ap, ◌∙◌, subst, arith}
 use Rattle.std.specs.Prelude.{nat_lt, is_some, filter, IfSome}
 use Rattle.std.specs.List.{All}
@@ -54,8 +54,8 @@ use Rattle.repo_holdings.proofs.HidingLemmas.{value_outside}
 use Rattle.repo_member.proofs.LastingPackets.{begins_truly, grown_last, grown_post, grows_truly, publishes_truly}
 use Rattle.repo_member.proofs.LastingPackets.{published_grows, post_next, accepts_truly, takes_truly}
 use Rattle.repo_member.proofs.MemberLemmas.{still_wide}
-use Rattle.repo_member.proofs.OutcomeLemmas.{takes_all}
-use Rattle.repo_member.proofs.TrueMembers.{true_stores, wanted_published, claimed_wanted}
+use Rattle.repo_member.proofs.OutcomeLemmas.{members_take_all}
+use Rattle.repo_member.proofs.TrueMembers.{true_stores, wants_published, claimed_wanted}
 
 -- ---- the beginning
 
@@ -353,7 +353,7 @@ accepts_true g logs f t octets a are claim its truly = record {
       (sound_takes logs a.number f t (in_group a) claim truly.sound);
   machine = truly.machine;
   packets = (accepts_truly g logs f t octets a (record {
-    published = (wanted_published g logs a are truly t (claimed_wanted g logs a are truly f t claim)).there;
+    published = (wants_published g logs a t are truly (claimed_wanted g logs a are truly f t claim)).there;
     packet = its;
   }) (true_stores g logs a truly)).packets;
 }
@@ -411,25 +411,25 @@ module _ (g : GroupKeys) (logs : Logs) (xs : List Fetched) (a : Alone) (are : Ar
   is_its None t h = tt
   is_its (Some octets) t h = record {
     published =
-        (wanted_published g logs a are truly t
+        (wants_published g logs a t are truly
         (and_parts (is_wanted (alone_plan a) t) (not (is_claimed (alone_plan a) t)) h.unclaimed).0).there;
     packet = h.packet;
   }
 
   pub taken_true : IsTrueMember g logs (alone_takes xs a)
-  taken_true = subst (IsTrueMember g logs) (sym (takes_all xs a)) (record {
+  taken_true = subst (IsTrueMember g logs) (sym (members_take_all xs a)) (record {
     there = truly.there;
     log = truly.log;
     sound =
         subst (IsSoundMember logs a.number)
-        (sym (sym (ap in_group (takes_all xs a)) ∙ takes_in_group xs a truly.sound.in_order.held))
+        (sym (sym (ap in_group (members_take_all xs a)) ∙ takes_in_group xs a truly.sound.in_order.held))
         (sound_gains logs a.number (that_came xs) (with_all_tries xs a.attempts) (in_group a)
         (λ t i. subst (λ (p : PlanState). is_wanted p t ≡ true) plans (open_parts t i).0)
         (λ t i. subst (λ (p : PlanState). is_claimed p t ≡ false) plans (open_parts t i).1)
         (rises_all_tried xs a.attempts truly.sound.in_order.attempts)
         (all_tried xs a.attempts truly.sound.in_order.tried) truly.sound);
     machine = truly.machine;
-    packets = subst (AreItsPackets g logs) (takes_all xs a) (takes_truly g logs xs a
+    packets = subst (AreItsPackets g logs) (members_take_all xs a) (takes_truly g logs xs a
         (All-weaker (λ (x : Fetched). IfSome x.packet (IsTrueArrival g logs a x.part))
         (λ (x : Fetched). CameTruly g logs x.part x.packet) (λ x h. is_its x.packet x.part h) xs came)
         (true_stores g logs a truly)).packets;

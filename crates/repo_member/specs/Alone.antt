@@ -20,7 +20,7 @@ pub use Rattle.repo_holdings.specs.Taking.{Fetched, with_fetched}
 pub use Rattle.repo_holdings.specs.Wanting.{nothing_listed}
 use Rattle.repo_holdings.specs.Wanting.{want_at}
 use Rattle.repo_holdings.specs.Records.{Packet}
-use Rattle.repo_holdings.specs.Listed.{shapes_in}
+use Rattle.repo_holdings.specs.HoldingsState.{HoldingsState, held_plan}
 use Rattle.repo_member.specs.Groups.{GroupKeys, publisher_at}
 
 -- what a member has
@@ -53,17 +53,20 @@ alone_opening members number moment draw = record {
   insertions = no_insertions;
 }
 
--- its fetch plan: it holds what it stores, and the stored records tell which parts there are
-abbrev pub alone_plan : Alone → PlanState
-alone_plan a = record {
+-- what it holds of publications
+abbrev pub alone_holdings : Alone → HoldingsState
+alone_holdings a = record {
   known = a.known;
-  held = keys a.store;
-  shapes = shapes_in a.store;
-  claims = a.claims;
+  store = a.store;
   hidden = a.hidden;
+  claims = a.claims;
   attempts = a.attempts;
   spare = 0;
 }
+
+-- its fetch plan: it holds what it stores, and the stored records tell which parts there are
+abbrev pub alone_plan : Alone → PlanState
+alone_plan a = held_plan (alone_holdings a)
 
 -- what holds of every member: it is one of its group, it knows all that it published, it stores each part once, in
 -- order, and what it hid is known

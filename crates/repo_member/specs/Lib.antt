@@ -55,6 +55,7 @@ pub mod Members
 pub mod InGroup
 pub mod InEvents
 pub mod TrueMembers
+pub mod TrueHolders
 pub mod TrueChanges
 pub mod TrueSyncs
 pub mod Calls

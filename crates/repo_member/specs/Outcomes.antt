@@ -1,4 +1,4 @@
--- What came of a fetch, as a member takes it.
+-- What came of a fetch, as who planned it takes it: a member, or another that holds parts in its group.
 use Rattle.std.specs.Prelude.{◌≡◌, ℕ, ◌+◌, ◌<◌, true, List, [], ◌∷◌, map, take, length, Option, option_map}
 use Rattle.std.specs.Prelude.{unwrap_or, IfSome}
 use Rattle.std.specs.List.{All, filter}
@@ -8,12 +8,14 @@ use Rattle.repo_object.specs.declared.job.Job.{Job}
 use Rattle.repo_object.specs.Wants.{WantedPart}
 use Rattle.repo_object.specs.Verdict.{CheckedPart, publisher_key}
 use Rattle.repo_member.specs.Groups.{GroupKeys, HaveKeys}
-use Rattle.repo_member.specs.Alone.{Alone, IsOfGroup, alone_plan, want_of}
+use Rattle.repo_member.specs.Alone.{Alone, IsOfGroup, alone_holdings}
+use Rattle.repo_holdings.specs.HoldingsState.{HoldingsState, held_plan}
 use Rattle.repo_holdings.specs.Taking.{Fetched, PartsDiffer}
+use Rattle.repo_holdings.specs.Wanting.{want_at, job_at}
 
 -- the job of a part: its attempts go on from those that were made
 abbrev pub job_for : GroupKeys → Alone → Part → Job
-job_for g a t = record { want = want_of g a.store t; base = attempts_of (alone_plan a) t }
+job_for g a t = job_at g.members.names g.name (alone_holdings a) t
 
 -- the jobs, with what came for each and how often it was tried
 abbrev pub outcome_of : List Job → List (Option CheckedPart) → List ℕ → List Fetched
@@ -31,48 +33,70 @@ pub record IsCheckedFor (g : GroupKeys) (want : WantedPart) (c : CheckedPart) : 
   pub key_name : c.key_name ≡ (publisher_key g.members.ring want).name
   pub key : c.key ≡ (publisher_key g.members.ring want).key
 
--- a job of the member: its part is wanted and unclaimed, its want is the member's, what came was checked for it, and it
--- was not tried too often
-pub record IsFetched (g : GroupKeys) (a : Alone) (job : Job) (part : Option CheckedPart) (n : ℕ) : Type 0 where
-  pub unclaimed : is_unclaimed (alone_plan a) job.want.part ≡ true
-  pub wanted : job.want ≡ want_of g a.store job.want.part
-  pub checked : IfSome part (IsCheckedFor g job.want)
-  pub few : attempts_of (alone_plan a) job.want.part + n < 2097152
+-- a job of who holds this: its part is wanted and unclaimed, its want is that of the part by the names of the group,
+-- what came was checked for it, and it was not tried too often
+pub record IsFetchedOf (g : GroupKeys) (h : HoldingsState) (job : Job) (part : Option CheckedPart) (n : ℕ) : Type 0
+  where
+    pub unclaimed : is_unclaimed (held_plan h) job.want.part ≡ true
+    pub wanted : job.want ≡ want_at g.members.names g.name h.store job.want.part
+    pub checked : IfSome part (IsCheckedFor g job.want)
+    pub few : attempts_of (held_plan h) job.want.part + n < 2097152
 
 -- there are as many of each
-abbrev pub AreFetched : GroupKeys → Alone → List Job → List (Option CheckedPart) → List ℕ → Type 0
-AreFetched g a [] [] [] = Unit {0}
-AreFetched g a (job ∷ jobs) (part ∷ parts) (n ∷ ns) = IsFetched g a job part n × AreFetched g a jobs parts ns
-AreFetched g a _ _ _ = ⊥
+abbrev pub AreFetchedOf : GroupKeys → HoldingsState → List Job → List (Option CheckedPart) → List ℕ → Type 0
+AreFetchedOf g h [] [] [] = Unit {0}
+AreFetchedOf g h (job ∷ jobs) (part ∷ parts) (n ∷ ns) = IsFetchedOf g h job part n × AreFetchedOf g h jobs parts ns
+AreFetchedOf g h _ _ _ = ⊥
 
 -- how many jobs a fetch has at most
 abbrev pub job_limit : ℕ
 job_limit = 4096
 
--- the outcome of a fetch that the member planned, of different parts
-pub record IsOutcome (g : GroupKeys) (a : Alone) (jobs : List Job) (parts : List (Option CheckedPart))
+-- the outcome of a fetch that was planned by who holds this, of different parts
+pub record IsOutcomeOf (g : GroupKeys) (h : HoldingsState) (jobs : List Job) (parts : List (Option CheckedPart))
     (attempts : List ℕ) : Type 0 where
   pub apart : PartsDiffer (map (λ (job : Job). job.want.part) jobs)
-  pub each : AreFetched g a jobs parts attempts
+  pub each : AreFetchedOf g h jobs parts attempts
+
+-- a job of a member, with what came of it
+abbrev pub IsFetched : GroupKeys → Alone → Job → Option CheckedPart → ℕ → Type 0
+IsFetched g a job part n = IsFetchedOf g (alone_holdings a) job part n
+
+-- there are as many of each
+abbrev pub AreFetched : GroupKeys → Alone → List Job → List (Option CheckedPart) → List ℕ → Type 0
+AreFetched g a jobs parts ns = AreFetchedOf g (alone_holdings a) jobs parts ns
+
+-- the outcome of a fetch that the member planned
+abbrev pub IsOutcome : GroupKeys → Alone → List Job → List (Option CheckedPart) → List ℕ → Type 0
+IsOutcome g a jobs parts attempts = IsOutcomeOf g (alone_holdings a) jobs parts attempts
 
 -- ---- jobs that were planned
 
--- a job that the member has planned: its part is wanted and unclaimed, and of a member that the ring has a key of; its
--- want is the member's; and its attempts go on from those that were made
-pub record IsPlannedJob (g : GroupKeys) (a : Alone) (job : Job) : Type 0 where
-  pub unclaimed : is_unclaimed (alone_plan a) job.want.part ≡ true
+-- a job that was planned by who holds this: its part is wanted and unclaimed, and of a member that the ring has a key
+-- of; its want is that of the part by the names of the group; and its attempts go on from those that were made
+pub record IsJobOf (g : GroupKeys) (h : HoldingsState) (job : Job) : Type 0 where
+  pub unclaimed : is_unclaimed (held_plan h) job.want.part ≡ true
   pub publisher : job.want.part.publisher < length g.members.ring
-  pub wanted : job.want ≡ want_of g a.store job.want.part
-  pub base : job.base ≡ attempts_of (alone_plan a) job.want.part
+  pub wanted : job.want ≡ want_at g.members.names g.name h.store job.want.part
+  pub base : job.base ≡ attempts_of (held_plan h) job.want.part
 
 -- such jobs, of different parts
-pub record ArePlannedJobs (g : GroupKeys) (a : Alone) (jobs : List Job) : Type 0 where
+pub record AreJobsOf (g : GroupKeys) (h : HoldingsState) (jobs : List Job) : Type 0 where
   pub apart : PartsDiffer (map (λ (job : Job). job.want.part) jobs)
-  pub each : All (IsPlannedJob g a) jobs
+  pub each : All (IsJobOf g h) jobs
 
 -- the jobs of the next parts that are wanted and unclaimed, behind a place
+abbrev pub jobs_of : GroupKeys → HoldingsState → Option Part → ℕ → List Job
+jobs_of g h after most =
+    map (job_at g.members.names g.name h) (take most (filter (is_after after) (unclaimed (held_plan h))))
+
+-- jobs that a member planned, of different parts
+abbrev pub ArePlannedJobs : GroupKeys → Alone → List Job → Type 0
+ArePlannedJobs g a jobs = AreJobsOf g (alone_holdings a) jobs
+
+-- those of its next parts, behind a place
 abbrev pub jobs_behind : GroupKeys → Alone → Option Part → ℕ → List Job
-jobs_behind g a after most = map (job_for g a) (take most (filter (is_after after) (unclaimed (alone_plan a))))
+jobs_behind g a after most = jobs_of g (alone_holdings a) after most
 
 -- what came of jobs was checked for them, and none was tried too often
 abbrev pub WereTried : GroupKeys → List Job → List (Option CheckedPart) → List ℕ → Type 0
@@ -82,11 +106,21 @@ WereTried g (job ∷ jobs) (part ∷ parts) (n ∷ ns) =
 WereTried g _ _ _ = ⊥
 
 -- those jobs are planned
+abbrev pub HolderJobsArePlanned : Type 0
+HolderJobsArePlanned = (g : GroupKeys) (h : HoldingsState) (after : Option Part) (most : ℕ) → HaveKeys g.members
+    → length g.members.names ≡ length h.known → AreJobsOf g h (jobs_of g h after most)
+
+-- whatever comes of planned jobs can be taken
+abbrev pub HolderJobsAreOutcomes : Type 0
+HolderJobsAreOutcomes = (g : GroupKeys) (h : HoldingsState) (jobs : List Job) (parts : List (Option CheckedPart))
+    (attempts : List ℕ) → AreJobsOf g h jobs → WereTried g jobs parts attempts → IsOutcomeOf g h jobs parts attempts
+
+-- so are those of a member
 abbrev pub JobsArePlanned : Type 0
 JobsArePlanned = (g : GroupKeys) (a : Alone) (after : Option Part) (most : ℕ) → HaveKeys g.members → IsOfGroup g a
     → ArePlannedJobs g a (jobs_behind g a after most)
 
--- whatever comes of planned jobs can be taken
+-- and whatever comes of them it can take
 abbrev pub PlannedJobsAreOutcomes : Type 0
 PlannedJobsAreOutcomes = (g : GroupKeys) (a : Alone) (jobs : List Job) (parts : List (Option CheckedPart))
     (attempts : List ℕ) → ArePlannedJobs g a jobs → WereTried g jobs parts attempts → IsOutcome g a jobs parts attempts

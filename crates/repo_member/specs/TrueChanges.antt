@@ -1,9 +1,9 @@
 -- Which changes leave a member one whose stored packets are those of their parts, as each is in a sound group.
-use Rattle.std.specs.Prelude.{◌≡◌, ℕ, ◌<◌, true, List, [], ◌∷◌, ◌++◌, length, replicate, Some, None, IfSome}
+use Rattle.std.specs.Prelude.{◌≡◌, ℕ, ◌<◌, List, [], ◌∷◌, ◌++◌, length, replicate, Some, None, IfSome}
 use Rattle.std.specs.Prelude.{slice_index_or, slice_set}
 use Rattle.std.specs.List.{All}
 use Rattle.repo_plan.specs.declared.part.Part.{Part}
-use Rattle.repo_plan.specs.Plan.{claim_of, unclaimed, is_unclaimed, first}
+use Rattle.repo_plan.specs.Plan.{claim_of, unclaimed, first}
 use Rattle.ndn_name.specs.Names.{Component}
 use Rattle.repo_object.specs.Objects.{Post}
 use Rattle.repo_command.specs.declared.command.Command.{Command}
@@ -11,7 +11,7 @@ use Rattle.repo_process.specs.Insertions.{Insertions}
 use Rattle.group_model.specs.Publications.{Logs, last_of}
 use Rattle.group_model.specs.Sound.{IsTrueVector}
 use Rattle.repo_member.specs.Groups.{GroupKeys}
-use Rattle.repo_member.specs.Alone.{Alone, alone_plan, alone_opening, alone_publishes, alone_learns}
+use Rattle.repo_member.specs.Alone.{Alone, alone_holdings, alone_plan, alone_opening, alone_publishes, alone_learns}
 use Rattle.repo_holdings.specs.Taking.{Fetched}
 use Rattle.repo_member.specs.Alone.{alone_hears, alone_fires, alone_claims, alone_accepts, alone_takes}
 use Rattle.repo_member.specs.Alone.{alone_ends_claims, alone_resets, alone_restarts}
@@ -20,6 +20,7 @@ use Rattle.repo_member.specs.Commanded.{alone_obeys}
 use Rattle.repo_member.specs.Blocks.{alone_blocks}
 use Rattle.repo_member.specs.InGroup.{AreLogs, GrowInto, true_packet}
 use Rattle.repo_member.specs.TrueMembers.{IsTrueMember}
+use Rattle.repo_member.specs.TrueHolders.{ArrivesTruly}
 
 -- A member begins so in a group in which nothing has been published.
 abbrev pub BeginsTrue : Type 0
@@ -106,9 +107,8 @@ AcceptsTrue = (g : GroupKeys) (logs : Logs) (f : ℕ) (t : Part) (octets : List 
     → IsTrueMember g logs (alone_accepts f t octets a)
 
 -- What came is the packet of its part, which is wanted and which nobody claims.
-pub record IsTrueArrival (g : GroupKeys) (logs : Logs) (a : Alone) (t : Part) (octets : List ℕ) : Type 0 where
-  pub unclaimed : is_unclaimed (alone_plan a) t ≡ true
-  pub packet : true_packet g logs t ≡ Some octets
+abbrev pub IsTrueArrival : GroupKeys → Logs → Alone → Part → List ℕ → Type 0
+IsTrueArrival g logs a t octets = ArrivesTruly g logs (alone_holdings a) t octets
 
 -- The outcome of a fetch is taken, which brought such packets.
 abbrev pub TakesTrue : Type 0

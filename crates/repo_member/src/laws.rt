@@ -13,10 +13,14 @@ ghost use Rattle.repo_member.specs.InEvents.{ClaimIsEvent, LoseIsEvent, AnswerIs
 ghost use Rattle.repo_member.specs.InEvents.{OrderIsEvent, OrderIsAnswered, IssueIsEvent, IssueIsAnswered};
 ghost use Rattle.repo_member.specs.InEvents.{BlockIsEvent, BlockStatesAlike, LearnsAtOnce, LearnsWhatAllKnow};
 ghost use Rattle.repo_member.specs.InEvents.{GatheringIsEvent, SettleIsEvent, OpenPartsAlike, CataloguesAlike};
-ghost use Rattle.repo_member.specs.Outcomes.{JobsArePlanned, PlannedJobsAreOutcomes};
+ghost use Rattle.repo_member.specs.Outcomes.{HolderJobsArePlanned, HolderJobsAreOutcomes, JobsArePlanned};
+ghost use Rattle.repo_member.specs.Outcomes.{PlannedJobsAreOutcomes};
 ghost use Rattle.repo_member.specs.TrueMembers.{TrueIsAlone, TrueIsOf, TrueStores, StoresThose, LogsThose};
 ghost use Rattle.repo_member.specs.TrueMembers.{WantsPublished, WantsAreTrue, PacketsAreThere, PacketsPass};
 ghost use Rattle.repo_member.specs.TrueMembers.{PacketsPassForMembers, AcceptsTheClaimed, TakesTheTrue};
+ghost use Rattle.repo_member.specs.TrueHolders.{MembersAreHolders, HoldersStoreTruly, HoldersStoreThose};
+ghost use Rattle.repo_member.specs.TrueHolders.{HoldersWantPublished, HoldersWantTruly, PacketsPassForHolders};
+ghost use Rattle.repo_member.specs.TrueHolders.{FetchedAreStored, MembersTakeAll, HoldersTakeTruly};
 ghost use Rattle.repo_member.specs.TrueChanges.{BeginsTrue, PublishesTrue, OthersPublish, LogsHaveGrown, LearnsTrue};
 ghost use Rattle.repo_member.specs.TrueChanges.{HearsTrue, InsertsTrue, BlocksTrue, DeletesTrue, ObeysTrue, FiresTrue};
 ghost use Rattle.repo_member.specs.TrueChanges.{ResetsTrue, RestartsTrue, EndsClaimsTrue, ClaimsTrue, LosesTrue};
@@ -176,6 +180,25 @@ pub fn published_packets_pass()
     ensures for_members { PacketsPassForMembers }
 {}
 
+/// Such a member, and whoever else stores so in its group, stores the packets of the parts that it holds. It wants
+/// parts that were published, by the want of the published part, and the packet of the part passes for it.
+pub fn holders_want_what_was_published()
+    ensures members { MembersAreHolders }
+    ensures truly { HoldersStoreTruly }
+    ensures stores { HoldersStoreThose }
+    ensures published { HoldersWantPublished }
+    ensures wants { HoldersWantTruly }
+    ensures passes { PacketsPassForHolders }
+{}
+
+/// Whoever stores so goes on storing so, where it takes packets of wanted parts that are those of their parts. What it
+/// stores then are the parts that came, and those before.
+pub fn holders_take_what_was_published()
+    ensures stored { FetchedAreStored }
+    ensures members { MembersTakeAll }
+    ensures truly { HoldersTakeTruly }
+{}
+
 /// What octets are accepted for is what the fetcher claims, and such a member accepts the packet of the part.
 pub fn claimed_parts_are_accepted()
     ensures claimed { AcceptsTheClaimed }
@@ -213,9 +236,11 @@ pub fn syncs_of_members_are_taken()
     ensures taken { SyncsAreTaken }
 {}
 
-/// Jobs that a member plans are of different parts, each wanted and claimed by nobody. Whatever comes of them, if it
-/// was checked for them, is an outcome that the member takes.
+/// Jobs that a member plans, or whoever else holds parts in its group, are of different parts, each wanted and claimed
+/// by nobody. Whatever comes of them, if it was checked for them, is an outcome that can be taken.
 pub fn planned_jobs_can_be_taken()
+    ensures holders { HolderJobsArePlanned }
+    ensures taken { HolderJobsAreOutcomes }
     ensures planned { JobsArePlanned }
     ensures outcomes { PlannedJobsAreOutcomes }
 {}

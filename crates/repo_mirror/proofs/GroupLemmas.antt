@@ -12,12 +12,13 @@ use Rattle.mirror_model.proofs.Wants.{want_those}
 use Rattle.mirror_model.proofs.Lists as mirrors
 use Rattle.repo_member.specs.Alone.{alone_opening}
 use Rattle.repo_member.proofs.PublicLaws.{plans_alike, lists_alike, begins_truly, stays_true}
-use Rattle.repo_mirror.specs.MirrorState.{MirrorState, mirror_opening}
-use Rattle.repo_mirror.specs.TrueMirrors.{mirror_in_group, mirror_alone, MirrorsPlanAlike, MirrorsWantAlike}
+use Rattle.repo_member.specs.TrueHolders.{alone_with}
+use Rattle.repo_mirror.specs.MirrorState.{MirrorState, mirror_opening, mirror_holdings}
+use Rattle.repo_mirror.specs.TrueMirrors.{mirror_in_group, MirrorsPlanAlike, MirrorsWantAlike}
 use Rattle.repo_mirror.specs.TrueMirrors.{MirrorsListAlike, MirrorsBeginTrue, MirrorsLearnTrue}
 
 pub mirrors_plan_alike : MirrorsPlanAlike
-mirrors_plan_alike g logs m are is = plans_alike g logs (mirror_alone m) are is.stored
+mirrors_plan_alike g logs m are is = plans_alike g logs (alone_with (mirror_holdings m)) are is.stored
 
 pub mirrors_want_alike : MirrorsWantAlike
 mirrors_want_alike g logs m t are is =
@@ -26,7 +27,7 @@ mirrors_want_alike g logs m t are is =
 
 pub mirrors_list_alike : MirrorsListAlike
 mirrors_list_alike g logs m are is =
-    lists_alike g logs (mirror_alone m) are is.stored
+    lists_alike g logs (alone_with (mirror_holdings m)) are is.stored
     ∙ mirrors.lists m.pattern logs (mirror_in_group m) is.sound
 
 -- ---- what lasts
@@ -46,7 +47,8 @@ mirrors_begin_true g logs pattern =
         no_more = λ p. let none = nothing_known (length logs) p in omega (arith, none);
       };
       sound = record { kept = λ t h. absurd cc; passed = λ pair h. absurd cc };
-      stored = stays_true g logs (alone_opening 0 0 0 0) (mirror_alone m) refl (begins_truly g logs 0 0 0 0);
+      stored =
+          stays_true g logs (alone_opening 0 0 0 0) (alone_with (mirror_holdings m)) refl (begins_truly g logs 0 0 0 0);
     }
 
 joined_knows : (v told : List ℕ) (pair : Pair) → IsKnown v pair → IsKnown (join v told) pair
@@ -83,5 +85,5 @@ mirrors_learn_true g logs m told true_told is =
               not_accepted = s.not_accepted;
             };
       };
-      stored = stays_true g logs (mirror_alone m) (mirror_alone next) refl is.stored;
+      stored = stays_true g logs (alone_with (mirror_holdings m)) (alone_with (mirror_holdings next)) refl is.stored;
     }

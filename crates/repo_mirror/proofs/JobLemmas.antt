@@ -1,6 +1,6 @@
 -- The jobs of a mirror, one after another, and what came of them.
-use Rattle.std.proofs.Common.{◌≡◌, ◌⊎◌, inl, inr, ℕ, suc, true, false, List, [], ◌∷◌, map, length, refl, sym, ap, ◌∙◌}
-use Rattle.std.proofs.Common.{subst, arith, Option, Some, None, option_map, is_some, Bor}
+use Rattle.std.proofs.Common.{◌≡◌, ℕ, suc, true, false, List, [], ◌∷◌, map, length, refl, sym, ap, ◌∙◌, subst}
+use Rattle.std.proofs.Common.{Option, Some, None, option_map, is_some, Bor}
 use Rattle.std.specs.Prelude.{IfSome}
 use Rattle.std.specs.Option.{option_copied}
 use Rattle.std.proofs.lemmas.Bool.{true≢false, and_parts, false_from_ne_true, eqb-true}
@@ -20,16 +20,16 @@ use Rattle.repo_holdings.specs.Taking.{Fetched, came, CanBeTaken, PartsDiffer}
 use Rattle.repo_holdings.specs.declared.holdings.taking.Tried.{Tried}
 use Rattle.repo_holdings.specs.declared.told.Arrival.{Arrival}
 use Rattle.repo_member.specs.Outcomes.{outcome_of}
+use Rattle.repo_member.proofs.MemberLemmas.{want_at_lists}
 use Rattle.repo_mirror.specs.MirrorState.{MirrorState, fetch_plan}
 use Rattle.repo_mirror.specs.MirrorOutcomes.{IsFetchedFor, AreFetchedFor}
 use Rattle.repo_mirror.specs.Passing.{IsUnknownIn}
 use Rattle.repo_mirror.proofs.MirrorLemmas.{nothing_claimed}
-use Rattle.repo_mirror.proofs.WantLemmas.{want_lists}
 
 pub wants_lists : (m : MirrorState) (job : Job) (part : Option CheckedPart) (n : ℕ) → IsFetchedFor m job part n
     → job.want.lists ≡ lists_at m.store job.want.part
 wants_lists m job part n is =
-    ap (λ (w : WantedPart). w.lists) is.want ∙ want_lists is.publishers is.group m.store job.want.part
+    ap (λ (w : WantedPart). w.lists) is.want ∙ want_at_lists is.publishers is.group m.store job.want.part
 
 -- what is lent
 pub lent_if : {X : Type 0} (P : X → Type 0) (o : Option (Bor X)) (p : Option X) → option_copied o ≡ p → IfSome p P
@@ -47,15 +47,6 @@ lent_octets o p h = same o ∙ ap (option_map (λ (c : CheckedPart). c.octets)) 
   same (Some b) = refl
 
 -- ---- one after another
-
-pub nothing_left : (jobs : List Job) (parts : List (Option CheckedPart)) (attempts : List ℕ)
-    → (length jobs ≡ 0) ⊎ (length parts ≡ 0) ⊎ (length attempts ≡ 0) → outcome_of jobs parts attempts ≡ []
-nothing_left [] parts attempts h = refl
-nothing_left (job ∷ jobs) [] attempts h = refl
-nothing_left (job ∷ jobs) (part ∷ parts) [] h = refl
-nothing_left (job ∷ jobs) (part ∷ parts) (n ∷ ns) (inl h) = absurd (omega (arith, h))
-nothing_left (job ∷ jobs) (part ∷ parts) (n ∷ ns) (inr (inl h)) = absurd (omega (arith, h))
-nothing_left (job ∷ jobs) (part ∷ parts) (n ∷ ns) (inr (inr h)) = absurd (omega (arith, h))
 
 module _ (m : MirrorState) where
   pub as_many : (jobs : List Job) (parts : List (Option CheckedPart)) (ns : List ℕ) → AreFetchedFor m jobs parts ns

@@ -1,13 +1,11 @@
 -- A mirror that takes packets which are those of their parts.
-use Rattle.std.proofs.Common.{◌≡◌, inl, inr, ℕ, ◌+◌, ◌-◌, ◌<◌, ◌^◌, Bool, true, false, cond, not, ◌&&◌, ◌||◌, List, []}
-use Rattle.std.proofs.Common.{length, get_or, refl, sym, ap, ◌∙◌, subst, arith, Option, Some, None, is_some, option_map}
+use Rattle.std.proofs.Common.{◌≡◌, inl, inr, ℕ, Bool, true, false, cond, not, ◌&&◌, ◌||◌, List, []}
+use Rattle.std.proofs.Common.{get_or, refl, sym, ap, ◌∙◌, subst, arith, Option, Some, None, is_some, option_map}
 use Rattle.std.proofs.Common.{unwrap_or}
 use Rattle.std.specs.Prelude.{◌==◌, filter}
 use Rattle.std.specs.List.{All}
 use Rattle.std.proofs.lemmas.Bool.{true≢false, and_parts, and_from, or_cases, or_left, or_right, not-true, eq-eqb}
-use Rattle.std.proofs.lemmas.Bool.{eqb-true, cases_lt, cases_Bool}
-use Rattle.std.proofs.lemmas.List.{get_or_past}
-use Rattle.std.proofs.lemmas.Option.{slice_get-get_or, unwrap_or-slice_get}
+use Rattle.std.proofs.lemmas.Bool.{eqb-true, cases_Bool}
 use Rattle.repo_plan.specs.declared.part.Part.{Part}
 use Rattle.sorted_lists.specs.SortedList.{contains}
 use Rattle.repo_plan.specs.Parts.{Pair, pair_cmp, part_cmp, pair_of, part_of, record_of, parent}
@@ -15,76 +13,35 @@ use Rattle.repo_plan.proofs.Orders.{exact_parts, exact_pairs}
 use Rattle.sorted_lists.proofs.Sets.{In, contains_in, in_contains, in_map, from_map, in_filter, contains-insert_keys}
 use Rattle.sorted_lists.proofs.RunOrder.{both_ways}
 use Rattle.sorted_lists.proofs.Members.{in_at}
-use Rattle.repo_object.specs.Objects.{Post, Publisher, IsPost, IsPublisher}
+use Rattle.repo_object.specs.Objects.{Post, Publisher}
 use Rattle.repo_object.specs.Objects.Post.{Offers, Withdraws}
-use Rattle.repo_object.specs.Publication.{RecordSays, packet_at, published_record, record_packet}
+use Rattle.repo_object.specs.Publication.{RecordSays, packet_at, published_record}
 use Rattle.repo_object.specs.Verdict.{said_in}
-use Rattle.repo_object.proofs.Publications.{record_said}
 use Rattle.repo_holdings.specs.Gaining.{told_of}
 use Rattle.repo_holdings.specs.Taking.{Fetched}
-use Rattle.group_model.specs.Publications.{Logs, no_post, post_at, last_of, shape_at}
-use Rattle.group_model.specs.Sound.{IsPublished}
+use Rattle.group_model.specs.Publications.{Logs, post_at, shape_at}
 use Rattle.group_model.proofs.Lists.{from_filter, at_in}
 use Rattle.group_model.proofs.Parents.{record_lists_itself}
 use Rattle.mirror_model.specs.Asked.{is_kept, is_kept_post}
 use Rattle.mirror_model.specs.Mirrors.{mirror_holds, IsWantedByMirror, IsKeptSoundly, IsPassedSoundly}
 use Rattle.mirror_model.proofs.Wants.{held_kept}
-use Rattle.repo_member.specs.Groups.{GroupKeys, IsPlainNodeName, node_at, publisher_at}
+use Rattle.repo_member.specs.Groups.{GroupKeys, publisher_at}
 use Rattle.repo_member.specs.Alone.{alone_takes}
 use Rattle.repo_member.specs.InGroup.{AreLogs, IsItsPacket, CameTruly, that_came}
+use Rattle.repo_member.specs.TrueHolders.{alone_with}
 use Rattle.repo_member.proofs.PublicLaws.{takes_truly, stays_true}
+use Rattle.repo_member.proofs.TruePackets.{record_says, published_post, published_by, published_low}
+use Rattle.repo_member.proofs.HolderTakes.{is_stored, still_there, then_there, from_there, store_taken}
 use Rattle.repo_watch.specs.declared.pattern.Pattern.{Pattern}
-use Rattle.repo_mirror.specs.MirrorState.{MirrorState}
+use Rattle.repo_mirror.specs.MirrorState.{MirrorState, mirror_holdings}
 use Rattle.repo_mirror.specs.Passing.{is_told_kept, is_packet_kept, is_fetched_kept, that_are_kept, not_kept}
 use Rattle.repo_mirror.specs.Passing.{passed_over, mirror_takes}
-use Rattle.repo_mirror.specs.TrueMirrors.{mirror_in_group, mirror_alone, IsTrueMirror, CameForMirror, MirrorsTakeTrue}
+use Rattle.repo_mirror.specs.TrueMirrors.{mirror_in_group, IsTrueMirror, CameForMirror, MirrorsTakeTrue}
 use Rattle.repo_mirror.proofs.GroupLemmas.{mirrors_want_alike}
 use Rattle.repo_mirror.proofs.SortedLemmas.{passed_record}
-use Rattle.repo_mirror.proofs.TakenLemmas.{is_stored, still_there, then_there, from_there, hidden_is, store_taken}
+use Rattle.repo_mirror.proofs.TakenLemmas.{hidden_is}
 
 -- ---- what the record of a publication tells
-
-same_some : (a b : List ℕ) → (let o : Option (List ℕ) = Some a in o) ≡ Some b → a ≡ b
-same_some a b h = cc
-
-module _ (g : GroupKeys) (logs : Logs) (are : AreLogs g logs) (pair : Pair) (there : IsPublished logs pair) where
-  abbrev publisher : Publisher
-  publisher = publisher_at g pair.0
-
-  log_there : pair.0 < length logs
-  log_there = elim (cases_lt pair.0 (length logs)) [
-    | inl inside ↦ inside
-    | inr past ↦
-        let none : last_of logs pair.0 ≡ 0 =
-        ap (λ (log : List Post). length log) (get_or_past logs pair.0 [] past) in
-        absurd (omega (arith, none, there.from_one, there.to_last))
-  ]
-
-  published_post : IsPost pair.1 (post_at logs pair)
-  published_post =
-      let number : pair.1 - 1 + 1 ≡ pair.1 = omega (arith, there.from_one) in
-      subst (λ (n : ℕ). IsPost n (post_at logs pair)) number
-      (are.posts pair.0 [] log_there (pair.1 - 1) (post_at logs pair)
-      (slice_get-get_or (get_or logs pair.0 []) (pair.1 - 1) no_post (omega (arith, there.from_one, there.to_last))))
-
-  published_by : IsPublisher publisher
-  published_by =
-      let inside : pair.0 < length g.members.names = let low = log_there in omega (arith, low, are.width) in
-      let node : IsPlainNodeName (node_at g pair.0) =
-      subst IsPlainNodeName (sym (unwrap_or-slice_get g.members.names pair.0 []))
-      (are.group.members.node_names pair.0 [] inside) in
-      record { node = (node.valid, node.short); group = (are.group.name.valid, are.group.name.short) }
-
-  published_low : pair.1 < 2 ^ 16
-  published_low = let few = are.few pair.0 [] log_there in omega (arith, there.to_last, few)
-
-  record_says : (octets : List ℕ) → packet_at publisher pair.1 (post_at logs pair) 0 ≡ Some octets
-      → said_in octets ≡ Some (published_record publisher pair.1 (post_at logs pair))
-  record_says octets h =
-      ap said_in
-      (sym (same_some (record_packet publisher pair.1 (published_record publisher pair.1 (post_at logs pair))) octets
-      h))
-      ∙ record_said publisher published_by pair.1 (post_at logs pair) published_post published_low
 
 told_kept : (pattern : Pattern) (who : Publisher) (p seq : ℕ) (post : Post)
     → is_told_kept pattern p (Some (told_of (published_record who seq post))) ≡ is_kept_post pattern p post
@@ -98,7 +55,9 @@ record_kept g logs pattern t octets are zero its =
     ap (λ (b : Bool). is_told_kept pattern t.publisher (cond b (option_map told_of (said_in octets)) None))
     (eq-eqb t.part 0 zero)
     ∙ ap (λ (o : Option RecordSays). is_told_kept pattern t.publisher (option_map told_of o))
-    (record_says g logs are (pair_of t) its.published octets
+    (record_says (publisher_at g t.publisher) t.seq (post_at logs (pair_of t))
+    (published_by g logs are (pair_of t) its.published) (published_post g logs are (pair_of t) its.published)
+    (published_low g logs are (pair_of t) its.published) octets
     (ap (packet_at (publisher_at g t.publisher) t.seq (post_at logs (pair_of t))) (sym zero) ∙ its.packet))
     ∙ told_kept pattern (publisher_at g t.publisher) t.publisher t.seq (post_at logs (pair_of t))
 
@@ -252,9 +211,10 @@ module _ (g : GroupKeys) (logs : Logs) (m : MirrorState) (xs : List Fetched) (ar
     vector = is.vector;
     sound = record { kept = kept_sound; passed = passed_sound };
     stored =
-        stays_true g logs (alone_takes (that_are_kept m.pattern xs) (mirror_alone m)) (mirror_alone next)
-        (sym (store_taken (that_are_kept m.pattern xs) (mirror_alone m)))
-        (takes_truly g logs (that_are_kept m.pattern xs) (mirror_alone m) kept_truly is.stored);
+        stays_true g logs (alone_takes (that_are_kept m.pattern xs) (alone_with (mirror_holdings m)))
+        (alone_with (mirror_holdings next))
+        (sym (store_taken (that_are_kept m.pattern xs) (alone_with (mirror_holdings m))))
+        (takes_truly g logs (that_are_kept m.pattern xs) (alone_with (mirror_holdings m)) kept_truly is.stored);
   } where
     kept_truly : All (λ x. CameTruly g logs x.part x.packet) (that_are_kept m.pattern xs)
     kept_truly k d low =

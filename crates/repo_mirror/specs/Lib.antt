@@ -7,7 +7,9 @@ pub use Rattle.repo_watch.specs.Patterns
 pub use Rattle.repo_member.specs.Outcomes
 pub use Rattle.mirror_model.specs.Asked
 pub use Rattle.group_model.specs.Sound
+pub use Rattle.repo_member.specs.Groups
 pub use Rattle.repo_member.specs.InGroup
+pub use Rattle.repo_member.specs.TrueHolders
 pub use Rattle.mirror_model.specs.Mirrors
 pub mod MirrorState
 pub mod MirrorFields

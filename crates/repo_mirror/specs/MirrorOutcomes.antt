@@ -8,6 +8,8 @@ use Rattle.repo_object.specs.declared.job.Job.{Job}
 use Rattle.repo_object.specs.Verdict.{CheckedPart}
 use Rattle.repo_holdings.specs.Taking.{PartsDiffer}
 use Rattle.repo_holdings.specs.Wanting.{want_at, job_at}
+use Rattle.repo_member.specs.Groups.{GroupKeys}
+use Rattle.repo_member.specs.Outcomes.{IsOutcomeOf, jobs_of}
 use Rattle.repo_mirror.specs.MirrorState.{MirrorState, mirror_holdings, fetch_plan}
 
 -- The jobs that the mirror plans, by the names of the publishers and their group: those of the next wanted parts behind
@@ -51,3 +53,13 @@ PlannedJobsAreOutcomes = (publishers : List (List Component)) (group : List Comp
     (after : Option Part) (most : ℕ) (jobs : List Job) (parts : List (Option CheckedPart)) (attempts : List ℕ)
     → jobs ≡ planned_jobs publishers group m after most → WereTriedFor jobs parts attempts
     → IsMirrorOutcome m jobs parts attempts
+
+-- In a group whose names and keys are known, its jobs are those of who holds what it holds.
+abbrev pub MirrorsPlanJobs : Type 0
+MirrorsPlanJobs = (g : GroupKeys) (m : MirrorState) (after : Option Part) (most : ℕ)
+    → planned_jobs g.members.names g.name m after most ≡ jobs_of g (mirror_holdings m) after most
+
+-- What such a holder can take the mirror can.
+abbrev pub HolderOutcomesAreMirrors : Type 0
+HolderOutcomesAreMirrors = (g : GroupKeys) (m : MirrorState) (jobs : List Job) (parts : List (Option CheckedPart))
+    (attempts : List ℕ) → IsOutcomeOf g (mirror_holdings m) jobs parts attempts → IsMirrorOutcome m jobs parts attempts

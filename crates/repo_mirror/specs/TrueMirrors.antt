@@ -12,34 +12,24 @@ use Rattle.repo_holdings.specs.Listed.{alone_catalogue}
 use Rattle.repo_holdings.specs.Taking.{Fetched}
 use Rattle.group_model.specs.Publications.{Logs}
 use Rattle.group_model.specs.Sound.{IsTrueVector}
-use Rattle.mirror_model.specs.Asked.{asked_numbers}
 use Rattle.mirror_model.specs.Mirrors.{Mirror, IsWantedByMirror, IsSoundMirror, mirror_plan, mirror_catalogue}
 use Rattle.mirror_model.specs.Mirrors.{mirror_holds}
 use Rattle.repo_member.specs.Groups.{GroupKeys}
-use Rattle.repo_member.specs.Alone.{Alone, alone_opening}
 use Rattle.repo_member.specs.InGroup.{AreLogs, StoresTruly, CameTruly, GrowInto, that_came}
-use Rattle.repo_mirror.specs.MirrorState.{MirrorState, mirror_opening, fetch_plan}
+use Rattle.repo_member.specs.TrueHolders.{IsTrueHolder, alone_with}
+use Rattle.repo_mirror.specs.MirrorState.{MirrorState, mirror_opening, mirror_holdings, fetch_plan}
 use Rattle.repo_mirror.specs.Passing.{mirror_takes}
 
 -- The mirror as its group has it: it keeps the parts whose packets it stores.
 abbrev pub mirror_in_group : MirrorState → Mirror
 mirror_in_group m = record { known = m.known; kept = keys m.store; passed = m.passed; attempts = m.attempts }
 
--- A member that publishes nothing, and has of others what the mirror has.
-abbrev pub mirror_alone : MirrorState → Alone
-mirror_alone m = record (alone_opening 0 0 0 0) {
-  known = asked_numbers m.pattern.publisher 0 m.known;
-  store = m.store;
-  hidden = m.passed;
-  attempts = m.attempts;
-}
-
 -- The mirror's vector tells of no publication that there isn't, what it keeps and passed over is what its pattern says,
 -- and each stored packet is that of its part.
 pub record IsTrueMirror (g : GroupKeys) (logs : Logs) (m : MirrorState) : Type 0 where
   pub vector : IsTrueVector logs m.known
   pub sound : IsSoundMirror m.pattern logs (mirror_in_group m)
-  pub stored : StoresTruly g logs (mirror_alone m)
+  pub stored : StoresTruly g logs (alone_with (mirror_holdings m))
 
 -- ---- what follows
 
@@ -57,6 +47,11 @@ MirrorsWantAlike = (g : GroupKeys) (logs : Logs) (m : MirrorState) (t : Part) �
 abbrev pub MirrorsListAlike : Type 0
 MirrorsListAlike = (g : GroupKeys) (logs : Logs) (m : MirrorState) → AreLogs g logs → IsTrueMirror g logs m
     → alone_catalogue m.store ≡ mirror_catalogue m.pattern logs (mirror_in_group m)
+
+-- What holds of whoever holds parts holds of it.
+abbrev pub MirrorsAreHolders : Type 0
+MirrorsAreHolders = (g : GroupKeys) (logs : Logs) (m : MirrorState) → IsTrueMirror g logs m
+    → IsTrueHolder g logs (mirror_holdings m)
 
 -- ---- what lasts
 

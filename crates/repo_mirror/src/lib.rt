@@ -8,5 +8,7 @@ mod laws;
 mod learning;
 mod mirror;
 
-pub use laws::{mirrors_are_the_groups, planned_jobs_can_be_taken, true_mirrors_stay_true};
+pub use laws::{
+    mirrors_are_holders, mirrors_are_the_groups, planned_jobs_can_be_taken, true_mirrors_stay_true,
+};
 pub use mirror::Mirror;

@@ -1,5 +1,5 @@
-use Rattle.repo_member.proofs.TrueMembers.{wants_published, wants_are_true, packets_are_there, packets_pass}
-use Rattle.repo_member.proofs.TrueMembers.{packets_pass_for_members}
+use Rattle.repo_member.proofs.PassingPackets.{packets_are_there, packets_pass}
+use Rattle.repo_member.proofs.TrueMembers.{wants_published, wants_are_true, packets_pass_for_members}
 use Rattle.repo_member.proofs.laws.published_packets_pass.Goals as goal
 
 pub returns-clause-published : goal.returns-clause-published

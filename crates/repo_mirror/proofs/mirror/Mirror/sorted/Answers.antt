@@ -20,13 +20,14 @@ use Rattle.repo_object.specs.Verdict.{CheckedPart}
 use Rattle.repo_holdings.specs.Taking.{Fetched, came, CanBeTaken, PartsDiffer}
 use Rattle.repo_holdings.specs.declared.holdings.taking.Tried.{Tried}
 use Rattle.repo_member.specs.Outcomes.{outcome_of}
+use Rattle.repo_member.proofs.OutcomeLemmas.{nothing_left}
 use Rattle.repo_watch.specs.declared.pattern.Pattern.{Pattern}
 use Rattle.repo_mirror.specs.MirrorState.{MirrorState, fetch_plan}
 use Rattle.repo_mirror.specs.Passing.{is_fetched_kept, that_are_kept, not_kept, IsUnknownIn}
 use Rattle.repo_mirror.proofs.MirrorLemmas.{reading}
 use Rattle.repo_mirror.proofs.SortedLemmas.{kept_step, passed_still, kept_still, passed_step, passed_record}
 use Rattle.repo_mirror.proofs.SortedLemmas.{kept_differ, kept_apart, parts_tried}
-use Rattle.repo_mirror.proofs.JobLemmas.{wants_lists, lent_if, lent_octets, nothing_left, outcome_differs, first_job}
+use Rattle.repo_mirror.proofs.JobLemmas.{wants_lists, lent_if, lent_octets, outcome_differs, first_job}
 use Rattle.repo_mirror.proofs.JobLemmas.{fetched, first_outcome, came_is, can_be_taken, wanted_unknown}
 use Rattle.repo_mirror.proofs.mirror.Mirror.sorted.Goals as goal
 
