@@ -68,7 +68,7 @@ module _ (n : ℕ) where
     of_claim f (Some t) publisher = (there, publisher t refl)
 
     of_loss : (f : ℕ) (o : Option Part) → ((t : Part) → o ≡ Some t → t.publisher < n) → NamesAll n (lost_told m f o)
-    of_loss f None publisher = there
+    of_loss f None publisher = tt
     of_loss f (Some t) publisher = (there, publisher t refl)
 
     of_answer : (f : ℕ) (b : Bool) → NamesAll n (answer_told m f b)
@@ -90,7 +90,7 @@ module _ (n : ℕ) where
 
     of_feed : (g : GroupKeys) (w : World) (f : ℕ) (octets : List ℕ) (o : Option Part)
         → NamesAll n (feed_told g w m f octets o)
-    of_feed g w f octets None = there
+    of_feed g w f octets None = tt
     of_feed g w f octets (Some t) = of_fed f (ring_verdict (true_want g (logs w) t) g.members.ring octets)
 
     of_block : (seq sync : ℕ) (b : BlockState) → NamesAll n (block_told m seq sync b)

@@ -128,8 +128,9 @@ group_event g EventValue.Traffic = group.Event.Traffic
 
 -- ---- what is told
 
--- Each form of a reply, with its values.
+-- Each form of a reply, with its values. Nothing is told of an event that is refused.
 pub data Told : Type 0 where
+  Nothing : Told
   Publish : (m seq segments sync : ℕ) → Told
   Withdraw : (m seq withdrawn sync : ℕ) → Told
   DeliverSteady : (k m : ℕ) → Told
@@ -230,7 +231,7 @@ claim_told m f (Some t) = Told.ClaimPart m f t.publisher t.seq t.part
 
 -- A fetcher that claims nothing is refused.
 abbrev pub lost_told : ℕ → ℕ → Option Part → Told
-lost_told m f None = Told.ClaimNone m f
+lost_told m f None = Told.Nothing
 lost_told m f (Some t) = Told.Lose m f t.publisher t.seq t.part
 
 abbrev pub answer_told : ℕ → ℕ → Bool → Told
@@ -264,7 +265,7 @@ fed_told m f (Err refusal) = Told.FeedRefused m f refusal
 
 -- A fetcher that claims nothing is refused.
 abbrev pub feed_told : GroupKeys → World → ℕ → ℕ → List ℕ → Option Part → Told
-feed_told g w m f octets None = Told.ClaimNone m f
+feed_told g w m f octets None = Told.Nothing
 feed_told g w m f octets (Some t) = fed_told m f (ring_verdict (true_want g (logs w) t) g.members.ring octets)
 
 -- What a command is answered.

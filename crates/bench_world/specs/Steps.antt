@@ -90,6 +90,7 @@ HearNamesMember n hear.NoMemory = ⊥
 -- Each number that stands for a member is that of one of so many. Where all are told of, they stand in order, each with
 -- a number, or with its sums.
 abbrev pub NamesAll : ℕ → Told → Type 0
+NamesAll n Told.Nothing = Unit {0}
 NamesAll n (Told.Publish m seq segments sync) = m < n
 NamesAll n (Told.Withdraw m seq withdrawn sync) = m < n
 NamesAll n (Told.DeliverSteady k m) = m < n

@@ -1,5 +1,5 @@
 -- The line of a report for what is told of an event, under the labels of the members.
-use Rattle.std.specs.Prelude.{ℕ, List, map, codes}
+use Rattle.std.specs.Prelude.{ℕ, List, [], map, codes}
 use Rattle.repo_catalog.specs.declared.entry.Entry.{Entry}
 use Rattle.script_report.specs.Texts.{publish_text, deliver_steady_text, deliver_suppressed_text, sync_text}
 use Rattle.script_report.specs.Texts.{advance_text, fire_early_text, fire_quiet_text, fire_sent_text, restart_text}
@@ -17,7 +17,9 @@ use Rattle.repo_top.specs.RefusalTexts.{hear_refusal_text, part_refusal_text, pa
 abbrev pub publisher_label : List (List ℕ) → Entry → List ℕ
 publisher_label labels e = label_at labels e.publisher
 
+-- Each is a line, and where nothing is told there is none.
 abbrev pub told_text : List (List ℕ) → Told → List ℕ
+told_text labels Told.Nothing = []
 told_text labels (Told.Publish m seq segments sync) = publish_text (label_at labels m) seq segments sync
 told_text labels (Told.Withdraw m seq withdrawn sync) = withdraw_text (label_at labels m) seq withdrawn sync
 told_text labels (Told.DeliverSteady k m) = deliver_steady_text k (label_at labels m)
