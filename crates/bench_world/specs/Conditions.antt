@@ -78,6 +78,12 @@ pub record CanFetch (g : GroupKeys) (ls : Logs) (n most : ℕ) (lenders : List A
 
 -- ---- all members
 
+-- They tell what they know.
+pub record CanTell (g : GroupKeys) (ls : Logs) (ms : List Alone) : Type 0 where
+  pub logs : AreLogs g ls
+  pub numbers : MembersAreNumbered ms
+  pub truly : AreTrueMembers g ls ms
+
 -- The member of this number gathers.
 pub record CanGatherAt (g : GroupKeys) (ls : Logs) (n j : ℕ) (ms : List Alone) : Type 0 where
   pub workers : (1 ≤ n) × (n ≤ 16)

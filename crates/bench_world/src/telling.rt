@@ -3,8 +3,8 @@ ghost use Rattle.std.specs.Prelude.{◌≡◌, ◌≤◌, ◌<◌, ℕ, length, 
 ghost use Rattle.svs_vector.specs.Vectors.{join_all};
 ghost use Rattle.group_model.specs.Publications.{Logs};
 ghost use Rattle.repo_member.specs.Alone.{alone_learns, alone_ends_claims};
-ghost use Rattle.repo_member.specs.InGroup.{AreLogs};
-ghost use Rattle.bench_world.specs.Worlds.{alone_at, tells, AreTrueMembers, MembersAreNumbered};
+ghost use Rattle.bench_world.specs.Conditions.{CanTell};
+ghost use Rattle.bench_world.specs.Worlds.{alone_at, tells};
 ghost use Rattle.bench_world.specs.Settling.{told_of};
 
 use crate::numbers::numbers;
@@ -27,9 +27,7 @@ pub(crate) fn tell_all(
     members: &[Member],
 ) -> Result<Vec<Told>, AllocError>
     ghost logs: { Logs }
-    requires logs { AreLogs g.now logs }
-    requires numbers { MembersAreNumbered members.now }
-    requires members { AreTrueMembers g.now logs members.now }
+    requires { CanTell g.now logs members.now }
     ensures { IfOk result (λ told. map told_of told.items ≡ map (tells g.now) members.now) }
 {
     let mut told = Vec::with_capacity(alloc, members.len())?;

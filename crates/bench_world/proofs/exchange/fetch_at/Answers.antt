@@ -15,7 +15,7 @@ use Rattle.bench_world.proofs.PutBack.{others_true}
 use Rattle.bench_world.proofs.TakenOut.{put_in, put_back}
 use Rattle.bench_world.proofs.GroupFetches.{planned_are, came_are, attempts_are, members_are, fetched_all_truly}
 use Rattle.bench_world.proofs.GroupFetches.{fetched_numbers}
-use Rattle.bench_world.proofs.Bounded.{condition}
+use Rattle.bench_world.proofs.Bounded.{condition, passed_on}
 use Rattle.bench_world.proofs.exchange.fetch_at.Goals as goal
 
 pub fetch-fetched-requires : goal.fetch-fetched-requires
@@ -23,31 +23,21 @@ fetch-fetched-requires g c κs within =
     let can = condition c.requires in
     let here =
     c.remove-member.ensures.value
-    ∙ get_or_default c.args.members.now.items c.args.j c.remove-member.result nobody can.there in (
-      within.0,
-      (
-        within.1,
-        (
-          c.requires.1.1.0,
-          (
-            c.requires.1.1.1.0,
-            record {
-              workers = can.workers;
-              tries = can.tries;
-              logs = can.logs;
-              others =
-                  subst (AreTrueMembers c.args.g.now (logs g.begun)) (sym c.as_slice.ensures.value)
-                  (others_true c.args.g.now (logs g.begun) c.args.members.now.items c.remove-member.new.self.items
-                  c.args.j can.truly c.remove-member.ensures.items);
-              truly =
-                  subst (IsTrueMember c.args.g.now (logs g.begun)) (sym here)
-                  (can.truly c.args.j can.there);
-              tried = subst TriedFew (sym here) (can.tried c.args.j can.there);
-            },
-          ),
-        ),
-      ),
-    )
+    ∙ get_or_default c.args.members.now.items c.args.j c.remove-member.result nobody can.there in
+    passed_on within c.requires
+    (record {
+      workers = can.workers;
+      tries = can.tries;
+      logs = can.logs;
+      others =
+          subst (AreTrueMembers c.args.g.now (logs g.begun)) (sym c.as_slice.ensures.value)
+          (others_true c.args.g.now (logs g.begun) c.args.members.now.items c.remove-member.new.self.items
+          c.args.j can.truly c.remove-member.ensures.items);
+      truly =
+          subst (IsTrueMember c.args.g.now (logs g.begun)) (sym here)
+          (can.truly c.args.j can.there);
+      tried = subst TriedFew (sym here) (can.tried c.args.j can.there);
+    })
 
 pub returns-in-Ok-fetched-clause-members : goal.returns-in-Ok-fetched-clause-members
 returns-in-Ok-fetched-clause-members g c =

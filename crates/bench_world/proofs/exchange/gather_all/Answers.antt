@@ -7,7 +7,7 @@ use Rattle.bench_world.specs.Worlds.{alone_at}
 use Rattle.bench_world.proofs.Gathers.{few_held, few_octets}
 use Rattle.bench_world.proofs.GatheredAll.{gathered_none, gathered_part, gathered_more, gathered_all, sum_more, all_sum}
 use Rattle.bench_world.proofs.GatheredAll.{sum_ones, partly_all, few_all, where_err}
-use Rattle.bench_world.proofs.Bounded.{condition}
+use Rattle.bench_world.proofs.Bounded.{condition, passed_on}
 use Rattle.bench_world.proofs.exchange.gather_all.Goals as goal
 
 pub loop-j-init : goal.loop-j-init
@@ -26,31 +26,21 @@ loop-j-init g c =
 
 pub gather_at-requires : goal.gather_at-requires
 gather_at-requires g c κs within =
-    let can = condition c.requires in (
-      within.0,
-      (
-        within.1,
-        (
-          c.requires.1.1.0,
-          (
-            c.requires.1.1.1.0,
-            record {
-              workers = can.workers;
-              there = omega (
-                arith,
-                c.loop-j-test.true,
-                c.len-count.ensures,
-                c.loop-j.invariant.so_far.all.len,
-                c.args.members.now.ok,
-              );
-              logs = can.logs;
-              members = c.loop-j.invariant.so_far.all.truly;
-              tried = c.loop-j.invariant.so_far.all.tried;
-            },
-          ),
-        ),
-      ),
-    )
+    let can = condition c.requires in
+    passed_on within c.requires
+    (record {
+      workers = can.workers;
+      there = omega (
+        arith,
+        c.loop-j-test.true,
+        c.len-count.ensures,
+        c.loop-j.invariant.so_far.all.len,
+        c.args.members.now.ok,
+      );
+      logs = can.logs;
+      members = c.loop-j.invariant.so_far.all.truly;
+      tried = c.loop-j.invariant.so_far.all.tried;
+    })
 
 pub returns-in_err-came-clause-truly : goal.returns-in_err-came-clause-truly
 returns-in_err-came-clause-truly g c =

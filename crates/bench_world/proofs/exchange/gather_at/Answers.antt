@@ -7,7 +7,7 @@ use Rattle.bench_world.specs.Truth.{TriedFew}
 use Rattle.bench_world.specs.Worlds.{nobody, alone_at, AreTrueMembers}
 use Rattle.bench_world.specs.Gathering.{NothingLeft}
 use Rattle.bench_world.proofs.PutBack.{put_at, put_changed, others_true}
-use Rattle.bench_world.proofs.Bounded.{condition}
+use Rattle.bench_world.proofs.Bounded.{condition, passed_on}
 use Rattle.bench_world.proofs.exchange.gather_at.Goals as goal
 
 pub returns-clause-others : goal.returns-clause-others
@@ -22,31 +22,21 @@ gather-kept-requires g c κs within =
     let can = condition c.requires in
     let here =
     c.remove-member.ensures.value
-    ∙ get_or_default c.args.members.now.items c.args.j c.remove-member.result nobody can.there in (
-      within.0,
-      (
-        within.1,
-        (
-          c.requires.1.1.0,
-          (
-            c.requires.1.1.1.0,
-            record {
-              workers = can.workers;
-              logs = can.logs;
-              others =
-                  subst (AreTrueMembers c.args.g.now g.logs) (sym c.as_slice.ensures.value)
-                  (others_true c.args.g.now g.logs c.args.members.now.items c.remove-member.new.self.items c.args.j
-                  can.members c.remove-member.ensures.items);
-              loss = refl;
-              truly =
-                  subst (IsTrueMember c.args.g.now g.logs) (sym here)
-                  (can.members c.args.j can.there);
-              tried = subst TriedFew (sym here) (can.tried c.args.j can.there);
-            },
-          ),
-        ),
-      ),
-    )
+    ∙ get_or_default c.args.members.now.items c.args.j c.remove-member.result nobody can.there in
+    passed_on within c.requires
+    (record {
+      workers = can.workers;
+      logs = can.logs;
+      others =
+          subst (AreTrueMembers c.args.g.now g.logs) (sym c.as_slice.ensures.value)
+          (others_true c.args.g.now g.logs c.args.members.now.items c.remove-member.new.self.items c.args.j
+          can.members c.remove-member.ensures.items);
+      loss = refl;
+      truly =
+          subst (IsTrueMember c.args.g.now g.logs) (sym here)
+          (can.members c.args.j can.there);
+      tried = subst TriedFew (sym here) (can.tried c.args.j can.there);
+    })
 
 pub returns-clause-left : goal.returns-clause-left
 returns-clause-left g c =

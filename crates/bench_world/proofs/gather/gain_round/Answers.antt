@@ -2,34 +2,24 @@ use Rattle.std.proofs.Common.{arith}
 use Rattle.bench_world.specs.Sizes.{size_of}
 use Rattle.bench_world.proofs.Gathers.{few_held, few_octets, went_on, went_left, went_smaller, went_gains, went_count}
 use Rattle.bench_world.proofs.Gathers.{went_counts, counts_both, tried_still}
-use Rattle.bench_world.proofs.Bounded.{condition}
+use Rattle.bench_world.proofs.Bounded.{condition, passed_on}
 use Rattle.bench_world.proofs.gather.gain_round.Goals as goal
 
 pub gain_phase-requires : goal.gain_phase-requires
 gain_phase-requires g c κs within =
-    let can = condition c.requires in (
-      within.0,
-      (
-        within.1,
-        (
-          c.requires.1.1.0,
-          (
-            c.requires.1.1.1.0,
-            record {
-              workers = can.workers;
-              logs = can.logs;
-              others = can.others;
-              loss = can.loss;
-              truly = c.phases.invariant.so_far.gains.truly;
-              tried =
-                  tried_still c.args.g.now g.logs c.args.link.now.others.now c.args.member.now c.phases.member
-                  c.phases.invariant.so_far.gains
-                  can.tried;
-            },
-          ),
-        ),
-      ),
-    )
+    let can = condition c.requires in
+    passed_on within c.requires
+    (record {
+      workers = can.workers;
+      logs = can.logs;
+      others = can.others;
+      loss = can.loss;
+      truly = c.phases.invariant.so_far.gains.truly;
+      tried =
+          tried_still c.args.g.now g.logs c.args.link.now.others.now c.args.member.now c.phases.member
+          c.phases.invariant.so_far.gains
+          can.tried;
+    })
 
 pub overflow_add-kept : goal.overflow_add-kept
 overflow_add-kept g c =

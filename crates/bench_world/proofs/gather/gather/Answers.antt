@@ -1,33 +1,23 @@
 use Rattle.std.proofs.Common.{arith}
 use Rattle.bench_world.proofs.Gathers.{few_held, few_octets, tried_still}
-use Rattle.bench_world.proofs.Bounded.{condition}
+use Rattle.bench_world.proofs.Bounded.{condition, passed_on}
 use Rattle.bench_world.proofs.gather.gather.Goals as goal
 
 pub gain_round-requires : goal.gain_round-requires
 gain_round-requires g c κs within =
-    let can = condition c.requires in (
-      within.0,
-      (
-        within.1,
-        (
-          c.requires.1.1.0,
-          (
-            c.requires.1.1.1.0,
-            record {
-              workers = can.workers;
-              logs = can.logs;
-              others = can.others;
-              loss = can.loss;
-              truly = c.rounds.invariant.gains.truly;
-              tried =
-                  tried_still c.args.g.now g.logs c.args.link.now.others.now c.args.member.now c.rounds.member
-                  c.rounds.invariant.gains
-                  can.tried;
-            },
-          ),
-        ),
-      ),
-    )
+    let can = condition c.requires in
+    passed_on within c.requires
+    (record {
+      workers = can.workers;
+      logs = can.logs;
+      others = can.others;
+      loss = can.loss;
+      truly = c.rounds.invariant.gains.truly;
+      tried =
+          tried_still c.args.g.now g.logs c.args.link.now.others.now c.args.member.now c.rounds.member
+          c.rounds.invariant.gains
+          can.tried;
+    })
 
 pub overflow_add-kept : goal.overflow_add-kept
 overflow_add-kept g c =

@@ -5,7 +5,7 @@ use Rattle.bench_world.proofs.KnownByAll.{knowns, joined_short}
 use Rattle.bench_world.proofs.GatheredAll.{where_err}
 use Rattle.bench_world.proofs.Learnt.{few_members, widths, own_known, all_width, learnt_all, learnt_truly}
 use Rattle.bench_world.proofs.Learnt.{learnt_numbers, learnt_tried, learnt_counts, counts_then, partly_none}
-use Rattle.bench_world.proofs.Bounded.{condition}
+use Rattle.bench_world.proofs.Bounded.{condition, passed_on}
 use Rattle.bench_world.proofs.settling.settle_members.Goals as goal
 
 pub returns-in_err-told-clause-err : goal.returns-in_err-told-clause-err
@@ -73,27 +73,17 @@ gather_all-requires g c κs within =
     let tried =
     learnt_tried c.args.g.now g.begun can.logs.are can.sound c.args.members.now.items
     can.begun can.truly c.in_ok-known.known all c.learn_all.new.members.items
-    c.learn_all.ensures.len c.learn_all.ensures.each can.tried in (
-      within.0,
-      (
-        within.1,
-        (
-          c.requires.1.1.0,
-          (
-            c.requires.1.1.1.0,
-            record {
-              workers = can.workers;
-              logs = can.logs;
-              sound = can.sound;
-              learnt = learnt;
-              truly = truly;
-              numbers = numbers;
-              tried = tried;
-            },
-          ),
-        ),
-      ),
-    )
+    c.learn_all.ensures.len c.learn_all.ensures.each can.tried in
+    passed_on within c.requires
+    (record {
+      workers = can.workers;
+      logs = can.logs;
+      sound = can.sound;
+      learnt = learnt;
+      truly = truly;
+      numbers = numbers;
+      tried = tried;
+    })
 
 pub returns-clause-counts : goal.returns-clause-counts
 returns-clause-counts g c =

@@ -15,7 +15,7 @@ loop-member-preserved g c =
     ∙ sym (ap (λ (a : Alone). a.number)
     (c.member-item.is
     ∙ get_or_default c.args.members.now c.loop-member.member-index c.member-item.result nobody (omega arith))
-    ∙ c.requires.1.0 c.loop-member.member-index (omega arith)) in
+    ∙ c.requires.numbers c.loop-member.member-index (omega arith)) in
     let vector = c.in_ok-vector.ensures ∙ c.vector.ensures.known in
     let octets = c.in_ok-octets.ensures in
     record {
