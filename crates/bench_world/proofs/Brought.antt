@@ -1,4 +1,4 @@
--- What a phase brings for the parts that a member asks for.
+-- What a phase brings for the parts that who holds others asks for.
 use Rattle.std.proofs.Common.{◌≡◌, inl, inr, ℕ, suc, zero, ◌+◌, ◌≤◌, ◌<◌, Bool, true, false, cond, ◌==◌, List, [], ◌∷◌}
 use Rattle.std.proofs.Common.{map, length, replicate, Option, Some, None, refl, sym, ap, ◌∙◌, subst, arith}
 use Rattle.std.specs.Prelude.{nat_le, is_some, unwrap_or, find, filter, option_map, slice_get, sum_by, IfSome, IsOk}
@@ -26,11 +26,14 @@ use Rattle.group_model.specs.Publications.{Logs}
 use Rattle.repo_member.specs.Groups.{GroupKeys, node_at}
 use Rattle.repo_member.specs.Listed.{listing_at, listed_shape}
 use Rattle.repo_member.specs.StoredParents.{digest_at}
-use Rattle.repo_member.specs.Alone.{Alone, Fetched, alone_plan, want_of, nothing_listed}
+use Rattle.repo_holdings.specs.HoldingsState.{HoldingsState, held_plan}
+use Rattle.repo_holdings.specs.Taking.{Fetched}
+use Rattle.repo_holdings.specs.Wanting.{nothing_listed, want_at, job_at}
+use Rattle.repo_member.specs.Alone.{Alone}
 use Rattle.repo_member.specs.InGroup.{AreLogs, true_packet, asked_for, that_came}
-use Rattle.repo_member.specs.Outcomes.{job_for, outcome_of, octets_in, IsCheckedFor, WereTried}
-use Rattle.repo_member.specs.TrueMembers.{IsTrueMember}
-use Rattle.repo_member.proofs.PublicLaws.{packets_pass_for_members}
+use Rattle.repo_member.specs.Outcomes.{outcome_of, octets_in, IsCheckedFor, WereTried}
+use Rattle.repo_member.specs.TrueHolders.{IsTrueHolder}
+use Rattle.repo_member.proofs.PublicLaws.{packets_pass_for_holders}
 use Rattle.bench_world.specs.Worlds.{AreTrueMembers}
 use Rattle.bench_world.specs.Others.{place_among_others}
 use Rattle.bench_world.specs.Lending.{or_else, lent, lends, lent_at, lent_first, attempt_comes, if_comes, lent_answer}
@@ -185,38 +188,45 @@ octets_sum f (job ∷ jobs) (Some c ∷ ps) (n ∷ ns) e h each =
     ∙ (λ i. sym one i + rest i)
     ∙ sym (sum_by-cons f job.want.part (that_came (outcome_of jobs ps ns)))
 
--- ---- the jobs of a member
+-- ---- jobs that were planned
 
-pub want_part : (g : GroupKeys) (a : Alone) (t : Part) → (want_of g a.store t).part ≡ t
-want_part g a t =
+pub want_part : (g : GroupKeys) (h : HoldingsState) (t : Part)
+    → (want_at g.members.names g.name h.store t).part ≡ t
+want_part g h t =
     go (t.part == 0) (nat_le t.part (listed_shape listed).index) where
       listed : Listed
-      listed = unwrap_or (listing_at a.store (pair_of t)) nothing_listed
+      listed = unwrap_or (listing_at h.store (pair_of t)) nothing_listed
 
       go : (b c : Bool)
           → (cond b (want_record t (node_at g t.publisher) g.name)
           (cond c (want_index t listed (node_at g t.publisher) g.name)
-          (want_segment t (listed_shape listed) listed.name (digest_at a.store t listed)))).part
+          (want_segment t (listed_shape listed) listed.name (digest_at h.store t listed)))).part
           ≡ t
       go true c = refl
       go false true = refl
       go false false = refl
 
-module _ (passes : ℕ → ℕ → ℕ → ℕ → ℕ → ℕ → Bool) (g : GroupKeys) (logs : Logs) (a : Alone) (others : List Alone)
-    (asker : ℕ) (loss : Option ℕ) (are : AreLogs g logs) (truly : IsTrueMember g logs a)
+module _ (passes : ℕ → ℕ → ℕ → ℕ → ℕ → ℕ → Bool) (g : GroupKeys) (logs : Logs) (h : HoldingsState) (others : List Alone)
+    (asker : ℕ) (loss : Option ℕ) (are : AreLogs g logs) (truly : IsTrueHolder g logs h)
     (all : AreTrueMembers g logs others) where
   abbrev answer : WantedPart → ℕ → Option (List ℕ)
   answer = lent_answer passes others asker loss
 
-  brought : (t : Part) (before : ℕ) → brings answer g.members.ring (job_for g a t) before
-      ≡ checked_reply (want_of g a.store t) g.members.ring
-      (if_comes (attempt_comes passes asker loss t (attempts_of (alone_plan a) t + before + 1)) (lent others t))
+  abbrev want : Part → WantedPart
+  want t = want_at g.members.names g.name h.store t
+
+  abbrev job : Part → Job
+  job = job_at g.members.names g.name h
+
+  brought : (t : Part) (before : ℕ) → brings answer g.members.ring (job t) before
+      ≡ checked_reply (want t) g.members.ring
+      (if_comes (attempt_comes passes asker loss t (attempts_of (held_plan h) t + before + 1)) (lent others t))
   brought t before =
-      ap (λ (q : Part). checked_reply (want_of g a.store t) g.members.ring
-      (if_comes (attempt_comes passes asker loss q (attempts_of (alone_plan a) t + before + 1))
-      (lent_first others asker q))) (want_part g a t)
-      ∙ ap (λ (o : Option (List ℕ)). checked_reply (want_of g a.store t) g.members.ring
-      (if_comes (attempt_comes passes asker loss t (attempts_of (alone_plan a) t + before + 1)) o))
+      ap (λ (q : Part). checked_reply (want t) g.members.ring
+      (if_comes (attempt_comes passes asker loss q (attempts_of (held_plan h) t + before + 1))
+      (lent_first others asker q))) (want_part g h t)
+      ∙ ap (λ (o : Option (List ℕ)). checked_reply (want t) g.members.ring
+      (if_comes (attempt_comes passes asker loss t (attempts_of (held_plan h) t + before + 1)) o))
       (first_is_lent g logs others asker t all)
 
   nothing_comes : (want : WantedPart) (b : Bool) → checked_reply want g.members.ring (if_comes b None) ≡ None
@@ -231,73 +241,73 @@ module _ (passes : ℕ → ℕ → ℕ → ℕ → ℕ → ℕ → Bool) (g : Gr
 
   module _ (tries : ℕ) where
     -- What comes of one part.
-    one_comes : (t : Part) → is_wanted (alone_plan a) t ≡ true → (part : Option CheckedPart) (n : ℕ)
-        → IsFirst (brings answer g.members.ring (job_for g a t)) tries part n
-        → (option_map (λ c. c.octets) part ≡ (fetched_one (attempt_comes passes asker loss) others tries a t).packet)
-        × (n ≡ (fetched_one (attempt_comes passes asker loss) others tries a t).attempts)
+    one_comes : (t : Part) → is_wanted (held_plan h) t ≡ true → (part : Option CheckedPart) (n : ℕ)
+        → IsFirst (brings answer g.members.ring (job t)) tries part n
+        → (option_map (λ c. c.octets) part ≡ (fetched_one (attempt_comes passes asker loss) others tries h t).packet)
+        × (n ≡ (fetched_one (attempt_comes passes asker loss) others tries h t).attempts)
     one_comes t w part n f = go (lent others t) refl where
       p : ℕ → Bool
-      p k = attempt_comes passes asker loss t (attempts_of (alone_plan a) t + k)
+      p k = attempt_comes passes asker loss t (attempts_of (held_plan h) t + k)
 
       whole : (octets : List ℕ) → lent others t ≡ Some octets → (b : Bool)
-          → checked_reply (want_of g a.store t) g.members.ring (if_comes b (Some octets))
-          ≡ cond b (Some (checked_part (want_of g a.store t) g.members.ring octets)) None
+          → checked_reply (want t) g.members.ring (if_comes b (Some octets))
+          ≡ cond b (Some (checked_part (want t) g.members.ring octets)) None
       whole octets e true =
-          passed_whole g (want_of g a.store t) octets (ring_verdict (want_of g a.store t) g.members.ring octets)
-          (packets_pass_for_members g logs a t octets are truly w (lends_true g logs others all t octets e))
+          passed_whole g (want t) octets (ring_verdict (want t) g.members.ring octets)
+          (packets_pass_for_holders g logs h t octets are truly w (lends_true g logs others all t octets e))
       whole octets e false = refl
 
       go : (o : Option (List ℕ)) → lent others t ≡ o
           → (option_map (λ c. c.octets) part
           ≡ cond
           (is_some (cond (is_some o)
-          (find (λ k. attempt_comes passes asker loss t (attempts_of (alone_plan a) t + k)) (numbers_from 1 tries))
+          (find (λ k. attempt_comes passes asker loss t (attempts_of (held_plan h) t + k)) (numbers_from 1 tries))
           None)) o None)
           × (n
           ≡ unwrap_or (cond (is_some o)
-          (find (λ k. attempt_comes passes asker loss t (attempts_of (alone_plan a) t + k)) (numbers_from 1 tries))
+          (find (λ k. attempt_comes passes asker loss t (attempts_of (held_plan h) t + k)) (numbers_from 1 tries))
           None) tries)
       go None e =
-          let r = none_comes (brings answer g.members.ring (job_for g a t)) tries part n (λ b.
+          let r = none_comes (brings answer g.members.ring (job t)) tries part n (λ b.
           brought t b
-          ∙ ap (λ (o : Option (List ℕ)). checked_reply (want_of g a.store t) g.members.ring
-          (if_comes (attempt_comes passes asker loss t (attempts_of (alone_plan a) t + b + 1)) o)) e
-          ∙ nothing_comes (want_of g a.store t)
-          (attempt_comes passes asker loss t (attempts_of (alone_plan a) t + b + 1))) f in
+          ∙ ap (λ (o : Option (List ℕ)). checked_reply (want t) g.members.ring
+          (if_comes (attempt_comes passes asker loss t (attempts_of (held_plan h) t + b + 1)) o)) e
+          ∙ nothing_comes (want t)
+          (attempt_comes passes asker loss t (attempts_of (held_plan h) t + b + 1))) f in
           (ap (option_map (λ (c : CheckedPart). c.octets)) r.0, r.1)
       go (Some octets) e =
-          let c : CheckedPart = checked_part (want_of g a.store t) g.members.ring octets in
+          let c : CheckedPart = checked_part (want t) g.members.ring octets in
           let r =
-          some_comes (brings answer g.members.ring (job_for g a t)) tries
-          (λ k. attempt_comes passes asker loss t (attempts_of (alone_plan a) t + k))
-          (checked_part (want_of g a.store t) g.members.ring octets) (λ b.
-          let k : attempts_of (alone_plan a) t + b + 1 ≡ attempts_of (alone_plan a) t + (b + 1) = omega arith in
+          some_comes (brings answer g.members.ring (job t)) tries
+          (λ k. attempt_comes passes asker loss t (attempts_of (held_plan h) t + k))
+          (checked_part (want t) g.members.ring octets) (λ b.
+          let k : attempts_of (held_plan h) t + b + 1 ≡ attempts_of (held_plan h) t + (b + 1) = omega arith in
           brought t b
-          ∙ ap (λ (o : Option (List ℕ)). checked_reply (want_of g a.store t) g.members.ring
-          (if_comes (attempt_comes passes asker loss t (attempts_of (alone_plan a) t + b + 1)) o)) e
-          ∙ whole octets e (attempt_comes passes asker loss t (attempts_of (alone_plan a) t + b + 1))
+          ∙ ap (λ (o : Option (List ℕ)). checked_reply (want t) g.members.ring
+          (if_comes (attempt_comes passes asker loss t (attempts_of (held_plan h) t + b + 1)) o)) e
+          ∙ whole octets e (attempt_comes passes asker loss t (attempts_of (held_plan h) t + b + 1))
           ∙ ap (λ (m : ℕ). cond (attempt_comes passes asker loss t m)
-          (let o : Option CheckedPart = Some (checked_part (want_of g a.store t) g.members.ring octets) in o) None) k)
+          (let o : Option CheckedPart = Some (checked_part (want t) g.members.ring octets) in o) None) k)
           part n f in (
             ap (option_map (λ (c : CheckedPart). c.octets)) r.0
                 ∙ octets_if
-                (is_some (find (λ k. attempt_comes passes asker loss t (attempts_of (alone_plan a) t + k))
-                (numbers_from 1 tries))) (checked_part (want_of g a.store t) g.members.ring octets) octets refl,
+                (is_some (find (λ k. attempt_comes passes asker loss t (attempts_of (held_plan h) t + k))
+                (numbers_from 1 tries))) (checked_part (want t) g.members.ring octets) octets refl,
             r.1,
           )
 
     -- What comes of all.
-    pub fetched_is : (ts : List Part) → ((t : Part) → In t ts → is_wanted (alone_plan a) t ≡ true)
+    pub fetched_is : (ts : List Part) → ((t : Part) → In t ts → is_wanted (held_plan h) t ≡ true)
         → (parts : List (Option CheckedPart)) (ns : List ℕ)
-        → AreFirst answer g.members.ring tries (map (job_for g a) ts) parts ns
-        → outcome_of (map (job_for g a) ts) parts ns ≡ fetched_all (attempt_comes passes asker loss) others tries a ts
+        → AreFirst answer g.members.ring tries (map job ts) parts ns
+        → outcome_of (map job ts) parts ns ≡ fetched_all (attempt_comes passes asker loss) others tries h ts
     fetched_is [] w [] [] f = refl
     fetched_is [] w [] (n ∷ ns) f = absurd f
     fetched_is [] w (p ∷ ps) ns f = absurd f
     fetched_is (t ∷ ts) w [] ns f = absurd f
     fetched_is (t ∷ ts) w (p ∷ ps) [] f = absurd f
     fetched_is (t ∷ ts) w (p ∷ ps) (n ∷ ns) f =
-        let part = want_part g a t in
+        let part = want_part g h t in
         let r = one_comes t (w t (inl refl)) p n f.0 in
         let packet = r.0 in
         let attempts = r.1 in
@@ -306,26 +316,26 @@ module _ (passes : ℕ → ℕ → ℕ → ℕ → ℕ → ℕ → Bool) (g : Gr
 
   -- Where every attempt comes through, one is enough.
   through : loss ≡ None → (t : Part)
-      → (fetched_one (attempt_comes passes asker loss) others 1 a t).packet ≡ lent others t
+      → (fetched_one (attempt_comes passes asker loss) others 1 h t).packet ≡ lent others t
   through e t =
-      ap (λ (l : Option ℕ). (fetched_one (attempt_comes passes asker l) others 1 a t).packet) e
+      ap (λ (l : Option ℕ). (fetched_one (attempt_comes passes asker l) others 1 h t).packet) e
       ∙ same (lent others t) where
         same : (o : Option (List ℕ))
             → cond (is_some (cond (is_some o) (let x : Option ℕ = Some 1 in x) None)) o None ≡ o
         same None = refl
         same (Some octets) = refl
 
-  pub lent_is : loss ≡ None → (ts : List Part) → ((t : Part) → In t ts → is_wanted (alone_plan a) t ≡ true)
+  pub lent_is : loss ≡ None → (ts : List Part) → ((t : Part) → In t ts → is_wanted (held_plan h) t ≡ true)
       → (parts : List (Option CheckedPart)) (ns : List ℕ)
-      → AreFirst answer g.members.ring 1 (map (job_for g a) ts) parts ns
-      → outcome_of (map (job_for g a) ts) parts (replicate (length (map (job_for g a) ts)) 0) ≡ lent_all others ts
+      → AreFirst answer g.members.ring 1 (map job ts) parts ns
+      → outcome_of (map job ts) parts (replicate (length (map job ts)) 0) ≡ lent_all others ts
   lent_is e [] w [] [] f = refl
   lent_is e [] w [] (n ∷ ns) f = absurd f
   lent_is e [] w (p ∷ ps) ns f = absurd f
   lent_is e (t ∷ ts) w [] ns f = absurd f
   lent_is e (t ∷ ts) w (p ∷ ps) [] f = absurd f
   lent_is e (t ∷ ts) w (p ∷ ps) (n ∷ ns) f =
-      let part = want_part g a t in
+      let part = want_part g h t in
       let packet = (one_comes 1 t (w t (inl refl)) p n f.0).0 ∙ through e t in
       let rest = lent_is e ts (λ u i. w u (inr i)) ps ns f.1 in
       λ i. record { part = part i; packet = packet i; attempts = 0 } ∷ rest i

@@ -29,7 +29,7 @@ use Rattle.group_model.proofs.PublicLaws.{parts_are_those, tests_those}
 use Rattle.repo_object.specs.Objects.{Post, IsPost, key_name}
 use Rattle.repo_object.specs.Wants.{want_record, want_index, want_segment}
 use Rattle.repo_member.specs.Groups.{GroupKeys, HaveKeys, node_at}
-use Rattle.repo_member.specs.Alone.{Alone, alone_plan, want_of, alone_accepts}
+use Rattle.repo_member.specs.Alone.{Alone, alone_holdings, alone_plan, want_of, alone_accepts}
 use Rattle.repo_member.specs.InGroup.{in_group, AreLogs, true_packet}
 use Rattle.repo_member.specs.TrueMembers.{IsTrueMember, true_listing, true_want}
 use Rattle.repo_member.proofs.PublicLaws.{true_stores, plans_alike, wants_published, wants_are_true, packets_are_there}
@@ -199,7 +199,7 @@ want_claimed g a f want h = go (claim_of (alone_plan a) f) h where
   go : (o : Option Part) → IsSomeAnd o (λ part. want ≡ want_of g a.store part) → o ≡ Some want.part
   go None k = absurd k
   go (Some t) k =
-      let part : want.part ≡ t = ap (λ (w : WantedPart). w.part) k ∙ want_part g a t in
+      let part : want.part ≡ t = ap (λ (w : WantedPart). w.part) k ∙ want_part g (alone_holdings a) t in
       ap (λ (u : Part). let o : Option Part = Some u in o) (sym part)
 
 -- The want of a claim is the group's.

@@ -9,7 +9,7 @@ use Rattle.sorted_lists.specs.SortedList.{keys, value_of}
 use Rattle.repo_plan.specs.Parts.{part_cmp, pair_of, record_of}
 use Rattle.repo_plan.specs.Plan.{PlanState, no_claims, is_wanted, is_unclaimed, is_claimed, is_claim_of}
 use Rattle.sorted_lists.proofs.Sets.{in_filter}
-use Rattle.group_model.specs.Publications.{all_parts}
+use Rattle.group_model.specs.Publications.{Logs, all_parts}
 use Rattle.group_model.specs.Member.{Member, member_holds, member_hides}
 use Rattle.group_model.specs.World.{World, no_member, member, logs, someone_holds}
 use Rattle.group_model.specs.Settles.{learnt_member, IsGathering, HasGathered}
@@ -29,6 +29,7 @@ use Rattle.repo_member.proofs.PublicLaws.{contains-value, plans_alike, true_stor
 use Rattle.bench_world.specs.Lending.{or_else, lent, lends}
 use Rattle.bench_world.specs.Truth.{stores}
 use Rattle.bench_world.specs.Gathering.{GainsParts, NothingLeft}
+use Rattle.bench_world.specs.MemberWords.{member_words}
 use Rattle.bench_world.specs.Settling.{IsPartlySettled}
 use Rattle.bench_world.specs.Worlds.{in_groups, drawing}
 
@@ -134,13 +135,21 @@ module _ (w : World) (group : IsSoundGroup w) (j : ℕ) (there : j < length w.me
 
 -- ---- a member that gathers
 
+-- Nothing of a member changes but what it stores.
+pub only_stored : (g : GroupKeys) (logs : Logs) (others : List Alone) (old new : Alone)
+    → GainsParts member_words g logs others old new → new ≡ record old { store = new.store }
+only_stored g logs others old new gains =
+    ap (λ (x : Alone). let y : Alone = record x { store = new.store } in y) gains.rest
+
 module _ (g : GroupKeys) (w : World) (group : IsSoundGroup w) (are : AreLogs g (logs w)) (j : ℕ)
     (there : j < length w.members) (others : List Alone) (old new : Alone)
     (learnt : in_group old ≡ learnt_member w (member w j))
     (someones : (t : Part) → (stores old t || lends others t) ≡ someone_holds w.members t) (number : new.number ≡ j)
-    (gains : GainsParts g (logs w) others old new) where
+    (gains : GainsParts member_words g (logs w) others old new) where
   same : in_group new ≡ record (learnt_member w (member w j)) { held = keys new.store }
-  same = ap in_group gains.same ∙ ap (λ (x : Member). let y : Member = record x { held = keys new.store } in y) learnt
+  same =
+      ap in_group (only_stored g (logs w) others old new gains)
+      ∙ ap (λ (x : Member). let y : Member = record x { held = keys new.store } in y) learnt
 
   stores_held : (t : Part) → stores old t ≡ member_holds (member w j) t
   stores_held t = ap (λ (x : Member). member_holds x t) learnt
@@ -158,7 +167,7 @@ module _ (g : GroupKeys) (w : World) (group : IsSoundGroup w) (are : AreLogs g (
   sound : IsSoundMember (logs w) j (in_group new)
   sound = subst (λ (k : ℕ). IsSoundMember (logs w) k (in_group new)) number gains.truly.sound
 
-  module _ (left : NothingLeft others new) where
+  module _ (left : NothingLeft member_words others new) where
     unclaimed : (t : Part) → is_wanted (alone_plan new) t ≡ true → is_unclaimed (alone_plan new) t ≡ true
     unclaimed t wanted = and_from (is_wanted (alone_plan new) t) (not (is_claimed (alone_plan new) t)) wanted
         (not_from_false (is_claimed (alone_plan new) t)

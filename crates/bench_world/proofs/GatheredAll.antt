@@ -20,17 +20,19 @@ use Rattle.group_model.proofs.Lists.{from_filter}
 use Rattle.group_model.proofs.Parts.{all_parts_rise}
 use Rattle.group_model.proofs.Settles.{comes}
 use Rattle.repo_member.specs.Groups.{GroupKeys}
-use Rattle.repo_member.specs.Alone.{Alone}
+use Rattle.repo_member.specs.Alone.{Alone, alone_holdings}
 use Rattle.repo_member.specs.InGroup.{in_group, AreLogs}
 use Rattle.repo_member.specs.TrueMembers.{IsTrueMember}
 use Rattle.bench_world.specs.Lending.{lends}
 use Rattle.bench_world.specs.Truth.{stores, TriedFew, AllTriedFew}
+use Rattle.bench_world.specs.MemberWords.{member_words}
 use Rattle.bench_world.specs.Gathering.{one_each, Counts, GainsParts, NothingLeft}
 use Rattle.bench_world.specs.Settling.{gain_sum, AreGathering, GatheredSoFar, IsPartlySettled, ArePartlySettled}
 use Rattle.bench_world.specs.Worlds.{nobody, alone_at, others_than, in_groups, AreTrueMembers, MembersAreNumbered}
 use Rattle.bench_world.proofs.SetSums.{sum_insert_keys, ones}
+use Rattle.bench_world.specs.MembersHold.{members_hold}
 use Rattle.bench_world.proofs.Gathers.{tried_still}
-use Rattle.bench_world.proofs.Gathered.{lends_held, partly_settled, gathering, settled, someones_after}
+use Rattle.bench_world.proofs.Gathered.{lends_held, partly_settled, only_stored, gathering, settled, someones_after}
 
 -- ---- one of them
 
@@ -127,7 +129,10 @@ module _ (g : GroupKeys) (w : World) (group : IsSoundGroup w) (are : AreLogs g (
 
   module _ (j : ℕ) (mid : List Alone) (so_far : GatheredSoFar g w begun j mid) (inside : j < length mid)
       (new : List Alone) (set_is : new ≡ set mid j (alone_at new j))
-      (gains : GainsParts g (logs w) (others_than j mid) (alone_at mid j) (alone_at new j)) where
+      (gains : GainsParts member_words g (logs w) (others_than j mid) (alone_at mid j) (alone_at new j)) where
+    stored : alone_at new j ≡ record (alone_at mid j) { store = (alone_at new j).store }
+    stored = only_stored g (logs w) (others_than j mid) (alone_at mid j) (alone_at new j) gains
+
     there : j < length w.members
     there = omega (arith, inside, so_far.all.len, long)
 
@@ -141,7 +146,7 @@ module _ (g : GroupKeys) (w : World) (group : IsSoundGroup w) (are : AreLogs g (
         ∙ so_far.all.someones t
 
     number : (alone_at new j).number ≡ j
-    number = ap (λ (a : Alone). a.number) gains.same ∙ so_far.all.numbers j inside
+    number = ap (λ (a : Alone). a.number) stored ∙ so_far.all.numbers j inside
 
     new_len : length new ≡ length mid
     new_len = ap length set_is ∙ length-set mid j (alone_at new j)
@@ -169,10 +174,12 @@ module _ (g : GroupKeys) (w : World) (group : IsSoundGroup w) (are : AreLogs g (
       ];
       tried = λ i l. elim (cases_eq i j) [
         | inl same ↦
-            subst (λ (k : ℕ). TriedFew (alone_at new k)) (sym same)
-            (tried_still g (logs w) (others_than j mid) (alone_at mid j) (alone_at new j) gains
-            (so_far.all.tried j inside))
-        | inr other ↦ subst TriedFew (sym (elsewhere i other)) (so_far.all.tried i (omega (arith, l, new_len)))
+            subst (λ (k : ℕ). TriedFew (alone_holdings (alone_at new k))) (sym same)
+            (tried_still member_words members_hold g (logs w) (others_than j mid) (alone_at mid j) (alone_at new j)
+            gains (so_far.all.tried j inside))
+        | inr other ↦
+            subst (λ (a : Alone). TriedFew (alone_holdings a)) (sym (elsewhere i other))
+            (so_far.all.tried i (omega (arith, l, new_len)))
       ];
       each = λ i l. elim (cases_eq i j) [
         | inl same ↦ subst (λ (k : ℕ). IsGathering w (member w k) (in_group (alone_at new k))) (sym same)
@@ -192,12 +199,12 @@ module _ (g : GroupKeys) (w : World) (group : IsSoundGroup w) (are : AreLogs g (
         | inl same ↦ record {
           machine =
               ap (λ (k : ℕ). (alone_at new k).machine) same
-              ∙ ap (λ (a : Alone). a.machine) gains.same
+              ∙ ap (λ (a : Alone). a.machine) stored
               ∙ (so_far.all.counts j).machine
               ∙ ap (λ (k : ℕ). (alone_at begun k).machine) (sym same);
           attempts =
               ap (λ (k : ℕ). (alone_at new k).attempts) same
-              ∙ ap (λ (a : Alone). a.attempts) gains.same
+              ∙ ap (λ (a : Alone). a.attempts) stored
               ∙ (so_far.all.counts j).attempts
               ∙ ap (λ (k : ℕ). (alone_at begun k).attempts) (sym same);
         }
@@ -208,7 +215,7 @@ module _ (g : GroupKeys) (w : World) (group : IsSoundGroup w) (are : AreLogs g (
       ];
     }
 
-    module _ (left : NothingLeft (others_than j mid) (alone_at new j)) where
+    module _ (left : NothingLeft member_words (others_than j mid) (alone_at new j)) where
       settled_here : in_group (alone_at new j) ≡ settled_member w (member w j)
       settled_here =
           settled g w group are j there (others_than j mid) (alone_at mid j) (alone_at new j) learnt someones number
@@ -227,7 +234,8 @@ module _ (g : GroupKeys) (w : World) (group : IsSoundGroup w) (are : AreLogs g (
 
       -- However parts count, so much more came.
       pub sum_more : (weight : Part → ℕ) (n came : ℕ) → n ≡ gain_sum weight w (take j w.members)
-          → Counts weight came (alone_at mid j) (alone_at new j) → n + came ≡ gain_sum weight w (take (j + 1) w.members)
+          → Counts member_words weight came (alone_at mid j) (alone_at new j)
+          → n + came ≡ gain_sum weight w (take (j + 1) w.members)
       sum_more weight n came so_many count =
           let held : keys (alone_at mid j).store ≡ (member w j).held = ap (λ (m : Member). m.held) learnt in
           let rises : Rises part_cmp (member w j).held = (group.members j there).in_order.held in

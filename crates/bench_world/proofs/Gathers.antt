@@ -1,34 +1,34 @@
--- What phases and rounds make of a member that gathers.
-use Rattle.std.proofs.Common.{◌≡◌, inl, inr, ℕ, ◌+◌, ◌*◌, ◌≤◌, ◌<◌, Bool, true, false, cond, ◌||◌, List, [], ◌∷◌}
+-- What phases and rounds make of who gathers.
+use Rattle.std.proofs.Common.{◌≡◌, inl, inr, ℕ, ◌+◌, ◌*◌, ◌≤◌, ◌<◌, Bool, true, false, cond, ◌||◌, List, []}
 use Rattle.std.proofs.Common.{length, Option, Some, None, refl, sym, ap, ◌∙◌, subst, arith}
 use Rattle.std.specs.Prelude.{is_some, unwrap_or, filter, sum_by, slice_index_or, IfSome, IsSomeAnd}
+use Rattle.std.specs.List.{All}
 use Rattle.std.proofs.lemmas.Bool.{true≢false, and_parts, or_cases, or_right}
 use Rattle.std.proofs.lemmas.List.Sums.{sum_by-le}
 use Rattle.repo_plan.specs.declared.part.Part.{Part}
-use Rattle.sorted_lists.specs.SortedList.{keys, contains, Rises}
-use Rattle.repo_plan.specs.Parts.{part_cmp, pair_of}
-use Rattle.repo_plan.specs.Plan.{PlanState, is_wanted, is_unclaimed, is_after, attempts_of}
+use Rattle.sorted_lists.specs.SortedList.{contains, Rises}
+use Rattle.repo_plan.specs.Parts.{part_cmp}
+use Rattle.repo_plan.specs.Plan.{is_wanted, is_unclaimed, is_after, attempts_of}
 use Rattle.repo_plan.proofs.Orders.{exact_parts}
+use Rattle.sorted_lists.specs.SortedList.{value_of}
 use Rattle.sorted_lists.proofs.Sets.{In, from_map, contains_in, in_contains, rises_filter}
+use Rattle.repo_holdings.specs.HoldingsState.{held_plan}
+use Rattle.repo_holdings.specs.Taking.{Fetched}
 use Rattle.group_model.specs.Publications.{Logs, all_parts}
-use Rattle.group_model.specs.Member.{Member, insert_keys}
-use Rattle.group_model.proofs.Lists.{from_filter, contains-insert_keys}
+use Rattle.group_model.specs.Member.{insert_keys}
+use Rattle.group_model.proofs.Lists.{from_filter, contains-insert_keys, rises_insert_keys}
 use Rattle.group_model.proofs.Parts.{all_parts_rise, from_all_parts}
-use Rattle.group_model.proofs.Members.{known_published}
 use Rattle.group_model.proofs.Among.{in_all_parts}
-use Rattle.group_model.proofs.SortedSets.{shorter}
-use Rattle.group_model.proofs.Plans.{wanted_parts}
+use Rattle.group_model.proofs.SortedSets.{same_members, shorter}
 use Rattle.repo_member.specs.Groups.{GroupKeys}
-use Rattle.repo_member.specs.Alone.{Alone, Fetched, alone_plan, alone_takes, with_fetched}
-use Rattle.repo_member.specs.InGroup.{in_group, AreLogs, AreTries, true_packet}
-use Rattle.repo_member.specs.TrueMembers.{IsTrueMember}
-use Rattle.repo_member.specs.TrueChanges.{IsTrueArrival}
-use Rattle.repo_member.proofs.PublicLaws.{takes_alike, plans_alike, true_is_alone, true_stores, takes_true}
-use Rattle.repo_member.proofs.PublicLaws.{wants_published, packets_are_there}
+use Rattle.repo_member.specs.Alone.{Alone}
+use Rattle.repo_member.specs.InGroup.{AreLogs, true_packet}
+use Rattle.repo_member.proofs.PublicLaws.{packets_are_there, holders_want_published}
 use Rattle.bench_world.specs.Worlds.{AreTrueMembers}
 use Rattle.bench_world.specs.Sizes.{size_of}
-use Rattle.bench_world.specs.Truth.{stores, TriedFew}
+use Rattle.bench_world.specs.Truth.{TriedFew}
 use Rattle.bench_world.specs.Lending.{lent, lends}
+use Rattle.bench_world.specs.Holders.{HolderWords, AreHolders, CameForHolder, CameToNothing, has}
 use Rattle.bench_world.specs.Gathering.{next_parts, lent_one, lent_all, one_each, held_sum, Counts, IsPlaceIn}
 use Rattle.bench_world.specs.Gathering.{GainsParts, NothingLeft, RoundSoFar}
 use Rattle.bench_world.proofs.SetSums.{sum_insert_keys, ones}
@@ -36,225 +36,224 @@ use Rattle.bench_world.proofs.NextParts.{all_from_in, none_pass, next_rise, next
 use Rattle.bench_world.proofs.NextParts.{next_none, place_later}
 use Rattle.bench_world.proofs.Brought.{lends_true, came_lent}
 
--- ---- parts that there are
+-- A packet has at most 8,800 octets.
+pub size_short : (g : GroupKeys) (logs : Logs) (are : AreLogs g logs) (t : Part) → size_of g logs t ≤ 8800
+size_short g logs are t = go (contains part_cmp (all_parts logs) t) refl where
+  packet : (o : Option (List ℕ)) → IsSomeAnd o (λ octets. length octets ≤ 8800) → length (unwrap_or o []) ≤ 8800
+  packet None h = omega arith
+  packet (Some octets) h = h
 
-module _ (g : GroupKeys) (logs : Logs) (are : AreLogs g logs) where
-  pub stored_is : (a : Alone) → IsTrueMember g logs a → (t : Part) → stores a t ≡ true → In t (all_parts logs)
-  stored_is a truly t h =
-      let held = truly.sound.held t h in
-      in_all_parts logs t
-      (record { there = known_published logs a.known (pair_of t) truly.sound.known held.known; counted = held.counted })
+  go : (b : Bool) → contains part_cmp (all_parts logs) t ≡ b
+      → cond b (length (unwrap_or (true_packet g logs t) [])) 0 ≤ 8800
+  go true e =
+      packet (true_packet g logs t)
+      (packets_are_there g logs t are (from_all_parts logs t (in_contains exact_parts (all_parts logs) t e)))
+  go false e = omega arith
 
-  pub open_is : (a : Alone) → IsTrueMember g logs a → (t : Part) → is_unclaimed (alone_plan a) t ≡ true
-      → In t (all_parts logs)
-  open_is a truly t u =
-      in_all_parts logs t (wants_published g logs a t are truly (and_parts (is_wanted (alone_plan a) t) _ u).0)
+module _ {H : Type 0} (words : HolderWords H) (holders : AreHolders words) where
+  -- ---- parts that there are
 
-  few_stored : (a : Alone) → IsTrueMember g logs a → length (keys a.store) ≤ length (all_parts logs)
-  few_stored a truly =
-      shorter exact_parts (keys a.store) (all_parts logs) (true_is_alone g logs a truly).in_order (all_parts_rise logs)
-      (λ t i. stored_is a truly t (contains_in exact_parts (keys a.store) t i))
+  module _ (g : GroupKeys) (logs : Logs) (are : AreLogs g logs) where
+    open_is : (s : H) → words.is_true g logs s → (t : Part) → is_unclaimed (held_plan (words.holdings s)) t ≡ true
+        → In t (all_parts logs)
+    open_is s truly t u =
+        in_all_parts logs t
+        (holders_want_published g logs (words.holdings s) t are (holders.holder g logs s truly)
+        (and_parts (is_wanted (held_plan (words.holdings s)) t) _ u).0)
 
-  pub few_held : (a : Alone) → IsTrueMember g logs a → held_sum one_each a ≤ length (all_parts logs)
-  few_held a truly =
-      let n : held_sum one_each a ≡ length (keys a.store) = ones (keys a.store) in
-      let most : length (keys a.store) ≤ length (all_parts logs) = few_stored a truly in
-      omega (arith, n, most)
+    few_stored : (s : H) → words.is_true g logs s → length (words.held s) ≤ length (all_parts logs)
+    few_stored s truly =
+        shorter exact_parts (words.held s) (all_parts logs) (holders.in_order g logs s truly) (all_parts_rise logs)
+        (λ t i. in_all_parts logs t (holders.published g logs s t truly (contains_in exact_parts (words.held s) t i)))
 
-  -- A packet has at most 8,800 octets.
-  pub size_short : (t : Part) → size_of g logs t ≤ 8800
-  size_short t = go (contains part_cmp (all_parts logs) t) refl where
-    packet : (o : Option (List ℕ)) → IsSomeAnd o (λ octets. length octets ≤ 8800) → length (unwrap_or o []) ≤ 8800
-    packet None h = omega arith
-    packet (Some octets) h = h
+    pub few_held : (s : H) → words.is_true g logs s → held_sum words one_each s ≤ length (all_parts logs)
+    few_held s truly =
+        let n : held_sum words one_each s ≡ length (words.held s) = ones (words.held s) in
+        let most : length (words.held s) ≤ length (all_parts logs) = few_stored s truly in
+        omega (arith, n, most)
 
-    go : (b : Bool) → contains part_cmp (all_parts logs) t ≡ b
-        → cond b (length (unwrap_or (true_packet g logs t) [])) 0 ≤ 8800
-    go true e =
-        packet (true_packet g logs t)
-        (packets_are_there g logs t are (from_all_parts logs t (in_contains exact_parts (all_parts logs) t e)))
-    go false e = omega arith
+    pub few_octets : (s : H) → words.is_true g logs s
+        → held_sum words (size_of g logs) s ≤ length (all_parts logs) * 8800
+    few_octets s truly =
+        let sum : held_sum words (size_of g logs) s ≤ length (words.held s) * 8800 =
+        sum_by-le (size_of g logs) 8800 (words.held s)
+        (λ k d l. size_short g logs are (slice_index_or (words.held s) k d)) in
+        let most : length (words.held s) ≤ length (all_parts logs) = few_stored s truly in
+        omega (arith, sum, most)
 
-  pub few_octets : (a : Alone) → IsTrueMember g logs a → held_sum (size_of g logs) a ≤ length (all_parts logs) * 8800
-  few_octets a truly =
-      let sum : held_sum (size_of g logs) a ≤ length (keys a.store) * 8800 =
-      sum_by-le (size_of g logs) 8800 (keys a.store) (λ k d l. size_short (slice_index_or (keys a.store) k d)) in
-      let most : length (keys a.store) ≤ length (all_parts logs) = few_stored a truly in
-      omega (arith, sum, most)
-
--- ---- a phase
-
--- Where no attempt is counted, attempts stay, and so does all but what is stored.
-same_takes : (others : List Alone) (ts : List Part) (a : Alone)
-    → alone_takes (lent_all others ts) a ≡ record a { store = (alone_takes (lent_all others ts) a).store }
-same_takes others [] a = refl
-same_takes others (t ∷ ts) a = same_takes others ts (record a { store = with_fetched t (lent others t) a.store })
-
-nothing_taken : (others : List Alone) (ts : List Part) (a : Alone) → ((t : Part) → In t ts → lends others t ≡ false)
-    → alone_takes (lent_all others ts) a ≡ a
-nothing_taken others [] a none = refl
-nothing_taken others (t ∷ ts) a none =
-    go (lent others t) (none t (inl refl)) ∙ nothing_taken others ts a (λ u i. none u (inr i)) where
-      go : (o : Option (List ℕ)) → is_some o ≡ false
-          → alone_takes (lent_all others ts) (record a { store = with_fetched t o a.store })
-          ≡ alone_takes (lent_all others ts) a
-      go None e = refl
-      go (Some octets) e = absurd (true≢false e)
-
-module _ (g : GroupKeys) (logs : Logs) (others : List Alone) where
   -- What was tried few times is still.
-  pub tried_still : (a b : Alone) → GainsParts g logs others a b → TriedFew a → TriedFew b
-  tried_still a b gains few t =
-      let h : attempts_of (alone_plan a) t + 16 < 2097152 = few t in
-      let e : attempts_of (alone_plan b) t ≡ attempts_of (alone_plan a) t =
-      ap (λ (x : Alone). attempts_of (alone_plan x) t) gains.same in
+  pub tried_still : (g : GroupKeys) (logs : Logs) (others : List Alone) (a b : H)
+      → GainsParts words g logs others a b → TriedFew (words.holdings a) → TriedFew (words.holdings b)
+  tried_still g logs others a b gains few t =
+      let h : attempts_of (held_plan (words.holdings a)) t + 16 < 2097152 = few t in
+      let tried : (words.holdings b).attempts ≡ (words.holdings a).attempts =
+      holders.attempts b ∙ ap (λ (x : H). (words.holdings x).attempts) gains.rest ∙ sym (holders.attempts a) in
+      let e : attempts_of (held_plan (words.holdings b)) t ≡ attempts_of (held_plan (words.holdings a)) t =
+      ap (λ (ns : List (Part × ℕ)). unwrap_or (value_of part_cmp ns t) 0) tried in
       omega (arith, h, e)
 
-module _ (g : GroupKeys) (logs : Logs) (others : List Alone) (are : AreLogs g logs)
-    (all : AreTrueMembers g logs others) where
-  module _ (a : Alone) (truly : IsTrueMember g logs a) (ts : List Part)
-      (all_open : (t : Part) → In t ts → is_unclaimed (alone_plan a) t ≡ true) where
-    tries : AreTries (λ t. 0) (lent_all others ts)
-    tries = all_from_in (λ (x : Fetched). x.attempts ≡ 0) (lent_all others ts) (λ x i.
-        let r : (t : Part) × (In t ts) × (x ≡ lent_one others t) = from_map (lent_one others) ts x i in
-        ap (λ (y : Fetched). y.attempts) r.2)
+  module _ (g : GroupKeys) (logs : Logs) (others : List Alone) (are : AreLogs g logs)
+      (all : AreTrueMembers g logs others) where
+    -- ---- a phase
 
-    keys_taken : keys (alone_takes (lent_all others ts) a).store ≡ insert_keys (filter (lends others) ts) (keys a.store)
-    keys_taken =
-        ap (λ (m : Member). m.held)
-        (takes_alike (λ t. 0) (lent_all others ts) a (true_is_alone g logs a truly).in_order tries)
-        ∙ ap (λ (us : List Part). insert_keys us (keys a.store)) (came_lent others ts)
+    module _ (a : H) (truly : words.is_true g logs a) (ts : List Part)
+        (all_open : (t : Part) → In t ts → is_unclaimed (held_plan (words.holdings a)) t ≡ true) where
+      -- What is lent comes truly.
+      come : All (CameForHolder g logs (words.holdings a)) (lent_all others ts)
+      come = all_from_in (CameForHolder g logs (words.holdings a)) (lent_all others ts) (λ x i.
+          let r : (t : Part) × (In t ts) × (x ≡ lent_one others t) = from_map (lent_one others) ts x i in
+          subst (CameForHolder g logs (words.holdings a)) (sym r.2)
+          (record { unclaimed = all_open r.0 r.1; packet = one r.0 (lent others r.0) refl })) where
+            one : (t : Part) (o : Option (List ℕ)) → lent others t ≡ o
+                → IfSome o (λ octets. true_packet g logs t ≡ Some octets)
+            one t None e = tt
+            one t (Some octets) e = lends_true g logs others all t octets e
 
-    came_open : (t : Part) → In t (filter (lends others) ts) → is_unclaimed (alone_plan a) t ≡ true
-    came_open t i = all_open t (from_filter (lends others) ts t i).0
+      no_tries : All (λ (x : Fetched). x.attempts ≡ 0) (lent_all others ts)
+      no_tries = all_from_in (λ (x : Fetched). x.attempts ≡ 0) (lent_all others ts) (λ x i.
+          let r : (t : Part) × (In t ts) × (x ≡ lent_one others t) = from_map (lent_one others) ts x i in
+          ap (λ (y : Fetched). y.attempts) r.2)
 
-    taken_truly : IsTrueMember g logs (alone_takes (lent_all others ts) a)
-    taken_truly =
-        takes_true g logs (lent_all others ts) a are
-        (all_from_in (λ (x : Fetched). IfSome x.packet (IsTrueArrival g logs a x.part)) (lent_all others ts) (λ x i.
-        let r : (t : Part) × (In t ts) × (x ≡ lent_one others t) = from_map (lent_one others) ts x i in
-        subst (λ (y : Fetched). IfSome y.packet (IsTrueArrival g logs a y.part)) (sym r.2)
-        (one r.0 (all_open r.0 r.1) (lent others r.0) refl))) truly where
-          one : (t : Part) → is_unclaimed (alone_plan a) t ≡ true → (o : Option (List ℕ)) → lent others t ≡ o
-              → IfSome o (IsTrueArrival g logs a t)
-          one t u None e = tt
-          one t u (Some octets) e = record { unclaimed = u; packet = lends_true g logs others all t octets e }
+      taken_truly : words.is_true g logs (words.takes (lent_all others ts) a)
+      taken_truly = holders.takes_truly g logs (lent_all others ts) a are come truly
 
-    taken_stores : (t : Part)
-        → stores (alone_takes (lent_all others ts) a) t ≡ (contains part_cmp (filter (lends others) ts) t || stores a t)
-    taken_stores t =
-        ap (λ (ks : List Part). contains part_cmp ks t) keys_taken
-        ∙ contains-insert_keys (filter (lends others) ts) (keys a.store) t
+      taken_has : (t : Part) → has words (words.takes (lent_all others ts) a) t
+          ≡ (contains part_cmp (filter (lends others) ts) t || has words a t)
+      taken_has t =
+          holders.takes_those g logs (lent_all others ts) a t are come truly
+          ∙ ap (λ (us : List Part). contains part_cmp us t || has words a t) (came_lent others ts)
 
-    pub phase_gains : GainsParts g logs others a (alone_takes (lent_all others ts) a)
-    phase_gains = record {
-      same = same_takes others ts a;
-      truly = taken_truly;
-      kept = λ t h. taken_stores t ∙ or_right (contains part_cmp (filter (lends others) ts) t) (stores a t) h;
-      came = λ t h. elim
-          (or_cases (contains part_cmp (filter (lends others) ts) t) (stores a t) (sym (taken_stores t) ∙ h)) [
-            | inl new ↦
-                inr (from_filter (lends others) ts t (in_contains exact_parts (filter (lends others) ts) t new)).1
-            | inr was ↦ inl was
-          ];
+      held_taken : words.held (words.takes (lent_all others ts) a)
+          ≡ insert_keys (filter (lends others) ts) (words.held a)
+      held_taken =
+          same_members exact_parts (words.held (words.takes (lent_all others ts) a))
+          (insert_keys (filter (lends others) ts) (words.held a))
+          (holders.in_order g logs (words.takes (lent_all others ts) a) taken_truly)
+          (rises_insert_keys (filter (lends others) ts) (words.held a) (holders.in_order g logs a truly))
+          (λ t. taken_has t ∙ sym (contains-insert_keys (filter (lends others) ts) (words.held a) t))
+
+      pub phase_gains : GainsParts words g logs others a (words.takes (lent_all others ts) a)
+      phase_gains = record {
+        rest = holders.rest_stays (lent_all others ts) a no_tries;
+        truly = taken_truly;
+        kept = λ t h. taken_has t ∙ or_right (contains part_cmp (filter (lends others) ts) t) (has words a t) h;
+        came = λ t h. elim
+            (or_cases (contains part_cmp (filter (lends others) ts) t) (has words a t) (sym (taken_has t) ∙ h)) [
+              | inl new ↦
+                  inr (from_filter (lends others) ts t (in_contains exact_parts (filter (lends others) ts) t new)).1
+              | inr was ↦ inl was
+            ];
+      }
+
+      not_held : (t : Part) → In t (filter (lends others) ts) → has words a t ≡ false
+      not_held t i =
+          holders.not_held a t
+          (and_parts (is_wanted (held_plan (words.holdings a)) t) _
+          (all_open t (from_filter (lends others) ts t i).0)).0
+
+      -- What is held grows by what came, however parts count.
+      pub phase_counts : (weight : Part → ℕ) → Rises part_cmp ts
+          → Counts words weight (sum_by weight (filter (lends others) ts)) a (words.takes (lent_all others ts) a)
+      phase_counts weight rise =
+          sym (ap (sum_by weight) held_taken
+          ∙ sum_insert_keys weight (filter (lends others) ts) (words.held a)
+          (rises_filter exact_parts.total (lends others) ts rise) (holders.in_order g logs a truly) not_held)
+
+      pub phase_nothing : length (filter (lends others) ts) ≡ 0 → words.takes (lent_all others ts) a ≡ a
+      phase_nothing e =
+          holders.takes_nothing (lent_all others ts) a
+          (all_from_in CameToNothing (lent_all others ts) (λ x i.
+          let r : (t : Part) × (In t ts) × (x ≡ lent_one others t) = from_map (lent_one others) ts x i in
+          subst CameToNothing (sym r.2)
+          (record { packet = none (lent others r.0) (none_pass (lends others) ts e r.0 r.1); attempts = refl }))) where
+            none : (o : Option (List ℕ)) → is_some o ≡ false → o ≡ None
+            none None e = refl
+            none (Some octets) e = absurd (true≢false e)
+
+    -- ---- rounds
+
+    pub gains_none : (a : H) → words.is_true g logs a → GainsParts words g logs others a a
+    gains_none a truly = record { rest = refl; truly = truly; kept = λ t h. h; came = λ t h. inl h }
+
+    pub gains_both : (a b c : H) → GainsParts words g logs others a b → GainsParts words g logs others b c
+        → GainsParts words g logs others a c
+    gains_both a b c h k = record {
+      rest = k.rest ∙ h.rest;
+      truly = k.truly;
+      kept = λ t s. k.kept t (h.kept t s);
+      came = λ t s. elim (k.came t s) [ inl was ↦ h.came t was | inr new ↦ inr new ];
     }
 
-    not_stored : (t : Part) → In t (filter (lends others) ts) → contains part_cmp (keys a.store) t ≡ false
-    not_stored t i =
-        (wanted_parts logs (in_group a) t
-        (subst (λ (p : PlanState). is_wanted p t ≡ true) (plans_alike g logs a are (true_stores g logs a truly))
-        (and_parts (is_wanted (alone_plan a) t) _ (came_open t i)).0)).not_held
+    pub counts_both : (weight : Part → ℕ) (n m : ℕ) (a b c : H) → Counts words weight n a b
+        → Counts words weight m b c → Counts words weight (n + m) a c
+    counts_both weight n m a b c h k = omega (arith, h, k)
 
-    -- What is held grows by what came, however parts count.
-    pub phase_counts : (weight : Part → ℕ) → Rises part_cmp ts
-        → Counts weight (sum_by weight (filter (lends others) ts)) a (alone_takes (lent_all others ts) a)
-    phase_counts weight rise =
-        sym (ap (sum_by weight) keys_taken
-        ∙ sum_insert_keys weight (filter (lends others) ts) (keys a.store)
-        (rises_filter exact_parts.total (lends others) ts rise) (true_is_alone g logs a truly).in_order not_stored)
+    pub round_begins : (a : H) → words.is_true g logs a → RoundSoFar words g logs others None 0 a a
+    round_begins a truly =
+        record { gains = gains_none a truly; count = omega arith; still = λ e t u past. absurd (true≢false past) }
 
-    pub phase_nothing : length (filter (lends others) ts) ≡ 0 → alone_takes (lent_all others ts) a ≡ a
-    phase_nothing e = nothing_taken others ts a (none_pass (lends others) ts e)
+    module _ (after : Option Part) (kept : ℕ) (old mid : H) (so_far : RoundSoFar words g logs others after kept old mid)
+        (new : H) (came : ℕ)
+        (new_is : new ≡ words.takes (lent_all others (next_parts after (words.holdings mid))) mid)
+        (came_is : came ≡ length (filter (lends others) (next_parts after (words.holdings mid)))) where
+      abbrev asked : List Part
+      asked = next_parts after (words.holdings mid)
 
-  -- ---- rounds
+      all_open : (t : Part) → In t asked → is_unclaimed (held_plan (words.holdings mid)) t ≡ true
+      all_open = next_unclaimed (words.holdings mid) after
 
-  pub gains_none : (a : Alone) → IsTrueMember g logs a → GainsParts g logs others a a
-  gains_none a truly = record { same = refl; truly = truly; kept = λ t h. h; came = λ t h. inl h }
+      phase : GainsParts words g logs others mid new
+      phase =
+          subst (GainsParts words g logs others mid) (sym new_is)
+          (phase_gains mid so_far.gains.truly asked all_open)
 
-  pub gains_both : (a b c : Alone) → GainsParts g logs others a b → GainsParts g logs others b c
-      → GainsParts g logs others a c
-  gains_both a b c h k = record {
-    same = k.same ∙ ap (λ (x : Alone). let y : Alone = record x { store = c.store } in y) h.same;
-    truly = k.truly;
-    kept = λ t s. k.kept t (h.kept t s);
-    came = λ t s. elim (k.came t s) [ inl was ↦ h.came t was | inr new ↦ inr new ];
-  }
+      pub went_counts : (weight : Part → ℕ) (n : ℕ) → n ≡ sum_by weight (filter (lends others) asked)
+          → Counts words weight n mid new
+      went_counts weight n e =
+          ap (λ (k : ℕ). k + held_sum words weight mid) e
+          ∙ subst (Counts words weight (sum_by weight (filter (lends others) asked)) mid) (sym new_is)
+          (phase_counts mid so_far.gains.truly asked all_open weight (next_rise (words.holdings mid) after))
 
-  pub counts_both : (weight : Part → ℕ) (n m : ℕ) (a b c : Alone) → Counts weight n a b → Counts weight m b c
-      → Counts weight (n + m) a c
-  counts_both weight n m a b c h k = omega (arith, h, k)
+      pub went_gains : GainsParts words g logs others old new
+      went_gains = gains_both old mid new so_far.gains phase
 
-  pub round_begins : (a : Alone) → IsTrueMember g logs a → RoundSoFar g logs others None 0 a a
-  round_begins a truly =
-      record { gains = gains_none a truly; count = omega arith; still = λ e t u past. absurd (true≢false past) }
+      pub went_count : Counts words one_each (kept + came) old new
+      went_count =
+          counts_both one_each kept came old mid new so_far.count
+          (went_counts one_each came (came_is ∙ sym (ones (filter (lends others) asked))))
 
-  module _ (after : Option Part) (kept : ℕ) (old mid : Alone) (so_far : RoundSoFar g logs others after kept old mid)
-      (new : Alone) (came : ℕ) (new_is : new ≡ alone_takes (lent_all others (next_parts after mid)) mid)
-      (came_is : came ≡ length (filter (lends others) (next_parts after mid))) where
-    phase : GainsParts g logs others mid new
-    phase =
-        subst (GainsParts g logs others mid) (sym new_is)
-        (phase_gains mid so_far.gains.truly (next_parts after mid) (next_unclaimed mid after))
+      stays : kept + came ≡ 0 → new ≡ mid
+      stays e =
+          new_is
+          ∙ phase_nothing mid so_far.gains.truly asked all_open (omega (arith, e, came_is))
 
-    pub went_counts : (weight : Part → ℕ) (n : ℕ) → n ≡ sum_by weight (filter (lends others) (next_parts after mid))
-        → Counts weight n mid new
-    went_counts weight n e =
-        ap (λ (k : ℕ). k + held_sum weight mid) e
-        ∙ subst (Counts weight (sum_by weight (filter (lends others) (next_parts after mid))) mid) (sym new_is)
-        (phase_counts mid so_far.gains.truly (next_parts after mid) (next_unclaimed mid after) weight
-        (next_rise mid after))
+      still_open : kept + came ≡ 0 → (t : Part) → is_unclaimed (held_plan (words.holdings new)) t ≡ true
+          → is_unclaimed (held_plan (words.holdings mid)) t ≡ true
+      still_open e t u = subst (λ (b : H). is_unclaimed (held_plan (words.holdings b)) t ≡ true) (stays e) u
 
-    pub went_gains : GainsParts g logs others old new
-    went_gains = gains_both old mid new so_far.gains phase
+      pub went_on : (place : Part) (o : Option Part) → o ≡ Some place → IsPlaceIn asked o
+          → RoundSoFar words g logs others (Some place) (kept + came) old new
+      went_on place o is at = record {
+        gains = went_gains;
+        count = went_count;
+        still = λ e t u past. elim
+            (next_covers (words.holdings mid) after place (subst (IsPlaceIn asked) is at) t (still_open e t u) past) [
+              | inl before ↦ so_far.still (omega (arith, e)) t (still_open e t u) before
+              | inr i ↦ none_pass (lends others) asked (omega (arith, e, came_is)) t i
+            ];
+      }
 
-    pub went_count : Counts one_each (kept + came) old new
-    went_count =
-        counts_both one_each kept came old mid new so_far.count
-        (went_counts one_each came (came_is ∙ sym (ones (filter (lends others) (next_parts after mid)))))
+      pub went_left : (o : Option Part) → o ≡ None → IsPlaceIn asked o → kept + came ≡ 0
+          → NothingLeft words others new
+      went_left o is at none t u =
+          so_far.still (omega (arith, none)) t (still_open none t u)
+          (next_none (words.holdings mid) after (subst (IsPlaceIn asked) is at) t (still_open none t u))
 
-    stays : kept + came ≡ 0 → new ≡ mid
-    stays e =
-        new_is
-        ∙ phase_nothing mid so_far.gains.truly (next_parts after mid) (next_unclaimed mid after)
-        (omega (arith, e, came_is))
-
-    still_open : kept + came ≡ 0 → (t : Part) → is_unclaimed (alone_plan new) t ≡ true
-        → is_unclaimed (alone_plan mid) t ≡ true
-    still_open e t u = subst (λ (b : Alone). is_unclaimed (alone_plan b) t ≡ true) (stays e) u
-
-    pub went_on : (place : Part) (o : Option Part) → o ≡ Some place → IsPlaceIn (next_parts after mid) o
-        → RoundSoFar g logs others (Some place) (kept + came) old new
-    went_on place o is at = record {
-      gains = went_gains;
-      count = went_count;
-      still = λ e t u past. elim
-          (next_covers mid after place (subst (IsPlaceIn (next_parts after mid)) is at) t (still_open e t u) past) [
-            | inl before ↦ so_far.still (omega (arith, e)) t (still_open e t u) before
-            | inr i ↦ none_pass (lends others) (next_parts after mid) (omega (arith, e, came_is)) t i
-          ];
-    }
-
-    pub went_left : (o : Option Part) → o ≡ None → IsPlaceIn (next_parts after mid) o → kept + came ≡ 0
-        → NothingLeft others new
-    went_left o is at none t u =
-        so_far.still (omega (arith, none)) t (still_open none t u)
-        (next_none mid after (subst (IsPlaceIn (next_parts after mid)) is at) t (still_open none t u))
-
-    pub went_smaller : (place : Part) (o : Option Part) → o ≡ Some place → IsPlaceIn (next_parts after mid) o
-        → length (filter (is_after (Some place)) (all_parts logs)) < length (filter (is_after after) (all_parts logs))
-    went_smaller place o is at =
-        let there : In place (next_parts after mid) =
-        in_contains exact_parts (next_parts after mid) place (subst (IsPlaceIn (next_parts after mid)) is at) in
-        place_later after place (all_parts logs)
-        (open_is g logs are mid so_far.gains.truly place (next_unclaimed mid after place there))
-        (next_after mid after place there)
+      pub went_smaller : (place : Part) (o : Option Part) → o ≡ Some place → IsPlaceIn asked o
+          → length (filter (is_after (Some place)) (all_parts logs)) < length (filter (is_after after) (all_parts logs))
+      went_smaller place o is at =
+          let there : In place asked =
+          in_contains exact_parts asked place (subst (IsPlaceIn asked) is at) in
+          place_later after place (all_parts logs)
+          (open_is g logs are mid so_far.gains.truly place (all_open place there))
+          (next_after (words.holdings mid) after place there)

@@ -19,7 +19,9 @@ use Rattle.group_model.specs.World.{World, Outside, no_member, member, logs, som
 use Rattle.group_model.specs.Steps.{others_of, planned_parts, attempt, fetched_parts, attempts_for, attempts_made}
 use Rattle.group_model.specs.Steps.{fetches, after_fetch, after_event}
 use Rattle.repo_member.specs.Groups.{GroupKeys}
-use Rattle.repo_member.specs.Alone.{Alone, Fetched, alone_plan, alone_takes}
+use Rattle.repo_holdings.specs.HoldingsState.{HoldingsState, held_plan}
+use Rattle.repo_holdings.specs.Taking.{Fetched}
+use Rattle.repo_member.specs.Alone.{Alone, alone_holdings, alone_plan, alone_takes}
 use Rattle.repo_member.specs.InGroup.{in_group, AreLogs, asked_for, that_came, AreTries}
 use Rattle.repo_member.specs.InEvents.{IsMemberOf, IsTrueIn, IsOutcomeIn}
 use Rattle.repo_member.specs.TrueMembers.{IsTrueMember}
@@ -37,15 +39,15 @@ use Rattle.bench_world.proofs.GatheredAll.{member_of}
 use Rattle.bench_world.proofs.NextParts.{all_from_in, next_unclaimed}
 use Rattle.bench_world.proofs.PutBack.{others_true}
 
-module _ (passes : Part → ℕ → Bool) (others : List Alone) (tries : ℕ) (a : Alone) where
-  asked_same : (ts : List Part) → asked_for (fetched_all passes others tries a ts) ≡ ts
+module _ (passes : Part → ℕ → Bool) (others : List Alone) (tries : ℕ) (held : HoldingsState) where
+  asked_same : (ts : List Part) → asked_for (fetched_all passes others tries held ts) ≡ ts
   asked_same [] = refl
   asked_same (t ∷ ts) = ap (λ (us : List Part). t ∷ us) (asked_same ts)
 
   came_some : (t : Part)
-      → is_some (fetched_one passes others tries a t).packet ≡ is_some (attempt_at passes others tries a t)
+      → is_some (fetched_one passes others tries held t).packet ≡ is_some (attempt_at passes others tries held t)
   came_some t =
-      go (lent others t) (find (λ n. passes t (attempts_of (alone_plan a) t + n)) (numbers_from 1 tries)) where
+      go (lent others t) (find (λ n. passes t (attempts_of (held_plan held) t + n)) (numbers_from 1 tries)) where
         go : (l : Option (List ℕ)) (e : Option ℕ)
             → is_some (cond (is_some (cond (is_some l) e None)) l None) ≡ is_some (cond (is_some l) e None)
         go None e = refl
@@ -53,37 +55,38 @@ module _ (passes : Part → ℕ → Bool) (others : List Alone) (tries : ℕ) (a
         go (Some o) (Some n) = refl
 
   came_same : (ts : List Part)
-      → that_came (fetched_all passes others tries a ts) ≡ filter (λ t. is_some (attempt_at passes others tries a t)) ts
+      → that_came (fetched_all passes others tries held ts)
+      ≡ filter (λ t. is_some (attempt_at passes others tries held t)) ts
   came_same [] = refl
   came_same (t ∷ ts) =
-      go (is_some (fetched_one passes others tries a t).packet) (is_some (attempt_at passes others tries a t))
+      go (is_some (fetched_one passes others tries held t).packet) (is_some (attempt_at passes others tries held t))
       (came_some t) (came_same ts) where
         go : (b c : Bool) → b ≡ c
-            → that_came (fetched_all passes others tries a ts)
-            ≡ filter (λ u. is_some (attempt_at passes others tries a u)) ts
+            → that_came (fetched_all passes others tries held ts)
+            ≡ filter (λ u. is_some (attempt_at passes others tries held u)) ts
             → asked_for
-            (cond b (fetched_one passes others tries a t
-            ∷ filter (λ (x : Fetched). is_some x.packet) (fetched_all passes others tries a ts))
-            (filter (λ (x : Fetched). is_some x.packet) (fetched_all passes others tries a ts)))
-            ≡ cond c (t ∷ filter (λ u. is_some (attempt_at passes others tries a u)) ts)
-            (filter (λ u. is_some (attempt_at passes others tries a u)) ts)
+            (cond b (fetched_one passes others tries held t
+            ∷ filter (λ (x : Fetched). is_some x.packet) (fetched_all passes others tries held ts))
+            (filter (λ (x : Fetched). is_some x.packet) (fetched_all passes others tries held ts)))
+            ≡ cond c (t ∷ filter (λ u. is_some (attempt_at passes others tries held u)) ts)
+            (filter (λ u. is_some (attempt_at passes others tries held u)) ts)
         go b c e h =
             subst (λ (x : Bool). asked_for
-            (cond b (fetched_one passes others tries a t
-            ∷ filter (λ (y : Fetched). is_some y.packet) (fetched_all passes others tries a ts))
-            (filter (λ (y : Fetched). is_some y.packet) (fetched_all passes others tries a ts)))
-            ≡ cond x (t ∷ filter (λ u. is_some (attempt_at passes others tries a u)) ts)
-            (filter (λ u. is_some (attempt_at passes others tries a u)) ts)) e (same b h)
+            (cond b (fetched_one passes others tries held t
+            ∷ filter (λ (y : Fetched). is_some y.packet) (fetched_all passes others tries held ts))
+            (filter (λ (y : Fetched). is_some y.packet) (fetched_all passes others tries held ts)))
+            ≡ cond x (t ∷ filter (λ u. is_some (attempt_at passes others tries held u)) ts)
+            (filter (λ u. is_some (attempt_at passes others tries held u)) ts)) e (same b h)
           where
             same : (b : Bool)
-                → that_came (fetched_all passes others tries a ts)
-                ≡ filter (λ u. is_some (attempt_at passes others tries a u)) ts
+                → that_came (fetched_all passes others tries held ts)
+                ≡ filter (λ u. is_some (attempt_at passes others tries held u)) ts
                 → asked_for
-                (cond b (fetched_one passes others tries a t
-                ∷ filter (λ (x : Fetched). is_some x.packet) (fetched_all passes others tries a ts))
-                (filter (λ (x : Fetched). is_some x.packet) (fetched_all passes others tries a ts)))
-                ≡ cond b (t ∷ filter (λ u. is_some (attempt_at passes others tries a u)) ts)
-                (filter (λ u. is_some (attempt_at passes others tries a u)) ts)
+                (cond b (fetched_one passes others tries held t
+                ∷ filter (λ (x : Fetched). is_some x.packet) (fetched_all passes others tries held ts))
+                (filter (λ (x : Fetched). is_some x.packet) (fetched_all passes others tries held ts)))
+                ≡ cond b (t ∷ filter (λ u. is_some (attempt_at passes others tries held u)) ts)
+                (filter (λ u. is_some (attempt_at passes others tries held u)) ts)
             same true h = ap (λ (us : List Part). t ∷ us) h
             same false h = h
 
@@ -128,10 +131,13 @@ module _ (passes : ℕ → ℕ → ℕ → ℕ → ℕ → ℕ → Bool) (draw :
   abbrev pub here : Alone
   here = alone_at members j
 
+  abbrev pub holdings : HoldingsState
+  holdings = alone_holdings (alone_at members j)
+
   abbrev pub fetched : List Fetched
   fetched =
-      fetched_all (attempt_comes passes j (Some loss)) (others_than j members) tries (alone_at members j)
-      (next_parts None (alone_at members j))
+      fetched_all (attempt_comes passes j (Some loss)) (others_than j members) tries
+      (alone_holdings (alone_at members j)) (next_parts None (alone_holdings (alone_at members j)))
 
   member_is : member w j ≡ in_group here
   member_is = ap (λ (ms : List Member). get_or ms j no_member) (sym begun) ∙ member_of members j there
@@ -152,7 +158,7 @@ module _ (passes : ℕ → ℕ → ℕ → ℕ → ℕ → ℕ → Bool) (draw :
   lends_same t =
       lends_held others t ∙ removed members j t ∙ ap (λ (ms : List Member). someone_holds (set ms j no_member) t) begun
 
-  attempt_same : (t : Part) → attempt_at way others tries here t ≡ attempt out w j tries loss t
+  attempt_same : (t : Part) → attempt_at way others tries holdings t ≡ attempt out w j tries loss t
   attempt_same t =
       let tried : here.attempts ≡ (member w j).attempts = ap (λ (m : Member). m.attempts) (sym member_is) in
       ap (λ (b : Bool). cond b
@@ -162,29 +168,29 @@ module _ (passes : ℕ → ℕ → ℕ → ℕ → ℕ → ℕ → Bool) (draw :
       (find (λ n. passes j t.publisher t.seq t.part (unwrap_or (value_of part_cmp (tried i) t) 0 + n) loss)
       (numbers_from 1 tries)) None)
 
-  planned_same : next_parts None here ≡ planned_parts w j
+  planned_same : next_parts None holdings ≡ planned_parts w j
   planned_same =
       ap (take 4096) (behind_none (unclaimed (alone_plan here)) ∙ sym (open_parts_alike w j g here is_member is_true))
 
-  pub planned_are : length (next_parts None here) ≡ length (planned_parts w j)
+  pub planned_are : length (next_parts None holdings) ≡ length (planned_parts w j)
   planned_are = ap length planned_same
 
   pub came_are : that_came fetched ≡ fetched_parts out w j tries loss
   came_are =
-      came_same way others tries here (next_parts None here)
-      ∙ filter_same (λ t. is_some (attempt_at way others tries here t)) (λ t. is_some (attempt out w j tries loss t))
-      (next_parts None here) (λ t. ap is_some (attempt_same t))
+      came_same way others tries holdings (next_parts None holdings)
+      ∙ filter_same (λ t. is_some (attempt_at way others tries holdings t))
+      (λ t. is_some (attempt out w j tries loss t)) (next_parts None holdings) (λ t. ap is_some (attempt_same t))
       ∙ ap (filter (λ t. is_some (attempt out w j tries loss t))) planned_same
 
   tried_are : AreTries (attempts_for out w j tries loss) fetched
   tried_are = all_from_in (λ (x : Fetched). x.attempts ≡ attempts_for out w j tries loss x.part) fetched (λ x i.
-      let r = from_map (fetched_one way others tries here) (next_parts None here) x i in
+      let r = from_map (fetched_one way others tries holdings) (next_parts None holdings) x i in
       subst (λ (y : Fetched). y.attempts ≡ attempts_for out w j tries loss y.part) (sym r.2)
       (ap (λ (o : Option ℕ). unwrap_or o tries) (attempt_same r.0)))
 
   outcome : IsOutcomeIn out w j tries loss fetched
   outcome = record {
-    asked = asked_same way others tries here (next_parts None here) ∙ planned_same;
+    asked = asked_same way others tries holdings (next_parts None holdings) ∙ planned_same;
     came = came_are;
     tried = tried_are;
   }
@@ -217,12 +223,12 @@ module _ (passes : ℕ → ℕ → ℕ → ℕ → ℕ → ℕ → Bool) (draw :
             → IfSome o (IsTrueArrival g (logs w) here x.part)
         one x i None e = tt
         one x i (Some octets) e =
-            let r = from_map (fetched_one way others tries here) (next_parts None here) x i in
+            let r = from_map (fetched_one way others tries holdings) (next_parts None holdings) x i in
             subst (λ (t : Part). IsTrueArrival g (logs w) here t octets) (sym (ap (λ (y : Fetched). y.part) r.2))
             (record {
-              unclaimed = next_unclaimed here None r.0 r.1;
+              unclaimed = next_unclaimed holdings None r.0 r.1;
               packet = lends_true g (logs w) others (others_true g (logs w) members others j truly refl) r.0 octets
-                  (from_packet (is_some (attempt_at way others tries here r.0)) (lent others r.0) octets
+                  (from_packet (is_some (attempt_at way others tries holdings r.0)) (lent others r.0) octets
                   (sym (ap (λ (y : Fetched). y.packet) r.2) ∙ e));
             })
 

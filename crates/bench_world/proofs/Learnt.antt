@@ -14,7 +14,7 @@ use Rattle.group_model.specs.Sound.{IsSoundGroup, IsTrueVector}
 use Rattle.group_model.specs.Steps.{settled_vector}
 use Rattle.group_model.proofs.Settles.{settled_no_more}
 use Rattle.repo_member.specs.Groups.{GroupKeys}
-use Rattle.repo_member.specs.Alone.{Alone, alone_learns, alone_ends_claims}
+use Rattle.repo_member.specs.Alone.{Alone, alone_holdings, alone_learns, alone_ends_claims}
 use Rattle.repo_member.specs.InGroup.{in_group, AreLogs}
 use Rattle.repo_member.specs.TrueMembers.{IsTrueMember}
 use Rattle.repo_member.proofs.PublicLaws.{learns_true, ends_claims_true}
@@ -120,7 +120,7 @@ module _ (g : GroupKeys) (w : World) (are : AreLogs g (logs w)) (group : IsSound
       pub learnt_tried : AllTriedFew members → AllTriedFew new
       learnt_tried tried j l =
           let inside : j < length members = omega (arith, l, len) in
-          subst TriedFew (sym (each j inside)) (tried j inside)
+          subst (λ (a : Alone). TriedFew (alone_holdings a)) (sym (each j inside)) (tried j inside)
 
       pub learnt_counts : AllCountsStay members new
       learnt_counts j = elim (cases_lt j (length members)) [

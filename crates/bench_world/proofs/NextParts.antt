@@ -16,7 +16,7 @@ use Rattle.sorted_lists.proofs.Sets.{In, in_filter, contains_in, in_contains, ri
 use Rattle.repo_plan.proofs.Known.{unclaimed_rises, contains-unclaimed}
 use Rattle.group_model.proofs.Lists.{from_filter, in_at, in_take}
 use Rattle.group_model.proofs.Tries.{rises_take}
-use Rattle.repo_member.specs.Alone.{Alone, alone_plan}
+use Rattle.repo_holdings.specs.HoldingsState.{HoldingsState, held_plan}
 use Rattle.bench_world.specs.Gathering.{next_parts}
 use Rattle.bench_world.proofs.SetSums.{filter_fewer, take_covers}
 
@@ -49,54 +49,54 @@ from_slice_get (y ∷ ys) (suc k) x e = inr (from_slice_get ys k x e)
 
 -- ---- the next parts
 
-module _ (a : Alone) (after : Option Part) where
-  behind_rises : Rises part_cmp (filter (is_after after) (unclaimed (alone_plan a)))
+module _ (h : HoldingsState) (after : Option Part) where
+  behind_rises : Rises part_cmp (filter (is_after after) (unclaimed (held_plan h)))
   behind_rises =
-      rises_filter exact_parts.total (is_after after) (unclaimed (alone_plan a)) (unclaimed_rises (alone_plan a))
+      rises_filter exact_parts.total (is_after after) (unclaimed (held_plan h)) (unclaimed_rises (held_plan h))
 
-  in_behind : (t : Part) → is_unclaimed (alone_plan a) t ≡ true → is_after after t ≡ true
-      → In t (filter (is_after after) (unclaimed (alone_plan a)))
+  in_behind : (t : Part) → is_unclaimed (held_plan h) t ≡ true → is_after after t ≡ true
+      → In t (filter (is_after after) (unclaimed (held_plan h)))
   in_behind t u later =
-      in_filter (is_after after) (unclaimed (alone_plan a)) t
-      (in_contains exact_parts (unclaimed (alone_plan a)) t (contains-unclaimed (alone_plan a) t ∙ u)) later
+      in_filter (is_after after) (unclaimed (held_plan h)) t
+      (in_contains exact_parts (unclaimed (held_plan h)) t (contains-unclaimed (held_plan h) t ∙ u)) later
 
-  pub next_rise : Rises part_cmp (next_parts after a)
-  next_rise = rises_take 4096 (filter (is_after after) (unclaimed (alone_plan a))) behind_rises
+  pub next_rise : Rises part_cmp (next_parts after h)
+  next_rise = rises_take 4096 (filter (is_after after) (unclaimed (held_plan h))) behind_rises
 
-  from_next : (t : Part) → In t (next_parts after a) → In t (unclaimed (alone_plan a)) × (is_after after t ≡ true)
+  from_next : (t : Part) → In t (next_parts after h) → In t (unclaimed (held_plan h)) × (is_after after t ≡ true)
   from_next t i =
-      from_filter (is_after after) (unclaimed (alone_plan a)) t
-      (in_take 4096 (filter (is_after after) (unclaimed (alone_plan a))) t i)
+      from_filter (is_after after) (unclaimed (held_plan h)) t
+      (in_take 4096 (filter (is_after after) (unclaimed (held_plan h))) t i)
 
-  pub next_unclaimed : (t : Part) → In t (next_parts after a) → is_unclaimed (alone_plan a) t ≡ true
+  pub next_unclaimed : (t : Part) → In t (next_parts after h) → is_unclaimed (held_plan h) t ≡ true
   next_unclaimed t i =
-      sym (contains-unclaimed (alone_plan a) t) ∙ contains_in exact_parts (unclaimed (alone_plan a)) t (from_next t i).0
+      sym (contains-unclaimed (held_plan h) t) ∙ contains_in exact_parts (unclaimed (held_plan h)) t (from_next t i).0
 
-  pub next_after : (t : Part) → In t (next_parts after a) → is_after after t ≡ true
+  pub next_after : (t : Part) → In t (next_parts after h) → is_after after t ≡ true
   next_after t i = (from_next t i).1
 
   -- An open part that doesn't come after the last of them is one of them, or was passed before.
-  pub next_covers : (place : Part) → contains part_cmp (next_parts after a) place ≡ true → (t : Part)
-      → is_unclaimed (alone_plan a) t ≡ true → is_after (Some place) t ≡ false
-      → (is_after after t ≡ false) ⊎ In t (next_parts after a)
+  pub next_covers : (place : Part) → contains part_cmp (next_parts after h) place ≡ true → (t : Part)
+      → is_unclaimed (held_plan h) t ≡ true → is_after (Some place) t ≡ false
+      → (is_after after t ≡ false) ⊎ In t (next_parts after h)
   next_covers place at t u past = elim (cases_Bool (is_after after t)) [
     | inl on ↦
-        elim (take_covers exact_parts 4096 (filter (is_after after) (unclaimed (alone_plan a))) t behind_rises
+        elim (take_covers exact_parts 4096 (filter (is_after after) (unclaimed (held_plan h))) t behind_rises
         (in_behind t u on)) [
           | inl i ↦ inr i
           | inr later ↦
               absurd
-              (true≢false (sym (ap is_lt (later place (in_contains exact_parts (next_parts after a) place at))) ∙ past))
+              (true≢false (sym (ap is_lt (later place (in_contains exact_parts (next_parts after h) place at))) ∙ past))
         ]
     | inr off ↦ inl off
   ]
 
   -- Where there is none, all were passed.
-  pub next_none : next_parts after a ≡ [] → (t : Part) → is_unclaimed (alone_plan a) t ≡ true → is_after after t ≡ false
+  pub next_none : next_parts after h ≡ [] → (t : Part) → is_unclaimed (held_plan h) t ≡ true → is_after after t ≡ false
   next_none e t u = elim (cases_Bool (is_after after t)) [
     | inl on ↦
         absurd
-        (take_some 4096 (filter (is_after after) (unclaimed (alone_plan a))) (omega arith) e t (in_behind t u on))
+        (take_some 4096 (filter (is_after after) (unclaimed (held_plan h))) (omega arith) e t (in_behind t u on))
     | inr off ↦ off
   ]
 

@@ -22,11 +22,14 @@ use Rattle.group_model.specs.Publications.{Logs, all_parts}
 use Rattle.group_model.proofs.Tries.{take_short}
 use Rattle.group_model.proofs.Among.{in_all_parts}
 use Rattle.repo_member.specs.Groups.{GroupKeys}
-use Rattle.repo_member.specs.Alone.{Alone, Fetched, alone_plan}
+use Rattle.repo_holdings.specs.HoldingsState.{HoldingsState, held_plan}
+use Rattle.repo_holdings.specs.Taking.{Fetched}
+use Rattle.repo_holdings.specs.Wanting.{job_at}
+use Rattle.repo_member.specs.Alone.{Alone}
 use Rattle.repo_member.specs.InGroup.{AreLogs, true_packet, that_came}
-use Rattle.repo_member.specs.Outcomes.{job_for, jobs_behind, outcome_of, octets_in, ArePlannedJobs, IsOutcome}
-use Rattle.repo_member.specs.TrueMembers.{IsTrueMember}
-use Rattle.repo_member.proofs.PublicLaws.{true_is_of, wants_published, jobs_are_planned, planned_jobs_are_outcomes}
+use Rattle.repo_member.specs.Outcomes.{jobs_of, outcome_of, octets_in, AreJobsOf, IsOutcomeOf}
+use Rattle.repo_member.specs.TrueHolders.{IsTrueHolder}
+use Rattle.repo_member.proofs.PublicLaws.{holders_want_published, holder_jobs_are_planned, holder_jobs_are_outcomes}
 use Rattle.bench_world.specs.Worlds.{AreTrueMembers}
 use Rattle.bench_world.specs.Truth.{TriedFew}
 use Rattle.bench_world.specs.Sizes.{size_of}
@@ -37,29 +40,29 @@ use Rattle.bench_world.proofs.NextParts.{next_unclaimed, from_slice_get}
 use Rattle.bench_world.proofs.Brought.{lends_true, were_tried, none_counted, first_lengths, counted, octets_sum}
 use Rattle.bench_world.proofs.Brought.{fetched_is, lent_is, came_lent, want_part}
 
-module _ (passes : ℕ → ℕ → ℕ → ℕ → ℕ → ℕ → Bool) (g : GroupKeys) (logs : Logs) (a : Alone) (others : List Alone)
-    (asker : ℕ) (loss : Option ℕ) (are : AreLogs g logs) (truly : IsTrueMember g logs a)
+module _ (passes : ℕ → ℕ → ℕ → ℕ → ℕ → ℕ → Bool) (g : GroupKeys) (logs : Logs) (h : HoldingsState) (others : List Alone)
+    (asker : ℕ) (loss : Option ℕ) (are : AreLogs g logs) (truly : IsTrueHolder g logs h)
     (all : AreTrueMembers g logs others)
-    (tried : TriedFew a) (after : Option Part) (jobs : List Job) (jobs_are : jobs ≡ jobs_behind g a after 4096)
+    (tried : TriedFew h) (after : Option Part) (jobs : List Job) (jobs_are : jobs ≡ jobs_of g h after 4096)
     (ring : List NamedKey) (ring_is : ring ≡ g.members.ring) where
-  planned : ArePlannedJobs g a jobs
+  planned : AreJobsOf g h jobs
   planned =
-      subst (ArePlannedJobs g a) (sym jobs_are)
-      (jobs_are_planned g a after 4096 are.group.members (true_is_of g logs a are truly))
+      subst (AreJobsOf g h) (sym jobs_are)
+      (holder_jobs_are_planned g h after 4096 are.group.members (sym (truly.vector.width ∙ are.width)))
 
-  wanted : (t : Part) → In t (next_parts after a) → is_wanted (alone_plan a) t ≡ true
-  wanted t i = (and_parts (is_wanted (alone_plan a) t) _ (next_unclaimed a after t i)).0
+  wanted : (t : Part) → In t (next_parts after h) → is_wanted (held_plan h) t ≡ true
+  wanted t i = (and_parts (is_wanted (held_plan h) t) _ (next_unclaimed h after t i)).0
 
   pub few_jobs : length jobs ≤ 4096
   few_jobs =
-      let e : length jobs ≡ length (next_parts after a) =
-      ap length jobs_are ∙ length-map (next_parts after a) (job_for g a) in
-      let b : length (next_parts after a) ≤ 4096 =
-      take_short 4096 (filter (is_after after) (unclaimed (alone_plan a))) in
+      let e : length jobs ≡ length (next_parts after h) =
+      ap length jobs_are ∙ length-map (next_parts after h) (job_at g.members.names g.name h) in
+      let b : length (next_parts after h) ≤ 4096 =
+      take_short 4096 (filter (is_after after) (unclaimed (held_plan h))) in
       omega (arith, e, b)
 
-  pub count_jobs : length jobs ≡ length (next_parts after a)
-  count_jobs = ap length jobs_are ∙ length-map (next_parts after a) (job_for g a)
+  pub count_jobs : length jobs ≡ length (next_parts after h)
+  count_jobs = ap length jobs_are ∙ length-map (next_parts after h) (job_at g.members.names g.name h)
 
   can_be_tried_here : (tries : ℕ) → tries ≤ 16 → All (CanBeTried (length g.members.ring) tries) jobs
   can_be_tried_here tries few k d l =
@@ -72,27 +75,27 @@ module _ (passes : ℕ → ℕ → ℕ → ℕ → ℕ → ℕ → Bool) (g : Gr
       subst (λ (r : List NamedKey). All (CanBeTried (length r) tries) jobs) (sym ring_is) (can_be_tried_here tries few)
 
   pub planned_place : (job : Job) (k : ℕ) → slice_get jobs k ≡ Some job
-      → contains part_cmp (next_parts after a) job.want.part ≡ true
+      → contains part_cmp (next_parts after h) job.want.part ≡ true
   planned_place job k at =
-      let among : In job (map (job_for g a) (next_parts after a)) =
-      from_slice_get (map (job_for g a) (next_parts after a)) k job
+      let among : In job (map (job_at g.members.names g.name h) (next_parts after h)) =
+      from_slice_get (map (job_at g.members.names g.name h) (next_parts after h)) k job
       (ap (λ (js : List Job). slice_get js k) (sym jobs_are) ∙ at) in
-      let r : (t : Part) × (In t (next_parts after a)) × (job ≡ job_for g a t) =
-      from_map (job_for g a) (next_parts after a) job among in
-      ap (contains part_cmp (next_parts after a)) (ap (λ (j : Job). j.want.part) r.2 ∙ want_part g a r.0)
-      ∙ contains_in exact_parts (next_parts after a) r.0 r.1
+      let r : (t : Part) × (In t (next_parts after h)) × (job ≡ job_at g.members.names g.name h t) =
+      from_map (job_at g.members.names g.name h) (next_parts after h) job among in
+      ap (contains part_cmp (next_parts after h)) (ap (λ (j : Job). j.want.part) r.2 ∙ want_part g h r.0)
+      ∙ contains_in exact_parts (next_parts after h) r.0 r.1
 
   -- A wanted part has the size of what is lent of it.
-  size_lent : (t : Part) (octets : List ℕ) → In t (next_parts after a) → lent others t ≡ Some octets
+  size_lent : (t : Part) (octets : List ℕ) → In t (next_parts after h) → lent others t ≡ Some octets
       → size_of g logs t ≡ length octets
   size_lent t octets i e =
       let there : contains part_cmp (all_parts logs) t ≡ true =
       contains_in exact_parts (all_parts logs) t
-      (in_all_parts logs t (wants_published g logs a t are truly (wanted t i))) in
+      (in_all_parts logs t (holders_want_published g logs h t are truly (wanted t i))) in
       ap (λ (b : Bool). cond b (length (unwrap_or (true_packet g logs t) [])) 0) there
       ∙ ap (λ (o : Option (List ℕ)). length (unwrap_or o [])) (lends_true g logs others all t octets e)
 
-  module _ (tries : ℕ) (few : tries ≤ 16) (asked : List Job) (asked_are : asked ≡ jobs_behind g a after 4096)
+  module _ (tries : ℕ) (few : tries ≤ 16) (asked : List Job) (asked_are : asked ≡ jobs_of g h after 4096)
       (parts values : List (Option CheckedPart)) (values_are : values ≡ parts) (ns counts : List ℕ)
       (counts_are : counts ≡ ns)
       (first : AreFirst (lent_answer passes others asker loss) ring tries asked parts ns) where
@@ -108,7 +111,7 @@ module _ (passes : ℕ → ℕ → ℕ → ℕ → ℕ → ℕ → Bool) (g : Gr
         first)))
 
     first_planned : AreFirst (lent_answer passes others asker loss) g.members.ring tries
-        (map (job_for g a) (next_parts after a)) values counts
+        (map (job_at g.members.names g.name h) (next_parts after h)) values counts
     first_planned =
         subst (λ (js : List Job). AreFirst (lent_answer passes others asker loss) g.members.ring tries js values counts)
         jobs_are first_here
@@ -121,21 +124,21 @@ module _ (passes : ℕ → ℕ → ℕ → ℕ → ℕ → ℕ → Bool) (g : Gr
 
     -- ---- a fetch
 
-    pub fetch_outcome : IsOutcome g a jobs values counts
+    pub fetch_outcome : IsOutcomeOf g h jobs values counts
     fetch_outcome =
-        planned_jobs_are_outcomes g a jobs values counts planned
+        holder_jobs_are_outcomes g h jobs values counts planned
         (were_tried (lent_answer passes others asker loss) g tries jobs values counts (can_be_tried_here tries few)
         first_here)
 
     pub fetch_is : outcome_of jobs values counts
-        ≡ fetched_all (attempt_comes passes asker loss) others tries a (next_parts after a)
+        ≡ fetched_all (attempt_comes passes asker loss) others tries h (next_parts after h)
     fetch_is =
         ap (λ (js : List Job). outcome_of js values counts) jobs_are
-        ∙ fetched_is passes g logs a others asker loss are truly all tries (next_parts after a) wanted values counts
+        ∙ fetched_is passes g logs h others asker loss are truly all tries (next_parts after h) wanted values counts
         first_planned
 
     pub fetch_parts : count_by is_some values
-        ≡ length (that_came (fetched_all (attempt_comes passes asker loss) others tries a (next_parts after a)))
+        ≡ length (that_came (fetched_all (attempt_comes passes asker loss) others tries h (next_parts after h)))
     fetch_parts =
         sym (length-filter is_some values)
         ∙ counted jobs values counts count_parts count_attempts
@@ -143,15 +146,15 @@ module _ (passes : ℕ → ℕ → ℕ → ℕ → ℕ → ℕ → Bool) (g : Gr
 
     pub fetch_octets : sum_by octets_in values
         ≡ sum_by (size_of g logs)
-        (that_came (fetched_all (attempt_comes passes asker loss) others tries a (next_parts after a)))
+        (that_came (fetched_all (attempt_comes passes asker loss) others tries h (next_parts after h)))
     fetch_octets =
         octets_sum (size_of g logs) jobs values counts count_parts count_attempts (λ x octets i e.
         let r =
-        from_map (fetched_one (attempt_comes passes asker loss) others tries a) (next_parts after a) x
+        from_map (fetched_one (attempt_comes passes asker loss) others tries h) (next_parts after h) x
         (subst (In x) fetch_is i) in
         ap (size_of g logs) (ap (λ (y : Fetched). y.part) r.2)
         ∙ size_lent r.0 octets r.1
-        (from_packet (is_some (attempt_at (attempt_comes passes asker loss) others tries a r.0)) (lent others r.0)
+        (from_packet (is_some (attempt_at (attempt_comes passes asker loss) others tries h r.0)) (lent others r.0)
         octets (sym (ap (λ (y : Fetched). y.packet) r.2) ∙ e)))
         ∙ ap (λ (xs : List Fetched). sum_by (size_of g logs) (that_came xs)) fetch_is where
           from_packet : (b : Bool) (o : Option (List ℕ)) (octets : List ℕ) → cond b o None ≡ Some octets
@@ -161,7 +164,7 @@ module _ (passes : ℕ → ℕ → ℕ → ℕ → ℕ → ℕ → Bool) (g : Gr
 
     pub fetch_attempts : counts
         ≡ map (λ (x : Fetched). x.attempts)
-        (fetched_all (attempt_comes passes asker loss) others tries a (next_parts after a))
+        (fetched_all (attempt_comes passes asker loss) others tries h (next_parts after h))
     fetch_attempts =
         attempts_in jobs values counts count_parts count_attempts
         ∙ ap (map (λ (x : Fetched). x.attempts)) fetch_is where
@@ -177,42 +180,42 @@ module _ (passes : ℕ → ℕ → ℕ → ℕ → ℕ → ℕ → Bool) (g : Gr
 
   -- ---- a phase of a settle
 
-  module _ (none : loss ≡ None) (asked : List Job) (asked_are : asked ≡ jobs_behind g a after 4096)
+  module _ (none : loss ≡ None) (asked : List Job) (asked_are : asked ≡ jobs_of g h after 4096)
       (parts values : List (Option CheckedPart)) (values_are : values ≡ parts) (ns : List ℕ)
       (first : AreFirst (lent_answer passes others asker loss) ring 1 asked parts ns) (zeros : List ℕ)
       (zeros_are : zeros ≡ replicate (length jobs) 0) where
     count_zeros : length zeros ≡ length jobs
     count_zeros = ap length zeros_are ∙ length-replicate (length jobs) 0
 
-    pub gain_outcome : IsOutcome g a jobs values zeros
+    pub gain_outcome : IsOutcomeOf g h jobs values zeros
     gain_outcome =
-        subst (IsOutcome g a jobs values) (sym zeros_are)
-        (planned_jobs_are_outcomes g a jobs values (replicate (length jobs) 0) planned
+        subst (IsOutcomeOf g h jobs values) (sym zeros_are)
+        (holder_jobs_are_outcomes g h jobs values (replicate (length jobs) 0) planned
         (none_counted (lent_answer passes others asker loss) g 1 jobs values ns (can_be_tried_here 1 (omega arith))
         (first_here 1 (omega arith) asked asked_are parts values values_are ns ns refl first)))
 
-    pub gain_is : outcome_of jobs values zeros ≡ lent_all others (next_parts after a)
+    pub gain_is : outcome_of jobs values zeros ≡ lent_all others (next_parts after h)
     gain_is =
         ap (outcome_of jobs values) zeros_are
         ∙ ap (λ (js : List Job). outcome_of js values (replicate (length js) 0)) jobs_are
-        ∙ lent_is passes g logs a others asker loss are truly all none (next_parts after a) wanted values ns
+        ∙ lent_is passes g logs h others asker loss are truly all none (next_parts after h) wanted values ns
         (first_planned 1 (omega arith) asked asked_are parts values values_are ns ns refl first)
 
-    pub gain_parts : count_by is_some values ≡ length (filter (lends others) (next_parts after a))
+    pub gain_parts : count_by is_some values ≡ length (filter (lends others) (next_parts after h))
     gain_parts =
         sym (length-filter is_some values)
         ∙ counted jobs values zeros
         (count_parts 1 (omega arith) asked asked_are parts values values_are ns ns refl first) count_zeros
         ∙ ap (λ (xs : List Fetched). length (that_came xs)) gain_is
-        ∙ ap length (came_lent others (next_parts after a))
+        ∙ ap length (came_lent others (next_parts after h))
 
-    pub gain_octets : sum_by octets_in values ≡ sum_by (size_of g logs) (filter (lends others) (next_parts after a))
+    pub gain_octets : sum_by octets_in values ≡ sum_by (size_of g logs) (filter (lends others) (next_parts after h))
     gain_octets =
         octets_sum (size_of g logs) jobs values zeros
         (count_parts 1 (omega arith) asked asked_are parts values values_are ns ns refl first) count_zeros
         (λ x octets i e.
-        let r = from_map (lent_one others) (next_parts after a) x (subst (In x) gain_is i) in
+        let r = from_map (lent_one others) (next_parts after h) x (subst (In x) gain_is i) in
         ap (size_of g logs) (ap (λ (y : Fetched). y.part) r.2)
         ∙ size_lent r.0 octets r.1 (sym (ap (λ (y : Fetched). y.packet) r.2) ∙ e))
         ∙ ap (λ (xs : List Fetched). sum_by (size_of g logs) (that_came xs)) gain_is
-        ∙ ap (sum_by (size_of g logs)) (came_lent others (next_parts after a))
+        ∙ ap (sum_by (size_of g logs)) (came_lent others (next_parts after h))

@@ -13,6 +13,7 @@ use Rattle.repo_member.specs.Groups.{GroupKeys}
 use Rattle.repo_member.specs.Alone.{Alone, alone_plan}
 use Rattle.repo_member.specs.InGroup.{AreLogs}
 use Rattle.repo_member.specs.TrueMembers.{IsTrueMember, true_want}
+use Rattle.bench_world.specs.Holders.{HolderWords}
 use Rattle.bench_world.specs.Truth.{AreFewLogs, TriedFew, AllTriedFew}
 use Rattle.bench_world.specs.Worlds.{in_groups, AreTrueMembers, MembersAreNumbered}
 
@@ -55,26 +56,27 @@ pub record CanAskAt (g : GroupKeys) (ls : Logs) (f m q : ℕ) (ms : List Alone) 
   pub get : CanGetAt g ls f m ms
   pub other : q < length ms
 
--- ---- one member and the others
+-- ---- one holder and the members that lend
 
--- The member gathers in a settle, in which the network loses nothing.
-pub record CanGather (g : GroupKeys) (ls : Logs) (n : ℕ) (lenders : List Alone) (lost : Option ℕ) (a : Alone)
-    : Type 0 where
-  pub workers : (1 ≤ n) × (n ≤ 16)
-  pub logs : AreFewLogs g ls
-  pub others : AreTrueMembers g ls lenders
-  pub loss : lost ≡ None
-  pub truly : IsTrueMember g ls a
-  pub tried : TriedFew a
+module _ {H : Type 0} (words : HolderWords H) where
+  -- It gathers in a settle, in which the network loses nothing.
+  pub record CanGather (g : GroupKeys) (ls : Logs) (n : ℕ) (lenders : List Alone) (lost : Option ℕ) (s : H) : Type 0
+    where
+      pub workers : (1 ≤ n) × (n ≤ 16)
+      pub logs : AreFewLogs g ls
+      pub others : AreTrueMembers g ls lenders
+      pub loss : lost ≡ None
+      pub truly : words.is_true g ls s
+      pub tried : TriedFew (words.holdings s)
 
--- The member fetches, so often at most.
-pub record CanFetch (g : GroupKeys) (ls : Logs) (n most : ℕ) (lenders : List Alone) (a : Alone) : Type 0 where
-  pub workers : (1 ≤ n) × (n ≤ 16)
-  pub tries : (1 ≤ most) × (most ≤ 16)
-  pub logs : AreFewLogs g ls
-  pub others : AreTrueMembers g ls lenders
-  pub truly : IsTrueMember g ls a
-  pub tried : TriedFew a
+  -- It fetches, so often at most.
+  pub record CanFetch (g : GroupKeys) (ls : Logs) (n most : ℕ) (lenders : List Alone) (s : H) : Type 0 where
+    pub workers : (1 ≤ n) × (n ≤ 16)
+    pub tries : (1 ≤ most) × (most ≤ 16)
+    pub logs : AreFewLogs g ls
+    pub others : AreTrueMembers g ls lenders
+    pub truly : words.is_true g ls s
+    pub tried : TriedFew (words.holdings s)
 
 -- ---- all members
 

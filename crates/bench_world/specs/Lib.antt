@@ -4,6 +4,9 @@ pub mod Truth
 pub mod Sizes
 pub mod Serving
 pub mod Lending
+pub mod Holders
+pub mod MemberWords
+pub mod MembersHold
 pub mod Gathering
 pub mod Fetching
 pub mod Settling

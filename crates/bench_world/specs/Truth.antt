@@ -1,4 +1,4 @@
--- What was published in a group, and members that were tried for few parts.
+-- What was published in a group, and who tried few times.
 use Rattle.std.specs.Prelude.{ℕ, ◌+◌, ◌<◌, ◌^◌, Bool, List, map, length}
 use Rattle.repo_plan.specs.declared.part.Part.{Part}
 use Rattle.sorted_lists.specs.SortedList.{keys, contains}
@@ -6,7 +6,8 @@ use Rattle.repo_plan.specs.Parts.{part_cmp}
 use Rattle.repo_plan.specs.Plan.{attempts_of}
 use Rattle.group_model.specs.Publications.{Logs, all_parts}
 use Rattle.repo_member.specs.Groups.{GroupKeys}
-use Rattle.repo_member.specs.Alone.{Alone, alone_plan}
+use Rattle.repo_holdings.specs.HoldingsState.{HoldingsState, held_plan}
+use Rattle.repo_member.specs.Alone.{Alone, alone_holdings}
 use Rattle.repo_member.specs.InGroup.{AreLogs}
 use Rattle.bench_world.specs.Worlds.{alone_at}
 
@@ -17,11 +18,11 @@ abbrev pub stores : Alone → Part → Bool
 stores a t = contains part_cmp (keys a.store) t
 
 -- No part was tried so often that a count's type ends soon.
-abbrev pub TriedFew : Alone → Type 0
-TriedFew a = (t : Part) → attempts_of (alone_plan a) t + 16 < 2097152
+abbrev pub TriedFew : HoldingsState → Type 0
+TriedFew h = (t : Part) → attempts_of (held_plan h) t + 16 < 2097152
 
 abbrev pub AllTriedFew : List Alone → Type 0
-AllTriedFew members = (j : ℕ) → j < length members → TriedFew (alone_at members j)
+AllTriedFew members = (j : ℕ) → j < length members → TriedFew (alone_holdings (alone_at members j))
 
 -- What the members have published, which a 32-bit number counts.
 pub record AreFewLogs (g : GroupKeys) (logs : Logs) : Type 0 where

@@ -6,6 +6,7 @@ ghost use Rattle.group_model.specs.World.{World, logs};
 ghost use Rattle.group_model.specs.Steps.{settled_member, settle_gains};
 ghost use Rattle.group_model.specs.Steps.{planned_parts, fetched_parts, attempts_made, after_fetch};
 ghost use Rattle.bench_world.specs.Gathering.{one_each, Counts, GainsParts, NothingLeft};
+ghost use Rattle.bench_world.specs.MemberWords.{member_words};
 ghost use Rattle.bench_world.specs.Serving.{outside};
 ghost use Rattle.bench_world.specs.Settling.{gain_sum, ArePartlySettled};
 ghost use Rattle.bench_world.specs.Sizes.{size_of};
@@ -34,13 +35,14 @@ fn gather_at<N: Net + Sync, R: Threads + Sync>(
     ghost logs: { Logs }
     requires { CanGatherAt g.now logs workers j members.old.items }
     ensures others { members.new.items ≡ slice_set members.old.items j (alone_at members.new.items j) }
-    ensures gains { GainsParts g.now logs (others_than j members.old.items)
+    ensures gains { GainsParts member_words g.now logs (others_than j members.old.items)
         (alone_at members.old.items j) (alone_at members.new.items j) }
     ensures parts { IfOk result (λ kept.
-        Counts one_each kept.parts (alone_at members.old.items j) (alone_at members.new.items j)) }
-    ensures octets { IfOk result (λ kept.
-        Counts (size_of g.now logs) kept.octets (alone_at members.old.items j) (alone_at members.new.items j)) }
-    ensures left { OnOk result (NothingLeft (others_than j members.old.items) (alone_at members.new.items j)) }
+        Counts member_words one_each kept.parts (alone_at members.old.items j) (alone_at members.new.items j)) }
+    ensures octets { IfOk result (λ kept. Counts member_words (size_of g.now logs) kept.octets
+        (alone_at members.old.items j) (alone_at members.new.items j)) }
+    ensures left { OnOk result
+        (NothingLeft member_words (others_than j members.old.items) (alone_at members.new.items j)) }
 {
     let mut member = members.remove(j as usize);
     let link = MemberLink {

@@ -1,8 +1,7 @@
-// What a member fetches of others.
+// What who holds parts fetches of others.
 ghost use Rattle.std.specs.Prelude.{◌≡◌, ◌≤◌, None, length, map, sum, IfOk, OnOk, OnErr};
 ghost use Rattle.std.specs.List.{sum_by};
 ghost use Rattle.group_model.specs.Publications.{Logs};
-ghost use Rattle.repo_member.specs.Alone.{alone_takes};
 ghost use Rattle.repo_member.specs.InGroup.{that_came};
 ghost use Rattle.bench_world.specs.Lending.{attempt_comes};
 ghost use Rattle.bench_world.specs.Sizes.{size_of};
@@ -11,11 +10,11 @@ ghost use Rattle.bench_world.specs.Gathering.{next_parts};
 ghost use Rattle.bench_world.specs.Fetching.{fetched_all};
 
 use crate::gather::PHASE_LIMIT;
+use crate::holder::Holder;
 use crate::lending::MemberLink;
-use crate::taking::take_outcome;
 use bench_net::Net;
 use fetch_work::phase;
-use repo_member::{Group, Kept, Member};
+use repo_member::{Group, Kept};
 use std::alloc::{AllocError, Global};
 use std::thread::Threads;
 
@@ -28,40 +27,39 @@ pub(crate) struct FetchCounts {
 }
 
 /// One phase, of the least parts that are wanted and that no fetcher claims.
-pub(crate) fn fetch<N: Net + Sync, R: Threads + Sync>(
+pub(crate) fn fetch<N: Net + Sync, R: Threads + Sync, H: Holder>(
     rt: &R,
     alloc: Global,
     g: &Group,
     link: &MemberLink<'_, N>,
     workers: u32,
     tries: u32,
-    member: &mut Member,
+    holder: &mut H,
 ) -> Result<FetchCounts, AllocError>
     ghost logs: { Logs }
-    requires { CanFetch g.now logs workers tries link.now.others.now member.old }
-    ensures new { OnOk result (member.new ≡ alone_takes (fetched_all
-        (attempt_comes (N.passes link.now.net.now) link.now.asker link.now.loss) link.now.others.now tries member.old
-        (next_parts None member.old)) member.old) }
-    ensures planned { IfOk result (λ r. r.planned ≡ length (next_parts None member.old)) }
+    requires { CanFetch H.words g.now logs workers tries link.now.others.now holder.old }
+    ensures new { OnOk result (holder.new ≡ H.words.takes (fetched_all
+        (attempt_comes (N.passes link.now.net.now) link.now.asker link.now.loss) link.now.others.now tries
+        (H.words.holdings holder.old) (next_parts None (H.words.holdings holder.old))) holder.old) }
+    ensures planned { IfOk result (λ r. r.planned ≡ length (next_parts None (H.words.holdings holder.old))) }
     ensures parts { IfOk result (λ r. r.kept.parts ≡ length (that_came (fetched_all
-        (attempt_comes (N.passes link.now.net.now) link.now.asker link.now.loss) link.now.others.now tries member.old
-        (next_parts None member.old)))) }
+        (attempt_comes (N.passes link.now.net.now) link.now.asker link.now.loss) link.now.others.now tries
+        (H.words.holdings holder.old) (next_parts None (H.words.holdings holder.old))))) }
     ensures octets { IfOk result (λ r. r.kept.octets ≡ sum_by (size_of g.now logs) (that_came (fetched_all
-        (attempt_comes (N.passes link.now.net.now) link.now.asker link.now.loss) link.now.others.now tries member.old
-        (next_parts None member.old)))) }
+        (attempt_comes (N.passes link.now.net.now) link.now.asker link.now.loss) link.now.others.now tries
+        (H.words.holdings holder.old) (next_parts None (H.words.holdings holder.old))))) }
     ensures attempts { IfOk result (λ r. r.attempts ≡ sum (map (λ x. x.attempts) (fetched_all
-        (attempt_comes (N.passes link.now.net.now) link.now.asker link.now.loss) link.now.others.now tries member.old
-        (next_parts None member.old)))) }
-    ensures err { OnErr result (member.new ≡ member.old) }
+        (attempt_comes (N.passes link.now.net.now) link.now.asker link.now.loss) link.now.others.now tries
+        (H.words.holdings holder.old) (next_parts None (H.words.holdings holder.old))))) }
+    ensures err { OnErr result (holder.new ≡ holder.old) }
 {
-    let jobs = member.plan(alloc, g, None, PHASE_LIMIT)?;
+    let jobs = holder.jobs(alloc, g, None, PHASE_LIMIT)?;
     let outcome = phase(rt, alloc, &*link, &jobs, g.members(), tries, workers)?;
-    let kept = take_outcome(
+    let kept = holder.take(
         rt,
         alloc,
         g,
         workers,
-        member,
         &jobs,
         &outcome.parts,
         &outcome.attempts,

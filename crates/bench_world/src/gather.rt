@@ -1,19 +1,18 @@
-// What a member gathers of others in a settle.
+// What who holds parts gathers of others in a settle.
 ghost use Rattle.std.specs.Prelude.{◌≡◌, None, IfOk, OnOk, OnErr, length};
 ghost use Rattle.std.specs.List.{filter, sum_by};
 ghost use Rattle.group_model.specs.Publications.{Logs};
-ghost use Rattle.repo_member.specs.Alone.{alone_takes};
 ghost use Rattle.bench_world.specs.Lending.{lends};
 ghost use Rattle.bench_world.specs.Sizes.{size_of};
 ghost use Rattle.bench_world.specs.Conditions.{CanGather};
 ghost use Rattle.bench_world.specs.Gathering.{next_parts, lent_all, one_each, Counts, IsPlaceIn, GainsParts};
 ghost use Rattle.bench_world.specs.Gathering.{NothingLeft};
 
+use crate::holder::Holder;
 use crate::lending::MemberLink;
-use crate::taking::take_outcome;
 use bench_net::Net;
 use fetch_work::phase;
-use repo_member::{Group, Kept, Member};
+use repo_member::{Group, Kept};
 use repo_plan::Part;
 use std::alloc::{AllocError, Global};
 use std::thread::Threads;
@@ -28,27 +27,27 @@ const NOTHING: Kept = Kept {
 };
 
 // One phase, of the parts behind a place: the last part that was asked for, if one was, and what came.
-fn gain_phase<N: Net + Sync, R: Threads + Sync>(
+fn gain_phase<N: Net + Sync, R: Threads + Sync, H: Holder>(
     rt: &R,
     alloc: Global,
     g: &Group,
     link: &MemberLink<'_, N>,
     workers: u32,
-    member: &mut Member,
+    holder: &mut H,
     after: Option<Part>,
 ) -> Result<(Option<Part>, Kept), AllocError>
     ghost logs: { Logs }
-    requires { CanGather g.now logs workers link.now.others.now link.now.loss member.old }
-    ensures new { OnOk result (member.new
-        ≡ alone_takes (lent_all link.now.others.now (next_parts after member.old)) member.old) }
-    ensures place { IfOk result (λ r. IsPlaceIn (next_parts after member.old) r.0) }
+    requires { CanGather H.words g.now logs workers link.now.others.now link.now.loss holder.old }
+    ensures new { OnOk result (holder.new
+        ≡ H.words.takes (lent_all link.now.others.now (next_parts after (H.words.holdings holder.old))) holder.old) }
+    ensures place { IfOk result (λ r. IsPlaceIn (next_parts after (H.words.holdings holder.old)) r.0) }
     ensures parts { IfOk result (λ r. r.1.parts
-        ≡ length (filter (lends link.now.others.now) (next_parts after member.old))) }
-    ensures octets { IfOk result (λ r. r.1.octets
-        ≡ sum_by (size_of g.now logs) (filter (lends link.now.others.now) (next_parts after member.old))) }
-    ensures err { OnErr result (member.new ≡ member.old) }
+        ≡ length (filter (lends link.now.others.now) (next_parts after (H.words.holdings holder.old)))) }
+    ensures octets { IfOk result (λ r. r.1.octets ≡ sum_by (size_of g.now logs)
+        (filter (lends link.now.others.now) (next_parts after (H.words.holdings holder.old)))) }
+    ensures err { OnErr result (holder.new ≡ holder.old) }
 {
-    let jobs = member.plan(alloc, g, after, PHASE_LIMIT)?;
+    let jobs = holder.jobs(alloc, g, after, PHASE_LIMIT)?;
     let Some(last) = jobs.last() else {
         return Ok((None, NOTHING));
     };
@@ -56,39 +55,30 @@ fn gain_phase<N: Net + Sync, R: Threads + Sync>(
     let outcome = phase(rt, alloc, &*link, &jobs, g.members(), 1, workers)?;
     // A settle counts no attempt.
     let attempts = vec![in alloc; 0; jobs.len()]?;
-    let kept = take_outcome(
-        rt,
-        alloc,
-        g,
-        workers,
-        member,
-        &jobs,
-        &outcome.parts,
-        &attempts,
-    )?;
+    let kept = holder.take(rt, alloc, g, workers, &jobs, &outcome.parts, &attempts)?;
     Ok((Some(place), kept))
 }
 
 // Phases from the first wanted part to the last: what came.
-fn gain_round<N: Net + Sync, R: Threads + Sync>(
+fn gain_round<N: Net + Sync, R: Threads + Sync, H: Holder>(
     rt: &R,
     alloc: Global,
     g: &Group,
     link: &MemberLink<'_, N>,
     workers: u32,
-    member: &mut Member,
+    holder: &mut H,
 ) -> Result<Kept, AllocError>
     ghost logs: { Logs }
-    requires { CanGather g.now logs workers link.now.others.now link.now.loss member.old }
-    ensures gains { GainsParts g.now logs link.now.others.now member.old member.new }
-    ensures parts { IfOk result (λ kept. Counts one_each kept.parts member.old member.new) }
-    ensures octets { IfOk result (λ kept. Counts (size_of g.now logs) kept.octets member.old member.new) }
-    ensures left { IfOk result (λ kept. kept.parts ≡ 0 → NothingLeft link.now.others.now member.new) }
+    requires { CanGather H.words g.now logs workers link.now.others.now link.now.loss holder.old }
+    ensures gains { GainsParts H.words g.now logs link.now.others.now holder.old holder.new }
+    ensures parts { IfOk result (λ kept. Counts H.words one_each kept.parts holder.old holder.new) }
+    ensures octets { IfOk result (λ kept. Counts H.words (size_of g.now logs) kept.octets holder.old holder.new) }
+    ensures left { IfOk result (λ kept. kept.parts ≡ 0 → NothingLeft H.words link.now.others.now holder.new) }
 {
     let mut kept = NOTHING;
     let mut after = None;
     'phases: loop {
-        let (place, came) = gain_phase(rt, alloc, g, link, workers, member, after)?;
+        let (place, came) = gain_phase(rt, alloc, g, link, workers, holder, after)?;
         kept.parts += came.parts;
         kept.octets += came.octets;
         let Some(last) = place else {
@@ -99,24 +89,24 @@ fn gain_round<N: Net + Sync, R: Threads + Sync>(
 }
 
 /// Rounds until one brings nothing: what came.
-pub(crate) fn gather<N: Net + Sync, R: Threads + Sync>(
+pub(crate) fn gather<N: Net + Sync, R: Threads + Sync, H: Holder>(
     rt: &R,
     alloc: Global,
     g: &Group,
     link: &MemberLink<'_, N>,
     workers: u32,
-    member: &mut Member,
+    holder: &mut H,
 ) -> Result<Kept, AllocError>
     ghost logs: { Logs }
-    requires { CanGather g.now logs workers link.now.others.now link.now.loss member.old }
-    ensures gains { GainsParts g.now logs link.now.others.now member.old member.new }
-    ensures parts { IfOk result (λ kept. Counts one_each kept.parts member.old member.new) }
-    ensures octets { IfOk result (λ kept. Counts (size_of g.now logs) kept.octets member.old member.new) }
-    ensures left { OnOk result (NothingLeft link.now.others.now member.new) }
+    requires { CanGather H.words g.now logs workers link.now.others.now link.now.loss holder.old }
+    ensures gains { GainsParts H.words g.now logs link.now.others.now holder.old holder.new }
+    ensures parts { IfOk result (λ kept. Counts H.words one_each kept.parts holder.old holder.new) }
+    ensures octets { IfOk result (λ kept. Counts H.words (size_of g.now logs) kept.octets holder.old holder.new) }
+    ensures left { OnOk result (NothingLeft H.words link.now.others.now holder.new) }
 {
     let mut kept = NOTHING;
     'rounds: loop {
-        let came = gain_round(rt, alloc, g, link, workers, member)?;
+        let came = gain_round(rt, alloc, g, link, workers, holder)?;
         kept.parts += came.parts;
         kept.octets += came.octets;
         if came.parts == 0 {

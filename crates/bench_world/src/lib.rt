@@ -12,6 +12,7 @@ mod exchange;
 mod fetch;
 mod gather;
 mod hearing;
+mod holder;
 mod issued;
 mod laws;
 mod lending;
@@ -19,7 +20,6 @@ mod numbers;
 mod others;
 mod settling;
 mod step;
-mod taking;
 mod telling;
 mod world;
 

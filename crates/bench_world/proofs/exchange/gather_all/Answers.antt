@@ -1,5 +1,7 @@
 use Rattle.std.proofs.Common.{◌≡◌, ◌+◌, ◌<◌, length, take, refl, subst, ap, ◌∙◌, arith}
 use Rattle.group_model.specs.World.{logs}
+use Rattle.bench_world.specs.MemberWords.{member_words}
+use Rattle.bench_world.specs.MembersHold.{members_hold}
 use Rattle.bench_world.specs.Gathering.{one_each, held_sum, Counts}
 use Rattle.bench_world.specs.Settling.{gain_sum, GatheredSoFar}
 use Rattle.bench_world.specs.Sizes.{size_of}
@@ -90,7 +92,7 @@ overflow_add-octets g c =
     few_all c.args.g.now g.begun can.sound can.logs.are c.args.members.now.items
     can.learnt in
     let most =
-    few_octets c.args.g.now (logs g.begun) can.logs.are
+    few_octets member_words members_hold c.args.g.now (logs g.begun) can.logs.are
     (alone_at c.gather_at.new.members.items c.loop-j.j) c.gather_at.ensures.gains.truly in
     let few = can.logs.few in
     let came = c.in_ok-came.ensures.octets in
@@ -101,15 +103,15 @@ loop-j-preserved g c =
     let can = condition c.requires in
     let inside : c.loop-j.j < length c.loop-j.members.items =
     omega (arith, c.loop-j-test.true, c.len-count.ensures, c.loop-j.invariant.so_far.all.len, c.args.members.now.ok) in
-    let many : Counts one_each c.from-parts.result (alone_at c.loop-j.members.items c.loop-j.j)
+    let many : Counts member_words one_each c.from-parts.result (alone_at c.loop-j.members.items c.loop-j.j)
     (alone_at c.gather_at.new.members.items c.loop-j.j) =
-    ap (λ n. n + held_sum one_each (alone_at c.loop-j.members.items c.loop-j.j)) c.from-parts.ensures
+    ap (λ n. n + held_sum member_words one_each (alone_at c.loop-j.members.items c.loop-j.j)) c.from-parts.ensures
     ∙ c.in_ok-came.ensures.parts in
     let most =
-    few_held c.args.g.now (logs g.begun) can.logs.are (alone_at c.gather_at.new.members.items c.loop-j.j)
-    c.gather_at.ensures.gains.truly in
+    few_held member_words members_hold c.args.g.now (logs g.begun) can.logs.are
+    (alone_at c.gather_at.new.members.items c.loop-j.j) c.gather_at.ensures.gains.truly in
     let most_octets =
-    few_octets c.args.g.now (logs g.begun) can.logs.are
+    few_octets member_words members_hold c.args.g.now (logs g.begun) can.logs.are
     (alone_at c.gather_at.new.members.items c.loop-j.j) c.gather_at.ensures.gains.truly in
     let few = can.logs.few in
     record {

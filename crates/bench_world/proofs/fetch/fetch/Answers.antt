@@ -1,40 +1,48 @@
 use Rattle.std.proofs.Common.{◌≡◌, None, List, length, sym, ap, ◌∙◌, arith}
 use Rattle.std.specs.Prelude.{sum}
-use Rattle.repo_member.specs.Alone.{Fetched, alone_takes}
+use Rattle.repo_holdings.specs.Taking.{Fetched}
 use Rattle.bench_world.proofs.Phases.{few_jobs, count_jobs, can_be_tried, count_attempts, fetch_outcome, fetch_is}
 use Rattle.bench_world.proofs.Phases.{fetch_parts, fetch_octets, fetch_attempts}
-use Rattle.bench_world.proofs.Bounded.{condition}
+use Rattle.bench_world.proofs.Bounded.{condition_of_holder}
 use Rattle.bench_world.proofs.fetch.fetch.Goals as goal
 
 pub phase-requires-clause-few : goal.phase-requires-clause-few
 phase-requires-clause-few g c κs within =
-    let can = condition c.requires in
-    few_jobs (g.N.Net.passes c.args.link.now.net.now) c.args.g.now g.logs c.args.member.now c.args.link.now.others.now
-    c.args.link.now.asker c.args.link.now.loss can.logs.are can.truly can.others
+    let can = condition_of_holder c.requires in
+    let held = g.H.Holder.words.holdings c.args.holder.now in
+    let truly = g.met.H.Holder.are_holders.holder c.args.g.now g.logs c.args.holder.now can.truly in
+    few_jobs (g.N.Net.passes c.args.link.now.net.now) c.args.g.now g.logs held c.args.link.now.others.now
+    c.args.link.now.asker c.args.link.now.loss can.logs.are truly can.others
     can.tried None c.deref.result.now (c.deref.ensures.value ∙ c.in_ok-jobs.ensures)
     c.members.result.now c.members.ensures.ring
 
 pub phase-requires-clause-jobs : goal.phase-requires-clause-jobs
 phase-requires-clause-jobs g c κs within =
-    let can = condition c.requires in
-    can_be_tried (g.N.Net.passes c.args.link.now.net.now) c.args.g.now g.logs c.args.member.now
-    c.args.link.now.others.now c.args.link.now.asker c.args.link.now.loss can.logs.are can.truly can.others
+    let can = condition_of_holder c.requires in
+    let held = g.H.Holder.words.holdings c.args.holder.now in
+    let truly = g.met.H.Holder.are_holders.holder c.args.g.now g.logs c.args.holder.now can.truly in
+    can_be_tried (g.N.Net.passes c.args.link.now.net.now) c.args.g.now g.logs held
+    c.args.link.now.others.now c.args.link.now.asker c.args.link.now.loss can.logs.are truly can.others
     can.tried None c.deref.result.now (c.deref.ensures.value ∙ c.in_ok-jobs.ensures)
     c.members.result.now c.members.ensures.ring c.args.tries can.tries.1
 
-pub take_outcome-requires-clause-few : goal.take_outcome-requires-clause-few
-take_outcome-requires-clause-few g c κs within =
-    let can = condition c.requires in
-    few_jobs (g.N.Net.passes c.args.link.now.net.now) c.args.g.now g.logs c.args.member.now c.args.link.now.others.now
-    c.args.link.now.asker c.args.link.now.loss can.logs.are can.truly can.others
+pub take-requires-clause-few : goal.take-requires-clause-few
+take-requires-clause-few g c =
+    let can = condition_of_holder c.requires in
+    let held = g.H.Holder.words.holdings c.args.holder.now in
+    let truly = g.met.H.Holder.are_holders.holder c.args.g.now g.logs c.args.holder.now can.truly in
+    few_jobs (g.N.Net.passes c.args.link.now.net.now) c.args.g.now g.logs held c.args.link.now.others.now
+    c.args.link.now.asker c.args.link.now.loss can.logs.are truly can.others
     can.tried None c.deref-2.result.now (c.deref-2.ensures.value ∙ c.in_ok-jobs.ensures)
     c.members.result.now c.members.ensures.ring
 
-pub take_outcome-requires-clause-outcome : goal.take_outcome-requires-clause-outcome
-take_outcome-requires-clause-outcome g c κs within =
-    let can = condition c.requires in
-    fetch_outcome (g.N.Net.passes c.args.link.now.net.now) c.args.g.now g.logs c.args.member.now
-    c.args.link.now.others.now c.args.link.now.asker c.args.link.now.loss can.logs.are can.truly can.others
+pub take-requires-clause-outcome : goal.take-requires-clause-outcome
+take-requires-clause-outcome g c =
+    let can = condition_of_holder c.requires in
+    let held = g.H.Holder.words.holdings c.args.holder.now in
+    let truly = g.met.H.Holder.are_holders.holder c.args.g.now g.logs c.args.holder.now can.truly in
+    fetch_outcome (g.N.Net.passes c.args.link.now.net.now) c.args.g.now g.logs held
+    c.args.link.now.others.now c.args.link.now.asker c.args.link.now.loss can.logs.are truly can.others
     can.tried None c.deref-2.result.now (c.deref-2.ensures.value ∙ c.in_ok-jobs.ensures)
     c.members.result.now c.members.ensures.ring
     c.args.tries can.tries.1 c.deref.result.now (c.deref.ensures.value ∙ c.in_ok-jobs.ensures)
@@ -43,15 +51,17 @@ take_outcome-requires-clause-outcome g c κs within =
 
 pub total-requires : goal.total-requires
 total-requires g c =
-    let can = condition c.requires in
+    let can = condition_of_holder c.requires in
+    let held = g.H.Holder.words.holdings c.args.holder.now in
+    let truly = g.met.H.Holder.are_holders.holder c.args.g.now g.logs c.args.holder.now can.truly in
     let few =
-    few_jobs (g.N.Net.passes c.args.link.now.net.now) c.args.g.now g.logs c.args.member.now c.args.link.now.others.now
-    c.args.link.now.asker c.args.link.now.loss can.logs.are can.truly can.others
+    few_jobs (g.N.Net.passes c.args.link.now.net.now) c.args.g.now g.logs held c.args.link.now.others.now
+    c.args.link.now.asker c.args.link.now.loss can.logs.are truly can.others
     can.tried None c.deref-2.result.now (c.deref-2.ensures.value ∙ c.in_ok-jobs.ensures)
     c.members.result.now c.members.ensures.ring in
     let many =
-    count_attempts (g.N.Net.passes c.args.link.now.net.now) c.args.g.now g.logs c.args.member.now
-    c.args.link.now.others.now c.args.link.now.asker c.args.link.now.loss can.logs.are can.truly can.others
+    count_attempts (g.N.Net.passes c.args.link.now.net.now) c.args.g.now g.logs held
+    c.args.link.now.others.now c.args.link.now.asker c.args.link.now.loss can.logs.are truly can.others
     can.tried None c.deref-2.result.now (c.deref-2.ensures.value ∙ c.in_ok-jobs.ensures)
     c.members.result.now c.members.ensures.ring
     c.args.tries can.tries.1 c.deref.result.now (c.deref.ensures.value ∙ c.in_ok-jobs.ensures)
@@ -63,10 +73,12 @@ total-requires g c =
 
 pub returns-clause-new : goal.returns-clause-new
 returns-clause-new g c =
-    let can = condition c.requires in
-    c.in_ok-kept.ensures.ok ∙ ap (λ (xs : List Fetched). alone_takes xs c.args.member.now)
-    (fetch_is (g.N.Net.passes c.args.link.now.net.now) c.args.g.now g.logs c.args.member.now c.args.link.now.others.now
-    c.args.link.now.asker c.args.link.now.loss can.logs.are can.truly can.others
+    let can = condition_of_holder c.requires in
+    let held = g.H.Holder.words.holdings c.args.holder.now in
+    let truly = g.met.H.Holder.are_holders.holder c.args.g.now g.logs c.args.holder.now can.truly in
+    c.in_ok-kept.ensures.ok ∙ ap (λ (xs : List Fetched). g.H.Holder.words.takes xs c.args.holder.now)
+    (fetch_is (g.N.Net.passes c.args.link.now.net.now) c.args.g.now g.logs held c.args.link.now.others.now
+    c.args.link.now.asker c.args.link.now.loss can.logs.are truly can.others
     can.tried None c.deref-2.result.now (c.deref-2.ensures.value ∙ c.in_ok-jobs.ensures)
     c.members.result.now c.members.ensures.ring
     c.args.tries can.tries.1 c.deref.result.now (c.deref.ensures.value ∙ c.in_ok-jobs.ensures)
@@ -75,10 +87,12 @@ returns-clause-new g c =
 
 pub returns-clause-planned : goal.returns-clause-planned
 returns-clause-planned g c =
-    let can = condition c.requires in
+    let can = condition_of_holder c.requires in
+    let held = g.H.Holder.words.holdings c.args.holder.now in
+    let truly = g.met.H.Holder.are_holders.holder c.args.g.now g.logs c.args.holder.now can.truly in
     let count =
-    count_jobs (g.N.Net.passes c.args.link.now.net.now) c.args.g.now g.logs c.args.member.now c.args.link.now.others.now
-    c.args.link.now.asker c.args.link.now.loss can.logs.are can.truly can.others
+    count_jobs (g.N.Net.passes c.args.link.now.net.now) c.args.g.now g.logs held c.args.link.now.others.now
+    c.args.link.now.asker c.args.link.now.loss can.logs.are truly can.others
     can.tried None c.deref-2.result.now (c.deref-2.ensures.value ∙ c.in_ok-jobs.ensures)
     c.members.result.now c.members.ensures.ring in
     let same : length c.deref-2.result.now ≡ length c.in_ok-jobs.jobs.items = ap length c.deref-2.ensures.value in
@@ -86,10 +100,12 @@ returns-clause-planned g c =
 
 pub returns-clause-parts : goal.returns-clause-parts
 returns-clause-parts g c =
-    let can = condition c.requires in
+    let can = condition_of_holder c.requires in
+    let held = g.H.Holder.words.holdings c.args.holder.now in
+    let truly = g.met.H.Holder.are_holders.holder c.args.g.now g.logs c.args.holder.now can.truly in
     c.in_ok-kept.ensures.parts
-    ∙ fetch_parts (g.N.Net.passes c.args.link.now.net.now) c.args.g.now g.logs c.args.member.now
-    c.args.link.now.others.now c.args.link.now.asker c.args.link.now.loss can.logs.are can.truly can.others
+    ∙ fetch_parts (g.N.Net.passes c.args.link.now.net.now) c.args.g.now g.logs held
+    c.args.link.now.others.now c.args.link.now.asker c.args.link.now.loss can.logs.are truly can.others
     can.tried None c.deref-2.result.now (c.deref-2.ensures.value ∙ c.in_ok-jobs.ensures)
     c.members.result.now c.members.ensures.ring
     c.args.tries can.tries.1 c.deref.result.now (c.deref.ensures.value ∙ c.in_ok-jobs.ensures)
@@ -98,10 +114,12 @@ returns-clause-parts g c =
 
 pub returns-clause-octets : goal.returns-clause-octets
 returns-clause-octets g c =
-    let can = condition c.requires in
+    let can = condition_of_holder c.requires in
+    let held = g.H.Holder.words.holdings c.args.holder.now in
+    let truly = g.met.H.Holder.are_holders.holder c.args.g.now g.logs c.args.holder.now can.truly in
     c.in_ok-kept.ensures.octets
-    ∙ fetch_octets (g.N.Net.passes c.args.link.now.net.now) c.args.g.now g.logs c.args.member.now
-    c.args.link.now.others.now c.args.link.now.asker c.args.link.now.loss can.logs.are can.truly can.others
+    ∙ fetch_octets (g.N.Net.passes c.args.link.now.net.now) c.args.g.now g.logs held
+    c.args.link.now.others.now c.args.link.now.asker c.args.link.now.loss can.logs.are truly can.others
     can.tried None c.deref-2.result.now (c.deref-2.ensures.value ∙ c.in_ok-jobs.ensures)
     c.members.result.now c.members.ensures.ring
     c.args.tries can.tries.1 c.deref.result.now (c.deref.ensures.value ∙ c.in_ok-jobs.ensures)
@@ -110,11 +128,13 @@ returns-clause-octets g c =
 
 pub returns-clause-attempts : goal.returns-clause-attempts
 returns-clause-attempts g c =
-    let can = condition c.requires in
+    let can = condition_of_holder c.requires in
+    let held = g.H.Holder.words.holdings c.args.holder.now in
+    let truly = g.met.H.Holder.are_holders.holder c.args.g.now g.logs c.args.holder.now can.truly in
     c.total.ensures
     ∙ ap sum (c.deref-5.ensures.value ∙ sym c.deref-4.ensures.value
-    ∙ fetch_attempts (g.N.Net.passes c.args.link.now.net.now) c.args.g.now g.logs c.args.member.now
-    c.args.link.now.others.now c.args.link.now.asker c.args.link.now.loss can.logs.are can.truly can.others
+    ∙ fetch_attempts (g.N.Net.passes c.args.link.now.net.now) c.args.g.now g.logs held
+    c.args.link.now.others.now c.args.link.now.asker c.args.link.now.loss can.logs.are truly can.others
     can.tried None c.deref-2.result.now (c.deref-2.ensures.value ∙ c.in_ok-jobs.ensures)
     c.members.result.now c.members.ensures.ring
     c.args.tries can.tries.1 c.deref.result.now (c.deref.ensures.value ∙ c.in_ok-jobs.ensures)

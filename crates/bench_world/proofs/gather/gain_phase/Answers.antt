@@ -1,43 +1,51 @@
 use Rattle.std.proofs.Common.{◌≡◌, ◌-◌, ℕ, List, length, replicate, sym, ap, ◌∙◌, arith}
 use Rattle.sorted_lists.specs.SortedList.{contains}
 use Rattle.repo_plan.specs.Parts.{part_cmp}
-use Rattle.repo_member.specs.Alone.{Fetched, alone_takes}
+use Rattle.repo_holdings.specs.Taking.{Fetched}
 use Rattle.bench_world.specs.Gathering.{next_parts}
 use Rattle.bench_world.proofs.Phases.{few_jobs, can_be_tried, planned_place, gain_outcome, gain_is, gain_parts}
 use Rattle.bench_world.proofs.Phases.{gain_octets}
-use Rattle.bench_world.proofs.Bounded.{condition}
+use Rattle.bench_world.proofs.Bounded.{condition_of_holder}
 use Rattle.bench_world.proofs.gather.gain_phase.Goals as goal
 
 pub phase-requires-clause-few : goal.phase-requires-clause-few
 phase-requires-clause-few g c κs within =
-    let can = condition c.requires in
-    few_jobs (g.N.Net.passes c.args.link.now.net.now) c.args.g.now g.logs c.args.member.now c.args.link.now.others.now
-    c.args.link.now.asker c.args.link.now.loss can.logs.are can.truly can.others
+    let can = condition_of_holder c.requires in
+    let held = g.H.Holder.words.holdings c.args.holder.now in
+    let truly = g.met.H.Holder.are_holders.holder c.args.g.now g.logs c.args.holder.now can.truly in
+    few_jobs (g.N.Net.passes c.args.link.now.net.now) c.args.g.now g.logs held c.args.link.now.others.now
+    c.args.link.now.asker c.args.link.now.loss can.logs.are truly can.others
     can.tried c.args.after c.deref-2.result.now (c.deref-2.ensures.value ∙ c.in_ok-jobs.ensures)
     c.members.result.now c.members.ensures.ring
 
 pub phase-requires-clause-jobs : goal.phase-requires-clause-jobs
 phase-requires-clause-jobs g c κs within =
-    let can = condition c.requires in
-    can_be_tried (g.N.Net.passes c.args.link.now.net.now) c.args.g.now g.logs c.args.member.now
-    c.args.link.now.others.now c.args.link.now.asker c.args.link.now.loss can.logs.are can.truly can.others
+    let can = condition_of_holder c.requires in
+    let held = g.H.Holder.words.holdings c.args.holder.now in
+    let truly = g.met.H.Holder.are_holders.holder c.args.g.now g.logs c.args.holder.now can.truly in
+    can_be_tried (g.N.Net.passes c.args.link.now.net.now) c.args.g.now g.logs held
+    c.args.link.now.others.now c.args.link.now.asker c.args.link.now.loss can.logs.are truly can.others
     can.tried c.args.after c.deref-2.result.now (c.deref-2.ensures.value ∙ c.in_ok-jobs.ensures)
     c.members.result.now c.members.ensures.ring 1 (omega arith)
 
-pub take_outcome-requires-clause-few : goal.take_outcome-requires-clause-few
-take_outcome-requires-clause-few g c κs within =
-    let can = condition c.requires in
-    few_jobs (g.N.Net.passes c.args.link.now.net.now) c.args.g.now g.logs c.args.member.now c.args.link.now.others.now
-    c.args.link.now.asker c.args.link.now.loss can.logs.are can.truly can.others
+pub take-requires-clause-few : goal.take-requires-clause-few
+take-requires-clause-few g c =
+    let can = condition_of_holder c.requires in
+    let held = g.H.Holder.words.holdings c.args.holder.now in
+    let truly = g.met.H.Holder.are_holders.holder c.args.g.now g.logs c.args.holder.now can.truly in
+    few_jobs (g.N.Net.passes c.args.link.now.net.now) c.args.g.now g.logs held c.args.link.now.others.now
+    c.args.link.now.asker c.args.link.now.loss can.logs.are truly can.others
     can.tried c.args.after c.deref-3.result.now (c.deref-3.ensures.value ∙ c.in_ok-jobs.ensures)
     c.members.result.now c.members.ensures.ring
 
-pub take_outcome-requires-clause-outcome : goal.take_outcome-requires-clause-outcome
-take_outcome-requires-clause-outcome g c κs within =
-    let can = condition c.requires in
+pub take-requires-clause-outcome : goal.take-requires-clause-outcome
+take-requires-clause-outcome g c =
+    let can = condition_of_holder c.requires in
+    let held = g.H.Holder.words.holdings c.args.holder.now in
+    let truly = g.met.H.Holder.are_holders.holder c.args.g.now g.logs c.args.holder.now can.truly in
     let long : length c.deref-3.result.now ≡ c.len.result = c.deref-3.ensures.len ∙ sym c.len.ensures in
-    gain_outcome (g.N.Net.passes c.args.link.now.net.now) c.args.g.now g.logs c.args.member.now
-    c.args.link.now.others.now c.args.link.now.asker c.args.link.now.loss can.logs.are can.truly can.others
+    gain_outcome (g.N.Net.passes c.args.link.now.net.now) c.args.g.now g.logs held
+    c.args.link.now.others.now c.args.link.now.asker c.args.link.now.loss can.logs.are truly can.others
     can.tried c.args.after c.deref-3.result.now (c.deref-3.ensures.value ∙ c.in_ok-jobs.ensures)
     c.members.result.now c.members.ensures.ring
     can.loss c.deref-2.result.now (c.deref-2.ensures.value ∙ c.in_ok-jobs.ensures)
@@ -48,11 +56,13 @@ take_outcome-requires-clause-outcome g c κs within =
 
 pub returns-clause-new : goal.returns-clause-new
 returns-clause-new g c =
-    let can = condition c.requires in
+    let can = condition_of_holder c.requires in
+    let held = g.H.Holder.words.holdings c.args.holder.now in
+    let truly = g.met.H.Holder.are_holders.holder c.args.g.now g.logs c.args.holder.now can.truly in
     let long : length c.deref-3.result.now ≡ c.len.result = c.deref-3.ensures.len ∙ sym c.len.ensures in
-    c.in_ok-kept.ensures.ok ∙ ap (λ (xs : List Fetched). alone_takes xs c.args.member.now)
-    (gain_is (g.N.Net.passes c.args.link.now.net.now) c.args.g.now g.logs c.args.member.now c.args.link.now.others.now
-    c.args.link.now.asker c.args.link.now.loss can.logs.are can.truly can.others
+    c.in_ok-kept.ensures.ok ∙ ap (λ (xs : List Fetched). g.H.Holder.words.takes xs c.args.holder.now)
+    (gain_is (g.N.Net.passes c.args.link.now.net.now) c.args.g.now g.logs held c.args.link.now.others.now
+    c.args.link.now.asker c.args.link.now.loss can.logs.are truly can.others
     can.tried c.args.after c.deref-3.result.now (c.deref-3.ensures.value ∙ c.in_ok-jobs.ensures)
     c.members.result.now c.members.ensures.ring
     can.loss c.deref-2.result.now (c.deref-2.ensures.value ∙ c.in_ok-jobs.ensures)
@@ -63,21 +73,25 @@ returns-clause-new g c =
 
 pub returns-clause-place : goal.returns-clause-place
 returns-clause-place g c =
-    let can = condition c.requires in
-    ap (contains part_cmp (next_parts c.args.after c.args.member.now)) c.part-place.ensures
-    ∙ planned_place (g.N.Net.passes c.args.link.now.net.now) c.args.g.now g.logs c.args.member.now
-    c.args.link.now.others.now c.args.link.now.asker c.args.link.now.loss can.logs.are can.truly can.others
+    let can = condition_of_holder c.requires in
+    let held = g.H.Holder.words.holdings c.args.holder.now in
+    let truly = g.met.H.Holder.are_holders.holder c.args.g.now g.logs c.args.holder.now can.truly in
+    ap (contains part_cmp (next_parts c.args.after held)) c.part-place.ensures
+    ∙ planned_place (g.N.Net.passes c.args.link.now.net.now) c.args.g.now g.logs held
+    c.args.link.now.others.now c.args.link.now.asker c.args.link.now.loss can.logs.are truly can.others
     can.tried c.args.after c.deref.result.now (c.deref.ensures.value ∙ c.in_ok-jobs.ensures)
     c.members.result.now c.members.ensures.ring
     c.in-Some.last.now (length c.deref.result.now - 1) (sym c.in-Some.ensures.value)
 
 pub returns-clause-parts : goal.returns-clause-parts
 returns-clause-parts g c =
-    let can = condition c.requires in
+    let can = condition_of_holder c.requires in
+    let held = g.H.Holder.words.holdings c.args.holder.now in
+    let truly = g.met.H.Holder.are_holders.holder c.args.g.now g.logs c.args.holder.now can.truly in
     let long : length c.deref-3.result.now ≡ c.len.result = c.deref-3.ensures.len ∙ sym c.len.ensures in
     c.in_ok-kept.ensures.parts
-    ∙ gain_parts (g.N.Net.passes c.args.link.now.net.now) c.args.g.now g.logs c.args.member.now
-    c.args.link.now.others.now c.args.link.now.asker c.args.link.now.loss can.logs.are can.truly can.others
+    ∙ gain_parts (g.N.Net.passes c.args.link.now.net.now) c.args.g.now g.logs held
+    c.args.link.now.others.now c.args.link.now.asker c.args.link.now.loss can.logs.are truly can.others
     can.tried c.args.after c.deref-3.result.now (c.deref-3.ensures.value ∙ c.in_ok-jobs.ensures)
     c.members.result.now c.members.ensures.ring
     can.loss c.deref-2.result.now (c.deref-2.ensures.value ∙ c.in_ok-jobs.ensures)
@@ -88,11 +102,13 @@ returns-clause-parts g c =
 
 pub returns-clause-octets : goal.returns-clause-octets
 returns-clause-octets g c =
-    let can = condition c.requires in
+    let can = condition_of_holder c.requires in
+    let held = g.H.Holder.words.holdings c.args.holder.now in
+    let truly = g.met.H.Holder.are_holders.holder c.args.g.now g.logs c.args.holder.now can.truly in
     let long : length c.deref-3.result.now ≡ c.len.result = c.deref-3.ensures.len ∙ sym c.len.ensures in
     c.in_ok-kept.ensures.octets
-    ∙ gain_octets (g.N.Net.passes c.args.link.now.net.now) c.args.g.now g.logs c.args.member.now
-    c.args.link.now.others.now c.args.link.now.asker c.args.link.now.loss can.logs.are can.truly can.others
+    ∙ gain_octets (g.N.Net.passes c.args.link.now.net.now) c.args.g.now g.logs held
+    c.args.link.now.others.now c.args.link.now.asker c.args.link.now.loss can.logs.are truly can.others
     can.tried c.args.after c.deref-3.result.now (c.deref-3.ensures.value ∙ c.in_ok-jobs.ensures)
     c.members.result.now c.members.ensures.ring
     can.loss c.deref-2.result.now (c.deref-2.ensures.value ∙ c.in_ok-jobs.ensures)

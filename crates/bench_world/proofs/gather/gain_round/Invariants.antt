@@ -11,8 +11,8 @@ ghost-gain_phase g a = g.logs
 
 abbrev pub invariant-phases : goal.invariant-phases
 invariant-phases g l = record {
-  so_far : RoundSoFar l.g g.logs l.link.others.now l.after l.kept.parts l.fn.member l.member;
-  octets : Counts (size_of l.g g.logs) l.kept.octets l.fn.member l.member;
+  so_far : RoundSoFar g.H.Holder.words l.g g.logs l.link.others.now l.after l.kept.parts l.fn.holder l.holder;
+  octets : Counts g.H.Holder.words (size_of l.g g.logs) l.kept.octets l.fn.holder l.holder;
 }
 
 abbrev pub decreases-phases : goal.decreases-phases

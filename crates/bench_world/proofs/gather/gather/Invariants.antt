@@ -9,10 +9,10 @@ ghost-gain_round g a = g.logs
 
 abbrev pub invariant-rounds : goal.invariant-rounds
 invariant-rounds g l = record {
-  gains : GainsParts l.g g.logs l.link.others.now l.fn.member l.member;
-  parts : Counts one_each l.kept.parts l.fn.member l.member;
-  octets : Counts (size_of l.g g.logs) l.kept.octets l.fn.member l.member;
+  gains : GainsParts g.H.Holder.words l.g g.logs l.link.others.now l.fn.holder l.holder;
+  parts : Counts g.H.Holder.words one_each l.kept.parts l.fn.holder l.holder;
+  octets : Counts g.H.Holder.words (size_of l.g g.logs) l.kept.octets l.fn.holder l.holder;
 }
 
 abbrev pub decreases-rounds : goal.decreases-rounds
-decreases-rounds g l = length (all_parts g.logs) - held_sum one_each l.member
+decreases-rounds g l = length (all_parts g.logs) - held_sum g.H.Holder.words one_each l.holder

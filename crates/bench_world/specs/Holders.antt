@@ -1,0 +1,56 @@
+-- Whoever holds parts in a group and fetches more of them: the words in which contracts speak of it, and what holds
+-- whatever it is.
+use Rattle.std.specs.Prelude.{◌≡◌, Bool, true, false, ◌||◌, List, Some, None, IfSome}
+use Rattle.std.specs.List.{All}
+use Rattle.repo_plan.specs.declared.part.Part.{Part}
+use Rattle.repo_plan.specs.Parts.{part_cmp}
+use Rattle.repo_plan.specs.Plan.{is_wanted, is_unclaimed}
+use Rattle.sorted_lists.specs.SortedList.{Rises, contains}
+use Rattle.repo_holdings.specs.HoldingsState.{HoldingsState, held_plan}
+use Rattle.repo_holdings.specs.Taking.{Fetched}
+use Rattle.group_model.specs.Publications.{Logs}
+use Rattle.group_model.specs.Sound.{IsPublishedPart}
+use Rattle.repo_member.specs.Groups.{GroupKeys}
+use Rattle.repo_member.specs.InGroup.{AreLogs, true_packet, that_came}
+use Rattle.repo_member.specs.TrueHolders.{IsTrueHolder}
+
+-- What contracts say of a holder of some kind.
+pub record HolderWords (H : Type 0) : Type 1 where
+  pub holdings : H → HoldingsState  -- what it has of publications; its plan is read there
+  pub held : H → List Part  -- the parts that it has come to hold, in order
+  pub rest : H → H  -- all of it but those
+  pub takes : List Fetched → H → H  -- what it makes of what came
+  pub is_true : GroupKeys → Logs → H → Type 0  -- what it holds is what was published
+
+-- It holds the part.
+abbrev pub has : {H : Type 0} → HolderWords H → H → Part → Bool
+has words s t = contains part_cmp (words.held s) t
+
+-- A part that it wants and that no fetcher claims was asked for, and nothing came, or its packet.
+pub record CameForHolder (g : GroupKeys) (logs : Logs) (h : HoldingsState) (x : Fetched) : Type 0 where
+  pub unclaimed : is_unclaimed (held_plan h) x.part ≡ true
+  pub packet : IfSome x.packet (λ octets. true_packet g logs x.part ≡ Some octets)
+
+-- No packet came, and no attempt is counted.
+pub record CameToNothing (x : Fetched) : Type 0 where
+  pub packet : x.packet ≡ None
+  pub attempts : x.attempts ≡ 0
+
+-- What holds of each holder of a kind: what it holds is in order, was published, and isn't wanted; where packets of
+-- wanted parts come, it holds those parts too; and nothing else of it changes where no attempt is counted.
+pub record AreHolders {H : Type 0} (words : HolderWords H) : Type 0 where
+  pub holder : (g : GroupKeys) (logs : Logs) (s : H) → words.is_true g logs s → IsTrueHolder g logs (words.holdings s)
+  pub in_order : (g : GroupKeys) (logs : Logs) (s : H) → words.is_true g logs s → Rises part_cmp (words.held s)
+  pub published : (g : GroupKeys) (logs : Logs) (s : H) (t : Part) → words.is_true g logs s → has words s t ≡ true
+      → IsPublishedPart logs t
+  pub not_held : (s : H) (t : Part) → is_wanted (held_plan (words.holdings s)) t ≡ true → has words s t ≡ false
+  pub takes_truly : (g : GroupKeys) (logs : Logs) (xs : List Fetched) (s : H) → AreLogs g logs
+      → All (CameForHolder g logs (words.holdings s)) xs → words.is_true g logs s
+      → words.is_true g logs (words.takes xs s)
+  pub takes_those : (g : GroupKeys) (logs : Logs) (xs : List Fetched) (s : H) (t : Part) → AreLogs g logs
+      → All (CameForHolder g logs (words.holdings s)) xs → words.is_true g logs s
+      → has words (words.takes xs s) t ≡ (contains part_cmp (that_came xs) t || has words s t)
+  pub takes_nothing : (xs : List Fetched) (s : H) → All CameToNothing xs → words.takes xs s ≡ s
+  pub rest_stays : (xs : List Fetched) (s : H) → All (λ x. x.attempts ≡ 0) xs
+      → words.rest (words.takes xs s) ≡ words.rest s
+  pub attempts : (s : H) → (words.holdings s).attempts ≡ (words.holdings (words.rest s)).attempts

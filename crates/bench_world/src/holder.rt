@@ -1,0 +1,96 @@
+// Who holds parts, and fetches more of them.
+ghost use Rattle.std.specs.Prelude.{◌≡◌, ◌≤◌, length, is_some, count_by, IfOk, OnOk, OnErr};
+ghost use Rattle.std.specs.List.{sum_by};
+ghost use Rattle.std.specs.Thread.{IsSync};
+ghost use Rattle.repo_member.specs.Outcomes.{IsOutcomeOf, jobs_of, job_limit, outcome_of, octets_in};
+ghost use Rattle.bench_world.specs.Holders.{HolderWords, AreHolders};
+
+use fetch_work::digests;
+use repo_member::{Group, Kept, Member};
+use repo_object::{Checked, Job};
+use repo_plan::Part;
+use std::alloc::{AllocError, Global};
+use std::thread::Threads;
+
+/// Who holds parts of a group's publications and plans jobs for more of them: a member, and whoever publishes nothing.
+pub(crate) trait Holder {
+    ghost words: { HolderWords Self };
+
+    /// The least parts that it wants, that no fetcher claims and that are greater than `after`, at most `most` of them,
+    /// as jobs whose attempts go on from those that were made.
+    fn jobs(
+        &self,
+        alloc: Global,
+        g: &Group,
+        after: Option<Part>,
+        most: usize,
+    ) -> Result<Vec<Job>, AllocError>
+        requires { length g.now.members.names ≡ length (words.holdings self.now).known }
+        ensures { IfOk result (λ jobs. jobs.items ≡ jobs_of g.now (words.holdings self.now) after most) };
+
+    /// Takes what came of jobs that it planned: for each job its packet, if one came, and how often it was tried. Where
+    /// there are several workers, they make the digests over the contents of what becomes whole.
+    //
+    // That threads may share the handle is a condition, since the bounds of a trait's method don't say it to its proof.
+    fn take<R: Threads + Sync>(
+        &mut self,
+        rt: &R,
+        alloc: Global,
+        g: &Group,
+        workers: u32,
+        jobs: &[Job],
+        parts: &[Option<Checked<'_>>],
+        attempts: &[u32],
+    ) -> Result<Kept, AllocError>
+        requires shared { IsSync R.row }
+        requires workers { (1 ≤ workers) × (workers ≤ 16) }
+        requires group { length g.now.members.names ≡ length (words.holdings self.old).known }
+        requires outcome { IsOutcomeOf g.now (words.holdings self.old) jobs.now parts.now attempts.now }
+        requires few { length jobs.now ≤ job_limit }
+        ensures ok { OnOk result (self.new ≡ words.takes (outcome_of jobs.now parts.now attempts.now) self.old) }
+        ensures parts { IfOk result (λ kept. kept.parts ≡ count_by is_some parts.now) }
+        ensures octets { IfOk result (λ kept. kept.octets ≡ sum_by octets_in parts.now) }
+        ensures err { OnErr result (self.new ≡ self.old) };
+
+    ghost are_holders: { AreHolders words };
+}
+
+impl Holder for Member {
+    ghost use Rattle.bench_world.specs.MemberWords.{member_words};
+    ghost use Rattle.bench_world.specs.MembersHold.{members_hold};
+
+    ghost words = { member_words };
+
+    fn jobs(
+        &self,
+        alloc: Global,
+        g: &Group,
+        after: Option<Part>,
+        most: usize,
+    ) -> Result<Vec<Job>, AllocError> {
+        self.plan(alloc, g, after, most)
+    }
+
+    fn take<R: Threads + Sync>(
+        &mut self,
+        rt: &R,
+        alloc: Global,
+        g: &Group,
+        workers: u32,
+        jobs: &[Job],
+        parts: &[Option<Checked<'_>>],
+        attempts: &[u32],
+    ) -> Result<Kept, AllocError> {
+        if workers == 1 {
+            return self.take_outcome(g, jobs, parts, attempts);
+        }
+        let all = self.tried(g, jobs, parts, attempts)?;
+        let told = {
+            let whole = self.whole_with(alloc, &all)?;
+            digests(rt, alloc, &whole, workers)?
+        };
+        self.take_digested(all, &told)
+    }
+
+    ghost are_holders = { members_hold };
+}
