@@ -1,0 +1,7 @@
+mod Places
+mod Missing
+mod States
+mod Turning
+mod Publishing
+mod Passes
+mod Ending

@@ -1,0 +1,144 @@
+-- The calls of a settle over members in their places.
+use Rattle.std.proofs.Common.{◌≡◌, ℕ, ◌+◌, ◌*◌, ◌≤◌, ◌<◌, Bool, true, false, List, length, get_or, set, refl, sym, ap}
+use Rattle.std.proofs.Common.{◌∙◌}
+use Rattle.std.proofs.Common.{subst, arith, Option, Some, None}
+use Rattle.std.specs.Prelude.{IsSomeAnd}
+use Rattle.std.proofs.lemmas.Bool.{true≢false}
+use Rattle.std.proofs.lemmas.List.{get_or-set_other, get_or_default, length-set}
+use Rattle.repo_plan.specs.declared.part.Part.{Part}
+use Rattle.sorted_lists.specs.SortedList.{keys}
+use Rattle.repo_plan.specs.Plan.{unclaimed, first}
+use Rattle.repo_member.specs.Alone.{alone_plan, logged}
+use Rattle.repo_member.specs.InGroup.{true_packet}
+use Rattle.repo_member.specs.Verdicts.{sync_of}
+use Rattle.live_member.specs.declared.event.LiveEvent.TheVariants as event
+use Rattle.live_member.specs.declared.event.LiveReply.{LiveReply}
+use Rattle.live_member.specs.declared.event.LiveReply.TheVariants as reply
+use Rattle.live_member.specs.Meanings.{Meaning, whole_logs}
+use Rattle.live_member.specs.Tellings.{Loan}
+use Rattle.live_member.specs.Lives.{Living}
+use Rattle.live_member.specs.LockedCalls.{StepsBy}
+use Rattle.live_member.proofs.PublicLaws.{width_whole}
+use Rattle.live_settle.specs.Ready.{at, Only, IsReady, AreReady, KnowsThose, Hears, IsGathering, AreGathering, Turned}
+use Rattle.live_settle.specs.Ready.{Joins}
+use Rattle.live_settle.specs.Ready.{AfterTurn, IsJoined, missing_of}
+use Rattle.live_settle.proofs.Missing.{missing_few}
+use Rattle.live_settle.proofs.Places.{no_living, at_set, at_found, only_set, only_again, only_itself, only_on}
+use Rattle.live_settle.proofs.States.{HasHeard, has_heard, passes_itself}
+use Rattle.live_settle.proofs.Turning.{next_part, nothing_left, entered, publisher_there, publisher_other, lends}
+use Rattle.live_settle.proofs.Turning.{HasTurned}
+use Rattle.live_settle.proofs.Turning.{has_turned}
+
+-- ---- what is heard
+
+pub heard_at : (t : Meaning) (ls : List Living) (j p : ℕ) (d e new : Living) (octets : List ℕ) (r : LiveReply)
+    → AreReady t ls → j < length ls → p < length ls → length (at ls j).journal < 1000000
+    → KnowsThose (whole_logs t) p (at ls j).state.known
+    → octets ≡ sync_of t.group (get_or ls p e).state.number (get_or ls p e).state.known
+    → StepsBy t 1000000 (event.Hear octets) (get_or ls j d) new r → Hears t j (p + 1) 1 ls (set ls j new)
+heard_at t ls j p d e new octets r ready there other room knows told steps =
+    let mine = at_found ls j d there in
+    let theirs = at_found ls p e other in
+    let h : HasHeard t (p + 1) (at ls j) new =
+    has_heard t (at ls j) (at ls p) new p octets r (ready.each j there) (ready.each p other)
+    (ready.placed.numbers p other) knows room
+    (told ∙ ap (λ (m : Living). sync_of t.group m.state.number m.state.known) theirs)
+    (subst (λ (m : Living). StepsBy t 1000000 (event.Hear octets) m new r) mine steps) in
+    let here = at_set ls j new there in
+    record {
+      only = only_set ls j new there h.number;
+      ready = subst (IsReady t) (sym here) h.ready;
+      knows = subst (λ (m : Living). KnowsThose (whole_logs t) (p + 1) m.state.known) (sym here) h.knows;
+      few =
+          let same = ap (λ (m : Living). length m.journal) here in
+          let longer = h.entries in omega (arith, same, longer);
+    }
+
+pub hears_gathering : (t : Meaning) (j : ℕ) (old new : List Living) → Hears t j (length t.lists) 16 old new
+    → IsGathering t (at new j)
+hears_gathering t j old new h = record {
+  ready = h.ready;
+  knows = λ p less. h.knows p (omega (arith, less, width_whole t));
+}
+
+-- ---- what comes
+
+module _ (t : Meaning) (ls : List Living) (j : ℕ) (d mid : Living) (r : LiveReply) (ready : AreReady t ls)
+    (there : j < length ls) (is : IsGathering t (at ls j)) (room : length (at ls j).journal ≤ 999000)
+    (steps : StepsBy t 1000000 (event.Claim 1) (get_or ls j d) mid r) where
+  less : length (at ls j).journal < 1000000
+  less = omega (arith, room)
+
+  here : StepsBy t 1000000 (event.Claim 1) (at ls j) mid r
+  here = subst (λ (m : Living). StepsBy t 1000000 (event.Claim 1) m mid r) (at_found ls j d there) steps
+
+  mid_number : mid.state.number ≡ (at ls j).state.number
+  mid_number = (entered t (at ls j) mid r is less here).number
+
+  pub joins_at : ((part : Part) → r ≡ reply.Claimed part → ⊥) → Joins t j ls (set ls j mid)
+  joins_at none = record {
+    only = only_set ls j mid there mid_number;
+    joined = subst (IsJoined t) (sym (at_set ls j mid there)) (nothing_left t (at ls j) mid r is less here none);
+  }
+
+  module _ (part : Part) (its : r ≡ reply.Claimed part) where
+    next : first (unclaimed (alone_plan (at ls j).state)) ≡ Some part
+    next = next_part t (at ls j) mid r is less here part its
+
+    pub publisher_in : part.publisher < length ls
+    publisher_in =
+        let inside = publisher_there t (at ls j) is part next in
+        omega (arith, inside, width_whole t, ready.placed.width)
+
+    other : part.publisher ≡ j → ⊥
+    other e = publisher_other t (at ls j) is part next (e ∙ sym (ready.placed.numbers j there))
+
+    pub publisher_found : (e : Living) → get_or (set ls j mid) part.publisher e ≡ at ls part.publisher
+    publisher_found e =
+        get_or-set_other ls j part.publisher mid e other ∙ get_or_default ls part.publisher e no_living publisher_in
+
+    pub lent : IsSomeAnd (logged t.group (at ls part.publisher).state part)
+        (λ octets. true_packet t.group (whole_logs t) part ≡ Some octets)
+    lent =
+        lends t (at ls j) is part next (at ls part.publisher) (ready.each part.publisher publisher_in)
+        (sym (ready.placed.numbers part.publisher publisher_in))
+
+    pub never_none : (e : Living) → logged t.group (get_or (set ls j mid) part.publisher e).state part ≡ None → ⊥
+    never_none e h =
+        subst (λ (o : Option (List ℕ)). IsSomeAnd o (λ octets. true_packet t.group (whole_logs t) part ≡ Some octets))
+        (sym (ap (λ (m : Living). logged t.group m.state part) (publisher_found e)) ∙ h) lent
+
+    pub packet_so : (e : Living) (octets : List ℕ)
+        → logged t.group (get_or (set ls j mid) part.publisher e).state part ≡ Some octets
+        → true_packet t.group (whole_logs t) part ≡ Some octets
+    packet_so e octets h =
+        subst (λ (o : Option (List ℕ)). IsSomeAnd o (λ octets. true_packet t.group (whole_logs t) part ≡ Some octets))
+        (sym (ap (λ (m : Living). logged t.group m.state part) (publisher_found e)) ∙ h) lent
+
+    pub turned_at : (e f new : Living) (s : LiveReply) (loan : Loan) → loan.part ≡ part
+        → logged t.group (get_or (set ls j mid) part.publisher e).state part ≡ Some loan.octets
+        → StepsBy t 1000000 (event.Accept 1 loan.part) (get_or (set ls j mid) j f) new s
+        → Turned t j 1 ls (set (set ls j mid) j new)
+    turned_at e f new s loan same its_packet accept =
+        let wide : j < length (set ls j mid) = omega (arith, there, length-set ls j mid) in
+        let mine : get_or (set ls j mid) j f ≡ mid =
+        at_found (set ls j mid) j f wide ∙ at_set ls j mid there in
+        let h : HasTurned t (at ls j) new =
+        has_turned t (at ls j) mid new r s part loan is room here its same (packet_so e loan.octets its_packet)
+        (subst (λ (m : Living). StepsBy t 1000000 (event.Accept 1 loan.part) m new s) mine accept) in
+        let now : at (set (set ls j mid) j new) j ≡ new = at_set (set ls j mid) j new wide in
+        record {
+          only = only_again ls j mid new there h.number;
+          gathering = subst (IsGathering t) (sym now) h.gathering;
+          fewer = subst (λ (m : Living). missing_of t m.state + 1 ≤ missing_of t (at ls j).state) (sym now) h.fewer;
+          few =
+              let long = ap (λ (m : Living). length m.journal) now in
+              let more = h.entries in omega (arith, long, more);
+        }
+
+-- all parts have come before so many turns are made
+pub turns_end : (t : Meaning) (j n : ℕ) (old new : List Living) → Turned t j n old new → n ≤ 4000
+turns_end t j n old new is =
+    let most = missing_few (whole_logs t) (keys (at old j).state.store) in
+    let within = is.gathering.ready.live.within.parts in
+    omega (arith, is.fewer, most, within)

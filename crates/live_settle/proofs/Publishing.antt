@@ -1,0 +1,90 @@
+-- What is left of a list is published, and claims end.
+use Rattle.std.proofs.Common.{◌≡◌, inl, inr, ℕ, zero, suc, ◌+◌, ◌-◌, ◌≤◌, ◌<◌, List, [], ◌∷◌, ◌++◌, length, get_or}
+use Rattle.std.proofs.Common.{set, refl}
+use Rattle.std.proofs.Common.{sym, ap}
+use Rattle.std.proofs.Common.{◌∙◌, subst, arith, Option, Some, None, Ok}
+use Rattle.std.specs.Prelude.{sum_by, replicate}
+use Rattle.std.proofs.lemmas.List.{length-append, length-map, set-get_or, get_or-set_same, get_or-set_other, length-set}
+use Rattle.std.proofs.lemmas.List.Sums.{sum_by-cons}
+use Rattle.std.proofs.lemmas.Bool.{cases_eq}
+use Rattle.repo_object.specs.Objects.{NamedContents}
+use Rattle.repo_object.specs.Objects.Post.{Offers}
+use Rattle.repo_plan.specs.declared.part.Part.{Part}
+use Rattle.repo_plan.specs.Plan.{no_claims, claim_of}
+use Rattle.group_model.specs.Member.{Member}
+use Rattle.repo_member.specs.Alone.{Alone, alone_plan, alone_claims}
+use Rattle.repo_member.specs.InGroup.{in_group}
+use Rattle.live_member.specs.declared.event.LiveEvent.TheVariants as event
+use Rattle.live_member.specs.declared.event.LiveReply.{LiveReply}
+use Rattle.live_member.specs.Meanings.{Meaning, as_posts, objects_of}
+use Rattle.live_member.specs.Lives.{Living, IsLive}
+use Rattle.live_member.specs.LockedCalls.{IsNext, StepsBy}
+use Rattle.live_member.specs.Calls.{lose_change_of}
+use Rattle.live_settle.specs.Ready.{IsReady, Loses}
+use Rattle.live_settle.proofs.States.{lose_state}
+
+one_in_sum : {X : Type 0} (xs : List (List X)) (j : ℕ) → length (get_or xs j []) ≤ sum_by length xs
+one_in_sum [] j = omega arith
+one_in_sum (x ∷ xs) zero = let all = sum_by-cons length x xs in omega (arith, all)
+one_in_sum (x ∷ xs) (suc j) =
+    let all = sum_by-cons length x xs in
+    let h = one_in_sum xs j in omega (arith, all, h)
+
+-- no more are to come than there are
+few_come : (t : Meaning) (most : ℕ) (l : Living) → IsLive t most l → length l.coming ≤ 200
+few_come t most l is =
+    let j : ℕ = l.state.number in
+    let all : length (l.state.log ++ as_posts l.coming) ≡ length (as_posts (objects_of t j)) = ap length is.list in
+    let one = one_in_sum t.lists j in
+    omega (
+      arith,
+      all,
+      one,
+      is.within.objects,
+      length-append l.state.log (as_posts l.coming),
+      length-map l.coming (λ (o : NamedContents). Offers o),
+      length-map (objects_of t j) (λ
+          (o : NamedContents). Offers o),
+    )
+
+-- so many objects were published
+pub record IsPublishing (t : Meaning) (n : ℕ) (old l : Living) : Type 0 where
+  pub live : IsLive t 1000000 l
+  pub coming : length l.coming + n ≤ 200
+  pub number : l.state.number ≡ old.state.number
+  pub few : length l.journal ≤ 900000 + n
+
+pub nothing_yet : (t : Meaning) (l : Living) → IsLive t 1000000 l → length l.journal ≤ 900000 → IsPublishing t 0 l l
+nothing_yet t l live room = record {
+  live = live;
+  coming = let few = few_come t 1000000 l live in omega (arith, few);
+  number = refl;
+  few = omega (arith, room);
+}
+
+-- ---- claims
+
+-- the fetchers before this one claim nothing
+pub record IsLosing (t : Meaning) (n : ℕ) (old l : Living) : Type 0 where
+  pub live : IsLive t 1000000 l
+  pub coming : l.coming ≡ []
+  pub number : l.state.number ≡ old.state.number
+  pub few : length l.journal ≤ 900200 + n
+  pub none : (k : ℕ) → k < n → get_or l.state.claims k None ≡ None
+
+no_claims_left : (n : ℕ) (cs : List (Option Part)) → length cs ≡ n → ((k : ℕ) → k < n → get_or cs k None ≡ None)
+    → cs ≡ replicate n None
+no_claims_left zero [] e h = refl
+no_claims_left zero (c ∷ cs) e h = absurd (omega (arith, e))
+no_claims_left (suc n) [] e h = absurd (omega (arith, e))
+no_claims_left (suc n) (c ∷ cs) e h =
+    let one : c ≡ None = h 0 (omega arith) in
+    let rest : cs ≡ replicate n None = no_claims_left n cs (omega (arith, e)) (λ k l. h (suc k) (omega (arith, l))) in
+    λ i. one i ∷ rest i
+
+pub all_lost : (t : Meaning) (old l : Living) → IsLosing t 16 old l → IsReady t l
+all_lost t old l is = record {
+  live = is.live;
+  coming = is.coming;
+  claims = no_claims_left 16 l.state.claims is.live.truly.sound.fetchers is.none;
+}

@@ -1,0 +1,13 @@
+pub use Rattle.repo_plan.specs.Calls
+pub use Rattle.repo_plan.specs.Plan
+pub use Rattle.group_model.specs.Publications
+pub use Rattle.group_model.specs.OneMember
+pub use Rattle.repo_member.specs.Alone
+pub use Rattle.repo_member.specs.TrueMembers
+pub use Rattle.repo_holdings.specs.Listed
+pub use Rattle.live_member.specs.Meanings
+pub use Rattle.live_member.specs.Replay
+pub use Rattle.live_member.specs.Lives
+pub use Rattle.live_member.specs.LockedCalls
+pub mod Ready
+pub mod Rans

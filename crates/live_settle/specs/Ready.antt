@@ -1,0 +1,111 @@
+-- The members of a settle, each in its place.
+use Rattle.std.specs.Prelude.{ℕ, ◌≡◌, ◌≢◌, ◌+◌, ◌*◌, ◌<◌, ◌≤◌, Bool, true, false, not, List, [], length, None}
+use Rattle.std.specs.Prelude.{filter, slice_index, slice_index_or}
+use Rattle.repo_plan.specs.declared.part.Part.{Part}
+use Rattle.sorted_lists.specs.SortedList.{contains, keys}
+use Rattle.repo_plan.specs.Parts.{part_cmp}
+use Rattle.repo_plan.specs.Plan.{no_claims}
+use Rattle.group_model.specs.Publications.{Logs, last_of, all_parts, join_of}
+use Rattle.group_model.specs.OneMember.{KnowsAll}
+use Rattle.repo_member.specs.Alone.{Alone, alone_opening, alone_claims}
+use Rattle.repo_holdings.specs.Listed.{alone_catalogue}
+use Rattle.live_member.specs.Meanings.{Meaning, whole_logs}
+use Rattle.live_member.specs.Lives.{Living, living, IsLive}
+
+-- The member at a place.
+abbrev pub at : List Living → ℕ → Living
+at ls p = slice_index_or ls p (living (alone_opening 0 0 0 0) [] [])
+
+abbrev pub AreLive : Meaning → List Living → Type 0
+AreLive t ls = (p : ℕ) → p < length ls → IsLive t 1000000 (at ls p)
+
+-- Each member stands at the place of its number.
+pub record ArePlaced (t : Meaning) (ls : List Living) : Type 0 where
+  pub width : length ls ≡ length t.lists
+  pub numbers : (p : ℕ) → p < length ls → (at ls p).state.number ≡ p
+
+-- From a place on, no journal has more entries than this.
+abbrev pub HasRoom : ℕ → ℕ → List Living → Type 0
+HasRoom from most ls = (p : ℕ) → from ≤ p → p < length ls → length (at ls p).journal ≤ most
+
+-- Only the member at place `j` has changed.
+pub record Only (j : ℕ) (old new : List Living) : Type 0 where
+  pub width : length new ≡ length old
+  pub others : (p : ℕ) → p ≢ j → at new p ≡ at old p
+  pub number : (at new j).state.number ≡ (at old j).state.number
+
+-- ---- what was published, and claims
+
+-- A fetcher's claim has ended, by an entry, or it had none.
+pub record Loses (t : Meaning) (f : ℕ) (old new : Living) : Type 0 where
+  pub live : IsLive t 1000000 new
+  pub claims : new.state.claims ≡ (alone_claims f None old.state).claims
+  pub number : new.state.number ≡ old.state.number
+  pub coming : new.coming ≡ old.coming
+  pub entries : length new.journal ≤ length old.journal + 1
+
+-- A member whose whole list is published, and of which no fetcher claims a part.
+pub record IsReady (t : Meaning) (l : Living) : Type 0 where
+  pub live : IsLive t 1000000 l
+  pub coming : l.coming ≡ []
+  pub claims : l.state.claims ≡ no_claims
+
+pub record AreReady (t : Meaning) (ls : List Living) : Type 0 where
+  pub placed : ArePlaced t ls
+  pub each : (p : ℕ) → p < length ls → IsReady t (at ls p)
+
+-- ---- what is heard
+
+-- A vector with these numbers tells of all publications of the first `n` members.
+abbrev pub KnowsThose : Logs → ℕ → List ℕ → Type 0
+KnowsThose ls n known = (p : ℕ) → p < n → last_of ls p ≤ slice_index known p
+
+-- The member at place `j` knows of the lists of the first `n` members, by so many entries at most.
+pub record Hears (t : Meaning) (j n entries : ℕ) (old new : List Living) : Type 0 where
+  pub only : Only j old new
+  pub ready : IsReady t (at new j)
+  pub knows : KnowsThose (whole_logs t) n (at new j).state.known
+  pub few : length (at new j).journal ≤ length (at old j).journal + entries
+
+-- A member that knows of all lists.
+pub record IsGathering (t : Meaning) (l : Living) : Type 0 where
+  pub ready : IsReady t l
+  pub knows : KnowsAll (whole_logs t) l.state.known
+
+abbrev pub AreGathering : Meaning → List Living → Type 0
+AreGathering t ls = (p : ℕ) → p < length ls → IsGathering t (at ls p)
+
+-- ---- what comes
+
+-- The parts of the lists that a member doesn't hold.
+abbrev pub missing : Logs → List Part → List Part
+missing ls held = filter (λ t. not (contains part_cmp held t)) (all_parts ls)
+
+-- How many parts of the lists a member doesn't hold.
+abbrev pub missing_of : Meaning → Alone → ℕ
+missing_of t a = length (missing (whole_logs t) (keys a.store))
+
+-- So many parts have come to the member at place `j`, each by two entries.
+pub record Turned (t : Meaning) (j turns : ℕ) (old new : List Living) : Type 0 where
+  pub only : Only j old new
+  pub gathering : IsGathering t (at new j)
+  pub fewer : missing_of t (at new j).state + turns ≤ missing_of t (at old j).state
+  pub few : length (at new j).journal ≤ length (at old j).journal + 2 * turns
+
+-- A member whose catalogue is the join of all lists.
+pub record IsJoined (t : Meaning) (l : Living) : Type 0 where
+  pub ready : IsReady t l
+  pub catalogue : alone_catalogue l.state.store ≡ join_of (whole_logs t)
+
+-- The catalogue of the member at place `j` is the join of all lists.
+pub record Joins (t : Meaning) (j : ℕ) (old new : List Living) : Type 0 where
+  pub only : Only j old new
+  pub joined : IsJoined t (at new j)
+
+-- A part has come; or nothing is to be claimed.
+abbrev pub AfterTurn : Meaning → ℕ → List Living → List Living → Bool → Type 0
+AfterTurn t j old new true = Turned t j 1 old new
+AfterTurn t j old new false = Joins t j old new
+
+abbrev pub AreJoined : Meaning → List Living → Type 0
+AreJoined t ls = (p : ℕ) → p < length ls → IsJoined t (at ls p)

@@ -1,0 +1,12 @@
+//! The end of a live group: what is left of each list is published, and a settle of journal events makes every
+//! member's catalogue the join of all lists.
+#![tactic(auto)]
+
+mod gather;
+mod hearing;
+mod ran;
+mod ready;
+mod settling;
+
+pub use ran::Ran;
+pub use settling::settle;

@@ -1,0 +1,88 @@
+ghost use Rattle.std.specs.Prelude.{◌≡◌, ◌<◌, ◌≤◌, length, [], OnOk};
+ghost use Rattle.repo_plan.specs.Calls.{IsFetcher};
+ghost use Rattle.live_member.specs.Lives.{IsLive};
+ghost use Rattle.live_settle.specs.Ready.{AreLive, ArePlaced, AreReady, HasRoom, IsReady, Loses};
+
+use live_member::{Lists, Live, NextTold};
+use repo_member::Group;
+use std::alloc::AllocError;
+
+// How many objects all lists together have at most.
+const OBJECT_LIMIT: u32 = 200;
+
+const LAST_FETCHER: u8 = 16;
+
+/// What is left of each list is published, and each claim ends.
+pub fn all_ready<L: Lists>(g: &Group, lives: &mut [Live<L, 1000000>]) -> Result<(), AllocError>
+    requires group { g.now ≡ L.meaning.group }
+    requires placed { ArePlaced L.meaning lives.old }
+    requires live { AreLive L.meaning lives.old }
+    requires room { HasRoom 0 900000 lives.old }
+    ensures ready { OnOk result (AreReady L.meaning lives.new) }
+    ensures room { OnOk result (HasRoom 0 900216 lives.new) }
+{
+    for j in 0..lives.len() {
+        ready(g, &mut lives[j])?;
+    }
+    Ok(())
+}
+
+// What is left of a member's list is published, and each of its claims ends.
+fn ready<L: Lists>(g: &Group, live: &mut Live<L, 1000000>) -> Result<(), AllocError>
+    requires group { g.now ≡ L.meaning.group }
+    requires live { IsLive L.meaning 1000000 live.old }
+    requires room { length live.old.journal ≤ 900000 }
+    ensures ready { OnOk result (IsReady L.meaning live.new) }
+    ensures number { OnOk result (live.new.state.number ≡ live.old.state.number) }
+    ensures entries { OnOk result (length live.new.journal ≤ 900216) }
+{
+    publish_rest(g, live)?;
+    lose_claims(live)
+}
+
+// What is still to come of the list is published. The answer is how many objects that are.
+fn publish_rest<L: Lists>(g: &Group, live: &mut Live<L, 1000000>) -> Result<u32, AllocError>
+    requires group { g.now ≡ L.meaning.group }
+    requires live { IsLive L.meaning 1000000 live.old }
+    requires room { length live.old.journal ≤ 900000 }
+    ensures live { OnOk result (IsLive L.meaning 1000000 live.new) }
+    ensures coming { OnOk result (live.new.coming ≡ []) }
+    ensures number { OnOk result (live.new.state.number ≡ live.old.state.number) }
+    ensures entries { OnOk result (length live.new.journal ≤ 900200) }
+{
+    for published in 0..OBJECT_LIMIT + 1 {
+        let NextTold::Told(_) = live.publish_next(g)? else {
+            return Ok(published);
+        };
+    }
+    unreachable!()
+}
+
+// Each held claim ends.
+fn lose_claims<L: Lists>(live: &mut Live<L, 1000000>) -> Result<(), AllocError>
+    requires live { IsLive L.meaning 1000000 live.old }
+    requires coming { live.old.coming ≡ [] }
+    requires room { length live.old.journal ≤ 900200 }
+    ensures ready { OnOk result (IsReady L.meaning live.new) }
+    ensures number { OnOk result (live.new.state.number ≡ live.old.state.number) }
+    ensures entries { OnOk result (length live.new.journal ≤ 900216) }
+{
+    for earlier in 0..LAST_FETCHER {
+        lose_claim(live, earlier + 1)?;
+    }
+    Ok(())
+}
+
+// The claim of a fetcher ends, if it has one.
+fn lose_claim<L: Lists>(live: &mut Live<L, 1000000>, f: u8) -> Result<(), AllocError>
+    requires fetcher { IsFetcher f }
+    requires live { IsLive L.meaning 1000000 live.old }
+    requires room { length live.old.journal < 1000000 }
+    ensures { OnOk result (Loses L.meaning f live.old live.new) }
+{
+    if live.member().claimed(f).is_none() {
+        return Ok(());
+    }
+    live.lose(f)?;
+    Ok(())
+}
