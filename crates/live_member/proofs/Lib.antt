@@ -1,6 +1,7 @@
 mod Around
 mod Journals
 mod Begins
+mod WithinLimits
 mod ClaimSteps
 mod HearSteps
 mod AcceptSteps

@@ -1,5 +1,6 @@
 -- What a live group stands for, and the group as a journal of one member sees it.
-use Rattle.std.specs.Prelude.{ℕ, ◌≤◌, false, List, [], map, length, sum_by, slice_index, slice_index_or, slice_set}
+use Rattle.std.specs.Prelude.{ℕ, ◌+◌, ◌≤◌, false, List, [], map, length, sum_by, slice_index, slice_index_or, slice_set}
+use Rattle.repo_plan.specs.Parts.{parts_behind, shape_of_segments}
 use Rattle.repo_object.specs.Objects.{NamedContents, Post}
 use Rattle.repo_object.specs.Objects.Post.{Offers}
 use Rattle.repo_member.specs.Groups.{GroupKeys, no_nodes}
@@ -14,6 +15,10 @@ pub record Meaning : Type 0 where
   pub group : GroupKeys
   pub lists : List (List NamedContents)
   pub draws : List ℕ
+
+-- A run of this group, with these lists and draws.
+abbrev pub meaning_of : GroupKeys → List (List NamedContents) → List ℕ → Meaning
+meaning_of group lists draws = record { group = group; lists = lists; draws = draws }
 
 -- A group without members.
 abbrev pub no_meaning : Meaning
@@ -43,6 +48,10 @@ object_limit = 200
 
 abbrev pub part_limit : ℕ
 part_limit = 4000
+
+-- How many parts an object has: its record, its index packets and its segments.
+abbrev pub part_count : NamedContents → ℕ
+part_count object = parts_behind (shape_of_segments (length object.contents)) + 1
 
 -- What the members are to publish can be published, and isn't too much.
 pub record IsWithinLimits (t : Meaning) : Type 0 where

@@ -7,6 +7,7 @@
 mod calls;
 mod event;
 mod lent;
+mod limits;
 mod lists;
 mod live;
 mod octets;
@@ -14,6 +15,7 @@ mod told;
 
 pub use event::{LiveEntry, LiveEvent, LiveReply};
 pub use lent::Lent;
+pub use limits::{OBJECT_LIMIT, PART_LIMIT, are_within_limits, count_parts};
 pub use lists::Lists;
 pub use live::{Live, NextTold};
 pub use octets::Octets;

@@ -2,12 +2,9 @@ ghost use Rattle.std.specs.Prelude.{◌≡◌, ◌<◌, ◌≤◌, ◌+◌, leng
 ghost use Rattle.live_settle.specs.Ready.{at, AreReady, HasRoom, IsGathering, AreGathering, AreJoined, Joins};
 ghost use Rattle.live_settle.specs.Ready.{AfterTurn};
 
-use live_member::{Lists, Live, LiveReply};
+use live_member::{Lists, Live, LiveReply, PART_LIMIT};
 use repo_member::Group;
 use std::alloc::AllocError;
-
-// How many parts all lists together have at most.
-const PART_LIMIT: u32 = 4_000;
 
 /// Each member fetches all that it wants.
 pub fn all_gather<L: Lists>(g: &Group, lives: &mut [Live<L, 1000000>]) -> Result<(), AllocError>

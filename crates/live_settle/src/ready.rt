@@ -3,12 +3,9 @@ ghost use Rattle.repo_plan.specs.Calls.{IsFetcher};
 ghost use Rattle.live_member.specs.Lives.{IsLive};
 ghost use Rattle.live_settle.specs.Ready.{AreLive, ArePlaced, AreReady, HasRoom, IsReady, Loses};
 
-use live_member::{Lists, Live, NextTold};
+use live_member::{Lists, Live, NextTold, OBJECT_LIMIT};
 use repo_member::Group;
 use std::alloc::AllocError;
-
-// How many objects all lists together have at most.
-const OBJECT_LIMIT: u32 = 200;
 
 const LAST_FETCHER: u8 = 16;
 
