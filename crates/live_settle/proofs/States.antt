@@ -22,7 +22,7 @@ use Rattle.group_model.specs.Publications.{Logs, last_of, count, all_parts, join
 use Rattle.group_model.specs.Member.{Member, plan_of, member_holds, member_hides}
 use Rattle.group_model.specs.OneMember.{KnowsAll}
 use Rattle.group_model.specs.Sound.{IsTrueVector, IsPublished, IsPublishedPart}
-use Rattle.group_model.proofs.Lists.{and_one, in_first}
+use Rattle.group_model.proofs.Lists.{in_first}
 use Rattle.group_model.proofs.Plans.{IsWanted, wanted_parts}
 use Rattle.group_model.proofs.PublicLaws.{parts_are_those, joins_by_itself}
 use Rattle.repo_member.specs.Groups.{GroupKeys}

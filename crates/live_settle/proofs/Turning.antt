@@ -21,7 +21,8 @@ use Rattle.group_model.specs.Member.{Member, plan_of, member_holds, member_hides
 use Rattle.group_model.specs.Changes.{takes}
 use Rattle.group_model.specs.OneMember.{KnowsAll}
 use Rattle.group_model.specs.Sound.{IsPublished, IsPublishedPart}
-use Rattle.group_model.proofs.Lists.{and_one, in_first}
+use Rattle.std.proofs.Math.Bool.{and-true}
+use Rattle.group_model.proofs.Lists.{in_first}
 use Rattle.group_model.proofs.Plans.{IsWanted, wanted_parts}
 use Rattle.group_model.proofs.PublicLaws.{parts_are_those, joins_by_itself}
 use Rattle.repo_member.specs.Alone.{Alone, alone_plan, alone_claims, alone_accepts, logged}
@@ -52,7 +53,7 @@ module _ (p : PlanState) (claims : p.claims ≡ no_claims) where
   free t = ap (λ (cs : List (Option Part)). list_any (is_claim_of t) cs) claims
 
   all_open : (t : Part) → is_unclaimed p t ≡ is_wanted p t
-  all_open t = ap (λ (b : Bool). is_wanted p t && not b) (free t) ∙ and_one (is_wanted p t)
+  all_open t = ap (λ (b : Bool). is_wanted p t && not b) (free t) ∙ and-true (is_wanted p t)
 
   nothing_wanted : first (unclaimed p) ≡ None → wanted p ≡ []
   nothing_wanted e = (λ i. filter (λ t. sym (all_open t) i) (known_parts p)) ∙ none_first (unclaimed p) e

@@ -1,0 +1,2 @@
+mod NodeNames
+mod Pairs

@@ -5,3 +5,11 @@
 
 #[cfg(test)]
 mod inbox;
+#[cfg(test)]
+mod inputs;
+#[cfg(test)]
+mod limits;
+#[cfg(test)]
+mod member;
+#[cfg(test)]
+mod settle;
