@@ -1,7 +1,7 @@
 -- The entries of a name, from one publication on.
 use Rattle.std.proofs.Common.{◌≡◌, ◌≢◌, inl, inr, ℕ, ◌+◌, ◌<◌, ◌≤◌, Bool, true, false, cond, ◌&&◌, List, [], ◌∷◌}
 use Rattle.std.proofs.Common.{◌==◌, map, Option, Some, None, refl, sym, ap, subst, ◌∙◌, length, arith}
-use Rattle.std.specs.Prelude.{find, is_some, option_map}
+use Rattle.std.specs.Prelude.{find, option_map}
 use Rattle.std.specs.List.{filter}
 use Rattle.std.specs.Ordering.{nat_cmp, ordering_then, is_eq, is_le, is_lt}
 use Rattle.std.specs.declared.cmp.Ordering.{Ordering}
@@ -16,7 +16,7 @@ use Rattle.sorted_lists.proofs.Orders.{less_back, equal_back, greater_back, nat_
 use Rattle.sorted_lists.proofs.Orders.{first_less}
 use Rattle.sorted_lists.proofs.Sets.{In, eq_itself}
 use Rattle.repo_catalog.specs.declared.entry.Entry.{Entry}
-use Rattle.repo_catalog.specs.Entries.{publication_of, is_of, entry_of, lists, entry_has_name, is_named_from}
+use Rattle.repo_catalog.specs.Entries.{publication_of, is_of, entry_of, entry_has_name, is_named_from}
 use Rattle.repo_catalog.specs.Entries.{IsCatalogue}
 use Rattle.repo_catalog.specs.NameKeys.{Key, key_cmp, key_of, hash_of, has_hash, is_key, IsIndexOf, IsFirstFrom}
 use Rattle.repo_catalog.proofs.LawLemmas.{named}
@@ -236,12 +236,6 @@ key_in es e r i = ap (has_hash (hash_of e.name)) (listed_in es e r i) ∙ same_n
 
 same_hash : (h : ℕ) (a b : Pair) → key_cmp (h, a) (h, b) ≡ pair_cmp a b
 same_hash h a b = then_second (nat_cmp h h) (pair_cmp a b) (nat_itself h)
-
-pub key_listed : (es : List Entry) (q : Key) → is_key es q ≡ true → lists q.1 es ≡ true
-key_listed es q h = go (entry_of q.1 es) h where
-  go : (o : Option Entry) → has_hash q.0 o ≡ true → is_some o ≡ true
-  go None t = t
-  go (Some e) t = refl
 
 module _ (name : List Component) (from : Pair) (es : List Entry) (r : IsCatalogue es) where
   -- an entry that is sought has a key with the name's hash

@@ -3,7 +3,6 @@ use Rattle.std.proofs.Common.{◌≡◌, ℕ, ◌+◌, not, Bool, true, false, c
 use Rattle.std.proofs.Common.{Option, Some}
 use Rattle.std.proofs.Common.{None, option_map, is_some, unwrap_or, length, subst}
 use Rattle.std.specs.Prelude.{filter}
-use Rattle.std.proofs.lemmas.Bool.{true≢false}
 use Rattle.std.specs.List.{flat_map, list_all}
 use Rattle.std.specs.Option.{option_and_then}
 use Rattle.std.specs.Ordering.{eq_by_cmp, is_eq}
@@ -20,7 +19,7 @@ use Rattle.repo_object.specs.Publication.{Listed, RecordSays, shape_said}
 use Rattle.repo_object.specs.Publication.RecordSays.{Lists, WithdrawsNumber}
 use Rattle.repo_object.specs.Verdict.{said_in}
 use Rattle.repo_catalog.specs.declared.entry.Entry.{Entry}
-use Rattle.repo_catalog.specs.Entries.{publication_of, entry_of, lists, with_entry, without, IsCatalogue}
+use Rattle.repo_catalog.specs.Entries.{publication_of, entry_of, with_entry, without, IsCatalogue}
 use Rattle.repo_holdings.specs.KeptValues.{with_kept, kept_values}
 use Rattle.repo_holdings.specs.Records.{Packet, records_in}
 use Rattle.repo_holdings.specs.Listed.{listing_in, listing_at, stored_at, said_at, listed_shape, shapes_in}
@@ -356,13 +355,3 @@ entry_no_withdrawal packets pair e h = go (is_withdrawn packets pair) h where
   go : (b : Bool) → cond b None (whole_at packets pair) ≡ Some e → is_withdrawal packets pair ≡ false
   go true p = absurd (none_is_some e p)
   go false p = whole_no_withdrawal packets pair e p
-
-pub listed_no_withdrawal : (packets : List Packet) (pair : Pair) → Rises part_cmp (keys packets)
-    → lists pair (alone_catalogue packets) ≡ true → is_withdrawal packets pair ≡ false
-listed_no_withdrawal packets pair r listed = go (entry_at packets pair) refl where
-  go : (o : Option Entry) → entry_at packets pair ≡ o → is_withdrawal packets pair ≡ false
-  go None p =
-      let none : lists pair (alone_catalogue packets) ≡ false =
-      ap is_some (entry_of_alone packets pair r ∙ p) in
-      absurd (true≢false (sym listed ∙ none))
-  go (Some e) p = entry_no_withdrawal packets pair e p

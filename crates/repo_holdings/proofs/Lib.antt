@@ -17,4 +17,3 @@ pub mod ParentLemmas
 mod PlanLemmas
 pub mod PublishLemmas
 mod TakingLemmas
-pub mod WantLemmas
