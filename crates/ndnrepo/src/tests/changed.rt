@@ -15,6 +15,8 @@ struct Changes {
     cut: [&'static str; 2],
     // What is printed where the lowest bit of one octet is another, for so many octets after each other.
     flipped: &'static [(u32, &'static str)],
+    // Where 32 octets stand in which each bit counts, and what is printed where one of them is another.
+    sealed: (&'static [u8], &'static str),
     // What is printed of 8,800 octets 05, and of one more.
     long: [&'static str; 2],
     // What is printed of the octets as they are, in the end: what was changed has changed nothing.
@@ -65,6 +67,7 @@ const CHANGES: [Changes; 4] = [
             (1, "refused Truncated 83"),
             (32, "refused ParamsDigest"),
         ],
+        sealed: (&[12, 85], "refused ParamsDigest"),
         long: ["refused TrailingOctets 7", "refused PacketTooLong"],
         whole: "steady",
     },
@@ -114,6 +117,7 @@ const CHANGES: [Changes; 4] = [
             (1, "refused Truncated 84"),
             (32, "refused BadSignature"),
         ],
+        sealed: (&[86], "refused BadSignature"),
         long: ["refused WrongType 5", "refused PacketTooLong"],
         whole: "kept",
     },
@@ -137,6 +141,7 @@ const CHANGES: [Changes; 4] = [
             (1, "refused Truncated 17"),
             (1, "none"),
         ],
+        sealed: (&[], ""),
         long: ["refused TrailingOctets 7", "refused PacketTooLong"],
         whole: "found 0674070d0805616c6963650801673a0101152c07050803646f638101018320a81e4ec9e732923effbeb940256a176\
              5187d04a99b440057e515a292ec9a722d16131b01041c0e070c0805616c69636508034b455917207e61911ee2099d3402db\
@@ -170,6 +175,7 @@ const CHANGES: [Changes; 4] = [
             (2, "403"),
             (32, "401"),
         ],
+        sealed: (&[21, 86], "401"),
         long: ["403", "403"],
         whole: "200 packets 2",
     },
@@ -190,6 +196,7 @@ fn put_changes(
     script: &mut String,
     line: &str,
     octets: &mut [u8],
+    sealed: &[u8],
 ) {
     for n in 1..octets.len() {
         put_octets(rt, script, line, &octets[..n]);
@@ -199,10 +206,31 @@ fn put_changes(
         put_octets(rt, script, line, octets);
         octets[at] ^= 1;
     }
+    for at in sealed {
+        put_flips(rt, script, line, octets, *at);
+    }
     for n in [8_800, 8_801] {
         put_long(rt, script, line, n);
     }
     put_octets(rt, script, line, octets);
+}
+
+// The octets with one bit flipped of those that stand in 32 places from this one on.
+fn put_flips(
+    rt: &(impl Abort + AllocGlobal),
+    script: &mut String,
+    line: &str,
+    octets: &mut [u8],
+    at: u8,
+) {
+    let at = usize::from(at);
+    for place in at..octets.len().min(at + 32) {
+        for bit in [1, 2, 4, 8, 16, 32, 64, 128] {
+            octets[place] ^= bit;
+            put_octets(rt, script, line, octets);
+            octets[place] ^= bit;
+        }
+    }
 }
 
 // So many octets 05.
@@ -222,6 +250,12 @@ fn put_answers(rt: &impl Abort, report: &mut String, changes: &Changes) {
             put_line(rt, report, changes.line, answer);
         }
     }
+    let (places, answer) = changes.sealed;
+    for _ in places {
+        for _ in 0..256 {
+            put_line(rt, report, changes.line, answer);
+        }
+    }
     for answer in changes.long {
         put_line(rt, report, changes.line, answer);
     }
@@ -231,7 +265,7 @@ fn put_answers(rt: &impl Abort, report: &mut String, changes: &Changes) {
 fn expect_changes<R: Threads + Sync + AllocGlobal + Abort>(rt: &R, changes: &Changes) {
     let mut octets = hex::decode(rt.alloc(), changes.octets).expect(rt, "digits");
     let mut script = script_of(rt, PRE, changes.before);
-    put_changes(rt, &mut script, changes.line, &mut octets);
+    put_changes(rt, &mut script, changes.line, &mut octets, changes.sealed.0);
     let mut report = report_of(rt, changes.before);
     put_answers(rt, &mut report, changes);
     expect(rt, "run", 5_000, script.as_bytes(), Status::Done, &report);
