@@ -4,6 +4,8 @@
 #![tactic(auto)]
 
 #[cfg(test)]
+mod group;
+#[cfg(test)]
 mod inbox;
 #[cfg(test)]
 mod inputs;

@@ -193,3 +193,11 @@ fn members_answer_and_keep_a_journal(rt: HostRuntime) {
     let (objects, none) = limited(&rt, &g, two_objects(&rt), Vec::new(rt.alloc()));
     act::<Brand, _>(&rt, &g, objects, none);
 }
+
+#[test]
+fn the_octets_of_an_entry_are_moved_out(rt: HostRuntime) {
+    let octets = Octets::new(vec![in rt.alloc(); 7; 3].expect(&rt, "memory"));
+    assert!(&rt; octets.as_slice() == [7, 7, 7].as_slice());
+    let moved = octets.into_vec();
+    assert!(&rt; moved.as_slice() == [7, 7, 7].as_slice());
+}

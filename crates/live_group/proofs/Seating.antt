@@ -1,0 +1,66 @@
+-- The members' places, made in order.
+use Rattle.std.proofs.Common.{◌≡◌, ℕ, zero, suc, ◌<◌, ◌≤◌, List, [], ◌∷◌, ◌++◌, length, get_or, refl, sym, ap}
+use Rattle.std.proofs.Common.{◌∙◌, arith}
+use Rattle.std.proofs.Common.{append_assoc, length-append}
+use Rattle.std.specs.Prelude.{slice_index}
+use Rattle.std.proofs.Math.Seq.{get_or-append_seam}
+use Rattle.repo_object.specs.Objects.{NamedContents}
+use Rattle.live_member.specs.Meanings.{Meaning, IsWithinLimits, objects_of}
+use Rattle.live_member.proofs.PublicLaws.{width_whole}
+use Rattle.live_settle.specs.Rans.{numbers_below}
+use Rattle.live_group.specs.Seats.{IsSeat}
+
+-- so many places are made, of the first lists
+pub record IsSeating (t : Meaning) (seats : List ℕ) (rest : List (List NamedContents)) : Type 0 where
+  pub numbers : seats ≡ numbers_below (length seats)
+  pub front : List (List NamedContents)
+  pub long : length front ≡ length seats
+  pub whole : front ++ rest ≡ t.lists
+
+pub count_below : (n : ℕ) → length (numbers_below n) ≡ n
+count_below zero = refl
+count_below (suc n) =
+    let long = length-append (numbers_below n) (n ∷ []) in let less = count_below n in omega arith
+
+pub few_lists : (t : Meaning) → IsWithinLimits t → length t.lists ≤ 16
+few_lists t within = omega (arith, within.logs.width, width_whole t, within.logs.group.members.roster.few)
+
+module _ (t : Meaning) (seats : List ℕ) (rest later : List (List NamedContents)) (objects : List NamedContents)
+    (is : IsSeating t seats rest) (next : rest ≡ objects ∷ later) where
+  whole : is.front ++ objects ∷ later ≡ t.lists
+  whole = ap (λ (ls : List (List NamedContents)). is.front ++ ls) (sym next) ∙ is.whole
+
+  pub next_there : length seats < length t.lists
+  next_there =
+      let long = ap length whole in omega (arith, long, is.long, length-append is.front (objects ∷ later))
+
+  pub next_list : objects ≡ objects_of t (length seats)
+  next_list =
+      sym (get_or-append_seam is.front objects later [])
+      ∙ ap (λ (ls : List (List NamedContents)). get_or ls (length is.front) []) whole
+      ∙ ap (λ (n : ℕ). get_or t.lists n []) is.long
+
+  pub next_seat : (draw : ℕ) → IsWithinLimits t → draw ≡ slice_index t.draws (length seats)
+      → IsSeat t (length seats) draw objects
+  next_seat draw within value = record {
+    within = within;
+    there = next_there;
+    list = next_list;
+    its_draw = value;
+  }
+
+  pub one_seated : (n : ℕ) → n ≡ length seats → IsSeating t (seats ++ n ∷ []) later
+  one_seated n same =
+      let more : length (seats ++ n ∷ []) ≡ suc (length seats) =
+      (let long = length-append seats (n ∷ []) in omega (arith, long)) in
+      record {
+        numbers =
+            ap (λ (ns : List ℕ). ns ++ n ∷ []) is.numbers
+            ∙ ap (λ (k : ℕ). numbers_below (length seats) ++ k ∷ []) same
+            ∙ ap numbers_below (sym more);
+        front = is.front ++ objects ∷ [];
+        long =
+            let long = length-append is.front (objects ∷ []) in
+            let longer = length-append seats (n ∷ []) in omega (arith, long, longer, is.long);
+        whole = append_assoc is.front (objects ∷ []) later ∙ whole;
+      }

@@ -1,0 +1,114 @@
+-- The actors of one member after the other.
+use Rattle.std.proofs.Common.{◌≡◌, ℕ, zero, suc, ◌+◌, ◌<◌, List, [], ◌∷◌, ◌++◌}
+use Rattle.std.proofs.Common.{map, length, drop, get_or, sym}
+use Rattle.std.proofs.Common.{ap, ◌∙◌, subst, arith, append_assoc, drop-cons, add-one}
+use Rattle.std.specs.List.{All}
+use Rattle.std.proofs.lemmas.List.{map-append, get_or-map, length-map}
+use Rattle.std.proofs.lemmas.List.Elements.{All-push, All-append, All-cons, All-nil, All-weaker}
+use Rattle.live_inbox.specs.Ends.{InboxView}
+use Rattle.live_group.specs.declared.hand.Hand.{Hand}
+use Rattle.live_group.specs.declared.hand.Job.{Job}
+use Rattle.live_group.specs.declared.hand.Job.TheVariants.{Publish, First, Second}
+use Rattle.live_group.specs.Lines.{EarView, OpenedView, HavePorts}
+use Rattle.live_group.specs.Jobs.{actor_of, actors_below, IsWired, IsActorBelow}
+use Rattle.live_group.proofs.Dealing.{inboxes_of, inboxes_of_lines, inboxes_of_ears}
+
+below : (n : ℕ) → All (λ (a : ℕ × ℕ). a.0 < n) (actors_below n)
+below zero = All-nil (λ (a : ℕ × ℕ). a.0 < 0)
+below (suc n) =
+    let P : ℕ × ℕ → Type 0 = λ a. a.0 < suc n in
+    All-append P (actors_below n) ((n, 0) ∷ (n, 1) ∷ (n, 2) ∷ [])
+    (All-weaker (λ (a : ℕ × ℕ). a.0 < n) P (λ a less. omega arith) (actors_below n) (below n))
+    (All-cons P (n, 0) ((n, 1) ∷ (n, 2) ∷ []) (omega arith)
+    (All-cons P (n, 1) ((n, 2) ∷ []) (omega arith)
+    (All-cons P (n, 2) [] (omega arith) (All-nil P))))
+
+module _ {L : Type 0} where
+  -- the actors of the first `n` members, and what is left for the others
+  pub record AreWired (members n : ℕ) (inboxes : List InboxView) (opened : List OpenedView) (jobs : List (Job L))
+      (rest : List EarView) : Type 0 where
+    pub width : length inboxes ≡ members
+    pub left : n + length rest ≡ members
+    pub actors : map actor_of jobs ≡ actors_below n
+    pub wired : All (IsWired inboxes) jobs
+    pub ears : inboxes_of_ears rest ≡ drop n inboxes
+    pub opened_those : inboxes_of opened ≡ inboxes
+    pub ports : (k : ℕ) → n + k ≡ members → HavePorts k opened
+
+  module _ (members n : ℕ) (inboxes : List InboxView) (opened now : List OpenedView) (jobs : List (Job L))
+      (rest later : List EarView) (hand : Hand L) (is : AreWired members n inboxes opened jobs rest)
+      (next : rest ≡ hand.ear ∷ later) (number : hand.member ≡ n)
+      (lines : inboxes_of_lines hand.lines.items ≡ inboxes_of opened) (same : inboxes_of now ≡ inboxes_of opened)
+      (fewer : (k : ℕ) → HavePorts (k + 1) opened → HavePorts k now) where
+    one_left : n + (1 + length later) ≡ members
+    one_left = let long = ap (λ (es : List EarView). length es) next in let left = is.left in omega arith
+
+    pub there : n < length inboxes
+    there = let wide = is.width in omega (arith, one_left)
+
+    both : (d : InboxView)
+        → get_or inboxes n d ∷ drop (suc n) inboxes ≡ hand.ear.inbox ∷ inboxes_of_ears later
+    both d = sym (drop-cons inboxes n d there) ∙ sym is.ears ∙ ap inboxes_of_ears next
+
+    is_wired : IsWired inboxes (Publish hand)
+    is_wired = (
+      lines ∙ is.opened_those,
+      λ d. let e = both d in ap (λ (k : ℕ). get_or inboxes k d) number ∙ cc,
+    )
+
+    abbrev pub after : List (Job L)
+    after = ((jobs ++ Publish hand ∷ []) ++ First n ∷ []) ++ Second n ∷ []
+
+    three : after ≡ jobs ++ Publish hand ∷ First n ∷ Second n ∷ []
+    three =
+        append_assoc (jobs ++ Publish hand ∷ []) (First n ∷ []) (Second n ∷ [])
+        ∙ append_assoc jobs (Publish hand ∷ []) (First n ∷ Second n ∷ [])
+
+    suc_actors : map actor_of after ≡ actors_below (suc n)
+    suc_actors =
+        ap (λ (js : List (Job L)). map actor_of js) three
+        ∙ map-append actor_of jobs (Publish hand ∷ First n ∷ Second n ∷ [])
+        ∙ ap (λ (k : ℕ). map actor_of jobs ++ (k, 0) ∷ (n, 1) ∷ (n, 2) ∷ []) number
+        ∙ ap (λ (those : List (ℕ × ℕ)). those ++ (n, 0) ∷ (n, 1) ∷ (n, 2) ∷ []) is.actors
+
+    more_actors : map actor_of after ≡ actors_below (n + 1)
+    more_actors = rw add-one suc_actors
+
+    ears_left : inboxes_of_ears later ≡ drop (n + 1) inboxes
+    ears_left = rw add-one (let e = both hand.ear.inbox in cc)
+
+    pub one_wired : AreWired members (n + 1) inboxes now after later
+    one_wired = record {
+      width = is.width;
+      left = let left = one_left in omega arith;
+      actors = more_actors;
+      wired =
+          All-push (IsWired inboxes) ((jobs ++ Publish hand ∷ []) ++ First n ∷ []) (Second n)
+          (All-push (IsWired inboxes) (jobs ++ Publish hand ∷ []) (First n)
+          (All-push (IsWired inboxes) jobs (Publish hand) is.wired is_wired) tt)
+          tt;
+      ears = ears_left;
+      opened_those = same ∙ is.opened_those;
+      ports = λ k left. fewer k (is.ports (k + 1) (omega arith));
+    }
+
+  -- each inbox has a port for the next member
+  pub some_ports : (members n : ℕ) (inboxes : List InboxView) (opened : List OpenedView) (jobs : List (Job L))
+      (rest later : List EarView) (ear : EarView) → AreWired members n inboxes opened jobs rest → rest ≡ ear ∷ later
+      → All (λ (o : OpenedView). 0 < length o.ports) opened
+  some_ports members n inboxes opened jobs rest later ear is next k d less =
+      let long = ap (λ (es : List EarView). length es) next in
+      let left = is.left in
+      let have = is.ports (1 + length later) (omega arith) k d less in
+      omega (arith, have)
+
+  -- each actor is one of these members'
+  pub actors_there : (members : ℕ) (jobs : List (Job L)) → map actor_of jobs ≡ actors_below members
+      → All (IsActorBelow members) jobs
+  actors_there members jobs same k job less =
+      let P : ℕ × ℕ → Type 0 = λ a. a.0 < members in
+      let wide = length-map jobs actor_of in
+      subst P
+      (ap (λ (those : List (ℕ × ℕ)). get_or those k (actor_of job)) (sym same)
+      ∙ get_or-map actor_of jobs k job (actor_of job) less)
+      (below members k (actor_of job) (let long = ap (λ (those : List (ℕ × ℕ)). length those) same in omega arith))

@@ -1,0 +1,11 @@
+pub use Rattle.repo_plan.specs.Calls
+pub use Rattle.repo_member.specs.Groups
+pub use Rattle.live_member.specs.Meanings
+pub use Rattle.live_member.specs.Lives
+pub use Rattle.live_settle.specs.Rans
+pub use Rattle.live_inbox.specs.Ends
+pub use Rattle.crossbeam_queue.specs.Fifo
+pub mod Seats
+pub mod Lines
+pub mod Jobs
+pub mod Turns

@@ -1,0 +1,25 @@
+ghost use Rattle.std.specs.Prelude.{◌≡◌, ◌≤◌, IfOk};
+ghost use Rattle.live_group.specs.Jobs.{AreJobs};
+
+use crate::hand::{Hand, Job};
+use crate::opened::{all_inboxes, line_to_each};
+use live_member::Lists;
+use std::alloc::{AllocError, Global};
+
+/// Three actors for each of so many members: one that publishes and hears, and two that fetch.
+pub fn all_jobs<L: Lists>(alloc: Global, members: usize) -> Result<Vec<Job<L>>, AllocError>
+    requires { members ≤ 16 }
+    ensures { IfOk result (λ jobs. AreJobs members jobs.items) }
+{
+    let (mut inboxes, ears) = all_inboxes(alloc, members)?;
+    let mut jobs = Vec::new(alloc);
+    let mut member = 0;
+    for ear in ears {
+        let lines = line_to_each(alloc, inboxes.as_mut_slice())?;
+        jobs.push(Job::Publish(Hand { member, lines, ear }))?;
+        jobs.push(Job::First { member })?;
+        jobs.push(Job::Second { member })?;
+        member += 1;
+    }
+    Ok(jobs)
+}

@@ -1,0 +1,15 @@
+//! A live group: members under locks, each with three actors in threads of their own that publish, hear and fetch; and
+//! after them a settle, which makes every member's catalogue the join of what all published.
+#![tactic(auto)]
+
+mod actors;
+mod gate;
+mod hand;
+mod jobs;
+mod line;
+mod opened;
+mod running;
+mod seat;
+
+pub use gate::{Gate, OpenGate};
+pub use running::run_group;
