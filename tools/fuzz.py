@@ -58,13 +58,15 @@ class Script:
         self.lines += [f"client {label} {node} {key.hex()}" for label, node, key in self.group.clients]
         self.claims = {}
         self.insertions = {}
+        self.watchers = []
         # How often a line stays that ends the script.
         self.ending = draw.choice([0, 0, 0, 0.01, 0.2])
         self.printed = 0
         self.is_over = False
         makers = [(5, self.publish), (1, self.withdraw), (6, self.deliver), (7, self.claim), (7, self.answer), (2, self.lose),
                   (5, self.feed), (2, self.fetch), (1, self.settle), (2, self.show), (2, self.time), (4, self.hear),
-                  (3, self.ask), (1, self.restart), (1, self.spaces), (0.3, self.anything)]
+                  (3, self.ask), (1, self.restart), (1, self.spaces), (0.3, self.anything), (1.5, self.watch),
+                  (3, self.told)]
         if self.group.clients:
             makers += [(2, self.insert), (4, self.block), (1, self.status), (2, self.delete), (3, self.order)]
         while len(self.lines) < lines and not self.is_over:
@@ -75,6 +77,7 @@ class Script:
         elif not self.is_over:
             for label, _, _ in self.group.members:
                 self.lines += [f"catalogue {label}", f"vector {label}", f"fetch {label} 1 1 1000", f"claim {label} 7"]
+            self.lines += [f"told {self.label(m)} {w}" for m, w in self.watchers]
             self.lines += ["summary", "traffic"]
 
     def text(self):
@@ -193,6 +196,21 @@ class Script:
         if self.put("restart", self.label(m)):
             self.claims = {held: part for held, part in self.claims.items() if held[0] != m}
             self.insertions = {it: what for it, what in self.insertions.items() if it[0] != m}
+
+    def watch(self):
+        m = self.member()
+        # Now and then one more than a member may have.
+        for _ in range(17 if self.draw.random() < 0.05 else 1):
+            publisher = self.draw.choice(["*", self.label(self.member())])
+            told = self.put("watch", self.label(m), publisher, self.draw.choice(NAMES + ["/", "/", "/n"]))
+            if told:
+                self.watchers.append((m, int(told[2])))
+
+    def told(self):
+        m, w = self.member(), self.draw.randint(1, 17)
+        if self.watchers and self.draw.random() < 0.95:
+            m, w = self.draw.choice(self.watchers)
+        self.put("told", self.label(m), w)
 
     def show(self):
         m, p = self.label(self.member()), self.member()

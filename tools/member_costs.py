@@ -99,6 +99,40 @@ def show(n):
         yield [f"vector m{p}", "traffic", f"dump m{p} m{p} {1 + i // 16} 0", f"sync {i + 1}"][i % 4]
 
 
+# ---- watching
+
+@kind("as many publications as `told` lines that have no news", 49_000)
+def told(n):
+    yield from heads(1)
+    yield "watch m1 * /"
+    for _ in range(n):
+        yield "publish m1 /o 1 text:"
+    for _ in range(n):
+        yield "told m1 1"
+
+
+@kind("16 members that have settled get 16 watchers each", 49_000)
+def watch(n):
+    yield from heads(16)
+    for i in range(n):
+        yield f"publish m{1 + i % 16} /o 1 text:"
+    yield "settle 1"
+    for i in range(256):
+        yield f"watch m{1 + i % 16} * /"
+
+
+@kind("16 watchers of names of 200 empty components are told of 5,000 objects each", 16)
+def told_news(n):
+    yield from heads(1)
+    front = "/..." * 196
+    for i in range(n):
+        yield f"watch m1 * {front}"
+    for i in range(5_000):
+        yield f"publish m1 {front}/{i:05d} 1 text:"
+    for i in range(n):
+        yield f"told m1 {i + 1}"
+
+
 # ---- telling and hearing
 
 @kind("one packet is delivered again and again", 90_000)

@@ -50,7 +50,8 @@ any_within test (x ∷ xs) h = go (test x) h (any_within test xs) where
   go false k behind = omega (arith, behind k)
 
 -- a label that is known has the number of a party
-number_within : (label : List ℕ) (a b : List Party) → b ≡ a → has_label label a ≡ true → party_number label b < length b
+pub number_within : (label : List ℕ) (a b : List Party) → b ≡ a → has_label label a ≡ true
+    → party_number label b < length b
 number_within label a b same known = rw same (any_within (λ (p : Party). bytes_eq p.label label) a known)
 
 -- so it has a place
@@ -291,6 +292,8 @@ form_fits verb.Insert d e values same of within known = insert_fits d e values s
 form_fits verb.Block d e values same of within known = block_fits d e values same of within known
 form_fits verb.Status d e values same of within known = status_fits d e values same of within known
 form_fits verb.Delete d e values same of within known = delete_fits d e values same of within known
+form_fits verb.Watch d e values same of within known = tt
+form_fits verb.Told d e values same of within known = tt
 form_fits verb.Summary d e values same of within known = summary_fits d e values same of within known
 form_fits verb.Traffic d e values same of within known = traffic_fits d e values same of within known
 
@@ -328,11 +331,6 @@ event_taken verb.Group d e s values v after says = cc
 event_taken verb.Member d e s values v after says = cc
 event_taken verb.Client d e s values v after says = cc
 event_taken form_verb d e s values v after says = taken d e s after
-
--- The members and clients stay where a line states an event.
-pub event_keeps : (d e : Declared) (s : Stated) (v : EventValue) → after_line d s ≡ Ok e → said_event e s ≡ Some v
-    → SameParties d e
-event_keeps d e s v after says = (event_taken s.verb d e s s.values v after says).same
 
 fits_some : (d : Declared) (o : Option EventValue) (v : EventValue) → o ≡ Some v → IfSome o (Fits d) → Fits d v
 fits_some d o v is h = let P : Option EventValue → Type 0 = λ x. IfSome x (Fits d) in subst P is h

@@ -97,9 +97,9 @@ list_exactly out w m sound there = record {
 -- ---- the member of a label
 
 -- A number stands for the first member with the label.
-record IsNumberOf (label : List ℕ) (parties : List Party) (n : ℕ) : Type 0 where
-  there : n < length parties
-  labelled : label_at (map party_label parties) n ≡ label
+pub record IsNumberOf (label : List ℕ) (parties : List Party) (n : ℕ) : Type 0 where
+  pub there : n < length parties
+  pub labelled : label_at (map party_label parties) n ≡ label
 
 abbrev place : List ℕ → List Party → ℕ
 place label parties = prefix_len (λ (p : Party). not (bytes_eq p.label label)) parties
@@ -119,7 +119,7 @@ at_place label (p ∷ ps) known = go (bytes_eq p.label label) refl known (at_pla
       record { there = omega (arith, behind.there); labelled = behind.labelled } in
       subst (IsNumberOf label (p ∷ ps)) more here
 
-named_by : (label : List ℕ) (parties : List Party) → has_label label parties ≡ true
+pub named_by : (label : List ℕ) (parties : List Party) → has_label label parties ≡ true
     → IsNumberOf label parties (party_number label parties)
 named_by label parties known = at_place label parties known
 

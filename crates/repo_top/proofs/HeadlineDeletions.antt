@@ -39,7 +39,7 @@ use Rattle.repo_top.specs.Judging.{Given, State, found_world, outside_of}
 use Rattle.repo_top.specs.Story.{Reached, nothing_reached}
 use Rattle.repo_top.specs.Headline.{LinesAreTaken, HidesByDeletionAlone, deletes, deletes_nothing, group_at}
 use Rattle.repo_top.proofs.HeadlineGroups.{IsSoundState, LineTaken, opened, sound_beginning, sound_line, taken_line}
-use Rattle.repo_top.proofs.HeadlineEvents.{LineSteps, declares, line_steps, steps, still}
+use Rattle.repo_top.proofs.HeadlineEvents.{LineSteps, declares, line_steps, steps, still, watches}
 
 -- ---- events
 
@@ -224,6 +224,8 @@ line_hides given s line new sound sound_new (still same) keeps nothing_hidden j 
 line_hides given s line new sound sound_new (declares early none) keeps nothing_hidden j inside =
     ap (λ (w : World). (member w j).hidden) (opened given new (sound_new.begun none))
     ∙ opening_hides _ (numbers_from 0 (length new.keys.members.names)) j (λ x. refl)
+line_hides given s line new sound sound_new (watches beside) keeps nothing_hidden j inside =
+    subst NothingHidden (sym beside.group) nothing_hidden j inside
 line_hides given s line new sound sound_new (steps stated d e read said step) keeps nothing_hidden j inside =
     let w : World = found_world given s in
     let count : length new.declared.members ≡ length s.declared.members = ap length step.members in

@@ -1,6 +1,7 @@
 -- What lines that are taken come to as events: what holds in the beginning, and stays so after each event, holds behind
 -- any lines; and behind the first event the lines are a run of events.
-use Rattle.std.proofs.Common.{◌≡◌, ◌∙◌, ℕ, true, false, List, [], ◌∷◌, ◌++◌, length, Some, Ok, refl, sym, ap}
+use Rattle.std.proofs.Common.{◌≡◌, ◌∙◌, ℕ, zero, suc, true, false, List, [], ◌∷◌, ◌++◌, length, get_or, set, Some}
+use Rattle.std.proofs.Common.{Ok, refl, sym, ap}
 use Rattle.std.proofs.Common.{subst}
 use Rattle.std.proofs.lemmas.Bool.{true≢false}
 use Rattle.group_model.specs.Events as group
@@ -20,14 +21,17 @@ use Rattle.script_lang.specs.Checking.{Declared, after_by, after_group, after_li
 use Rattle.bench_world.specs.EventValues.{EventValue, group_event}
 use Rattle.bench_world.specs.Worlds.{drawing}
 use Rattle.bench_world.proofs.EventRuns.{named_ready}
+use Rattle.repo_watch.specs.Watching.{Watching}
+use Rattle.repo_watch.specs.Laws.{WatchCall, after_watch_call, after_watch_calls}
 use Rattle.repo_top.specs.SaidEvents.{said_event}
 use Rattle.repo_top.specs.Judging.{Given, State, acted_by, acted_if, declaring_member, found_world, opening_state}
-use Rattle.repo_top.specs.Judging.{outside_of, says, taken_by, with_client, with_group}
+use Rattle.repo_top.specs.Judging.{outside_of, says, taken_by, watchers_at, with_client, with_group}
 use Rattle.repo_top.specs.Story.{Reached, nothing_reached}
 use Rattle.repo_top.specs.Headline.{AreTakenFirst, LinesAreTaken, group_at}
 use Rattle.repo_top.proofs.Fitting.{event_fits}
-use Rattle.repo_top.proofs.HeadlineGroups.{IsSoundState, LineTaken, acted_said, declares_group, event_line, may}
-use Rattle.repo_top.proofs.HeadlineGroups.{nothing, opened, says_state, sound_beginning, sound_line, stating}
+use Rattle.repo_top.proofs.HeadlineTaken.{IsWatched, says_state, told_so, watched_so}
+use Rattle.repo_top.proofs.HeadlineGroups.{IsSoundState, LineTaken, acted_said, declares_group, event_line}
+use Rattle.repo_top.proofs.HeadlineGroups.{may, nothing, opened, sound_beginning, sound_line, stating}
 use Rattle.repo_top.proofs.HeadlineGroups.{taken_line}
 
 -- ---- one line
@@ -39,13 +43,25 @@ pub record IsStep (given : Given) (s new : State) (e : group.Event) : Type 0 whe
   pub keys : new.keys ≡ s.keys
   pub members : new.declared.members ≡ s.declared.members
   pub begun : new.declared.events ≡ true
+  pub watchers : new.watchers ≡ s.watchers
 
--- A line states nothing, or it declares before the first event, or it states an event.
+-- A line of watchers leaves the group as it finds it, and asks this of the watchers of one member.
+pub record IsBeside (given : Given) (s new : State) : Type 0 where
+  pub group : found_world given new ≡ found_world given s
+  pub keys : new.keys ≡ s.keys
+  pub members : new.declared.members ≡ s.declared.members
+  pub begun : new.declared.events ≡ true
+  pub m : ℕ
+  pub call : WatchCall
+  pub watchers : new.watchers ≡ set s.watchers m (after_watch_call call (watchers_at s m))
+
+-- A line states nothing, or it declares before the first event, or it states an event, or it is one of watchers.
 pub data LineSteps (given : Given) (s : State) (line : List ℕ) (new : State) : Type 0 where
   still : new ≡ s → LineSteps given s line new
   declares : s.declared.events ≡ false → new.declared.events ≡ false → LineSteps given s line new
   steps : (stated : Stated) (d : Declared) (e : EventValue) → line_of line ≡ Ok (Some stated)
       → said_event d stated ≡ Some e → IsStep given s new (group_event s.keys e) → LineSteps given s line new
+  watches : IsBeside given s new → LineSteps given s line new
 
 module _ (given : Given) (s : State) (sound : IsSoundState given s) (line : List ℕ) (stated : Stated) (d : Declared)
     (report : List ℕ) (new : State) (read_as : line_of line ≡ Ok (Some stated))
@@ -68,6 +84,20 @@ module _ (given : Given) (s : State) (sound : IsSoundState given s) (line : List
         keys = ap (λ (x : State). x.keys) acts.2.next;
         members = ap (λ (x : State). x.declared.members) acts.2.next ∙ members;
         begun = ap (λ (x : State). x.declared.events) acts.2.next ∙ ap (λ (x : Declared). x.events) told.is;
+        watchers = ap (λ (x : State). x.watchers) acts.2.next;
+      })
+
+  watch_steps : checking.after_event s.declared stated ≡ Ok d → IsWatched given s d new → LineSteps given s line new
+  watch_steps taken watched =
+      let told = event_line s.declared d stated taken in
+      watches (record {
+        group = ap (found_world given) watched.next;
+        keys = ap (λ (x : State). x.keys) watched.next;
+        members = ap (λ (x : State). x.declared.members) watched.next ∙ ap (λ (x : Declared). x.members) told.is;
+        begun = ap (λ (x : State). x.declared.events) watched.next ∙ ap (λ (x : Declared). x.events) told.is;
+        m = watched.m;
+        call = watched.call;
+        watchers = ap (λ (x : State). x.watchers) watched.next;
       })
 
   group_declared : (values : List Value) → after_group s.declared ≡ Ok d → with_group s d values ≡ says report new
@@ -109,6 +139,8 @@ module _ (given : Given) (s : State) (sound : IsSoundState given s) (line : List
   stated_steps verb.Group taken is = group_declared stated.values taken is
   stated_steps verb.Member taken is = member_declared stated.values taken is
   stated_steps verb.Client taken is = client_declared stated.values taken is
+  stated_steps verb.Watch taken is = watch_steps taken (watched_so given s d stated.values report new is)
+  stated_steps verb.Told taken is = watch_steps taken (told_so given s d stated.values report new is)
   stated_steps form taken is = event_steps taken is
 
 pub line_steps : (given : Given) (s : State) (line report : List ℕ) (new : State) → LineTaken given s line report new
@@ -131,6 +163,7 @@ module _ (given : Given) (P : World → Type 0) (begins : (out : Outside) (n : �
       → LineSteps given s line new → P (found_world given s) → P (found_world given new)
   so_next s line new sound sound_new (still same) so = subst (λ (x : State). P (found_world given x)) (sym same) so
   so_next s line new sound sound_new (declares early none) so = so_before new sound_new none
+  so_next s line new sound sound_new (watches beside) so = subst P (sym beside.group) so
   so_next s line new sound sound_new (steps stated d e read said step) so =
       subst P (sym step.group)
       (stays (outside_of given s.keys) (found_world given s) (group_event s.keys e) sound.sound step.taken so)
@@ -184,6 +217,19 @@ one_more given s next last e step rest = record {
       subst (λ (keys : GroupKeys). AreRun given last rest.events (outside_of given keys) behind) step.keys
       (subst (AreRun given last rest.events (outside_of given next.keys)) step.group (rest.taken, rest.group))
 
+none_more : (given : Given) (s next last : State) → IsBeside given s next → RunsTo given next last → RunsTo given s last
+none_more given s next last beside rest = record {
+  events = rest.events;
+  taken = same.0;
+  group = same.1;
+  members = rest.members ∙ beside.members;
+} where
+  same : AreRun given last rest.events (outside_of given s.keys) (found_world given s)
+  same =
+      subst (λ (keys : GroupKeys). AreRun given last rest.events (outside_of given keys) (found_world given s))
+      beside.keys
+      (subst (AreRun given last rest.events (outside_of given next.keys)) beside.group (rest.taken, rest.group))
+
 -- So do lines behind the first event.
 pub lines_run : (given : Given) (r : Reached) (lines reports : List (List ℕ)) (last : Reached)
     → LinesAreTaken given r lines reports last → IsSoundState given r.state → r.state.declared.events ≡ true
@@ -205,5 +251,78 @@ lines_run given r (line ∷ lines) (report ∷ reports) last taken sound begun =
           subst (λ (x : State). RunsTo given x last.state) same
           (rest (ap (λ (x : State). x.declared.events) same ∙ begun))
       go next (declares early none) rest = absurd (true≢false (sym begun ∙ early))
+      go next (watches beside) rest = none_more given r.state next.state last.state beside (rest beside.begun)
       go next (steps stated d e read said step) rest =
           one_more given r.state next.state last.state (group_event r.state.keys e) step (rest step.begun)
+
+-- ---- watchers
+
+-- What was asked of the watchers of a member between two states.
+pub record AreAsked (s last : State) (m : ℕ) : Type 0 where
+  pub calls : List WatchCall
+  pub are : watchers_at last m ≡ after_watch_calls calls (watchers_at s m)
+
+-- What stands at a place of a list once one place is written.
+data IsSetAt (ws : List (List Watching)) (k m : ℕ) (x : List Watching) : Type 0 where
+  other : get_or (set ws k x) m [] ≡ get_or ws m [] → IsSetAt ws k m x
+  itself : m ≡ k → get_or (set ws k x) m [] ≡ x → IsSetAt ws k m x
+
+set_at : (ws : List (List Watching)) (k m : ℕ) (x : List Watching) → IsSetAt ws k m x
+set_at [] k m x = other refl
+set_at (w ∷ ws) zero zero x = itself refl refl
+set_at (w ∷ ws) zero (suc m) x = other refl
+set_at (w ∷ ws) (suc k) zero x = other refl
+set_at (w ∷ ws) (suc k) (suc m) x = go (set_at ws k m x) where
+  go : IsSetAt ws k m x → IsSetAt (w ∷ ws) (suc k) (suc m) x
+  go (other same) = other same
+  go (itself at same) = itself (ap suc at) same
+
+asked_too : (given : Given) (s next last : State) (m : ℕ) → IsBeside given s next → AreAsked next last m
+    → AreAsked s last m
+asked_too given s next last m beside rest = go (set_at s.watchers beside.m m asked) where
+  asked : List Watching
+  asked = after_watch_call beside.call (watchers_at s beside.m)
+
+  now : watchers_at next m ≡ get_or (set s.watchers beside.m asked) m []
+  now = ap (λ (ws : List (List Watching)). get_or ws m []) beside.watchers
+
+  go : IsSetAt s.watchers beside.m m asked → AreAsked s last m
+  go (other same) = record {
+    calls = rest.calls;
+    are = rest.are ∙ ap (after_watch_calls rest.calls) (now ∙ same);
+  }
+  go (itself at same) = record {
+    calls = beside.call ∷ rest.calls;
+    are = rest.are ∙ ap (after_watch_calls rest.calls)
+        (now ∙ same ∙ ap (λ (n : ℕ). after_watch_call beside.call (watchers_at s n)) (sym at));
+  }
+
+-- Behind the first event lines ask watchers for nothing but this.
+pub lines_ask : (given : Given) (r : Reached) (lines reports : List (List ℕ)) (last : Reached)
+    → LinesAreTaken given r lines reports last → IsSoundState given r.state → r.state.declared.events ≡ true → (m : ℕ)
+    → AreAsked r.state last.state m
+lines_ask given r [] [] last taken sound begun m =
+    subst (λ (x : Reached). AreAsked r.state x.state m) (sym taken) (record { calls = []; are = refl })
+lines_ask given r [] (report ∷ reports) last taken sound begun m = absurd taken
+lines_ask given r (line ∷ lines) [] last taken sound begun m = absurd taken
+lines_ask given r (line ∷ lines) (report ∷ reports) last taken sound begun m =
+    let next : Reached = taken.0 in
+    let here : LineTaken given r.state line report next.state = taken_line given r line report next taken.1 in
+    go next (line_steps given r.state line report next.state here sound)
+    (λ b. lines_ask given next lines reports last taken.2
+    (sound_line given r.state line report next.state here sound) b m) where
+      go : (next : Reached) → LineSteps given r.state line next.state
+          → (next.state.declared.events ≡ true → AreAsked next.state last.state m)
+          → AreAsked r.state last.state m
+      go next (still same) rest =
+          subst (λ (x : State). AreAsked x last.state m) same
+          (rest (ap (λ (x : State). x.declared.events) same ∙ begun))
+      go next (declares early none) rest = absurd (true≢false (sym begun ∙ early))
+      go next (watches beside) rest = asked_too given r.state next.state last.state m beside (rest beside.begun)
+      go next (steps stated d e read said step) rest =
+          let behind = rest step.begun in
+          record {
+            calls = behind.calls;
+            are = behind.are ∙ ap (λ (ws : List (List Watching)). after_watch_calls behind.calls (get_or ws m []))
+                step.watchers;
+          }

@@ -7,7 +7,7 @@ use Rattle.std.specs.List.{IsDistinct, list_any}
 use Rattle.std.specs.Str.{bytes_eq}
 use Rattle.std.proofs.lemmas.Bool.{or_parts, true≢false}
 use Rattle.std.proofs.lemmas.Cmp.{nat_list_eq_equiv}
-use Rattle.std.proofs.lemmas.List.{length-map, map-append}
+use Rattle.std.proofs.lemmas.List.{length-map, length-set, map-append}
 use Rattle.std.proofs.lemmas.Map.Keys.{IsDistinct-push}
 use Rattle.ndn_name.specs.Names.{encoding}
 use Rattle.group_model.specs.Events as group
@@ -38,15 +38,18 @@ use Rattle.script_lang.specs.Checking as checking
 use Rattle.script_lang.specs.Checking.{Declared, Party, LineTotals, adds, after_by, after_group, after_line, are_known}
 use Rattle.script_lang.specs.Checking.{are_within_limits, declared_then, is_party_among, is_there, party_label}
 use Rattle.script_lang.specs.Checking.{may_declare, party, with_totals}
+use Rattle.repo_watch.specs.Laws.{after_watch_call}
 use Rattle.repo_top.specs.SaidEvents.{said_event}
 use Rattle.repo_top.specs.ToldTexts.{told_text}
 use Rattle.repo_top.specs.Judging.{Given, State, acted, acted_by, acted_if, check_refused, checked, event_refused}
 use Rattle.repo_top.specs.Judging.{found_world, judged, judged_line, line_taken, opening_state, outside_of, read, says}
-use Rattle.repo_top.specs.Judging.{stepped, taken_by, with_client, with_group, declaring_member}
+use Rattle.repo_top.specs.Judging.{stepped, taken_by, watchers_at, with_client, with_group, with_watchers}
+use Rattle.repo_top.specs.Judging.{declaring_member}
 use Rattle.repo_top.specs.Story.{Reached, nothing_reached}
 use Rattle.repo_top.specs.Headline.{LinesAreTaken, AreTakenFirst, LineIsTaken}
 use Rattle.repo_top.proofs.Fitting.{event_fits}
 use Rattle.repo_top.proofs.HeadlineLines.{judged_by}
+use Rattle.repo_top.proofs.HeadlineTaken.{IsWatched, says_report, says_state, told_so, watched_so}
 
 -- ---- what a line that is taken comes to
 
@@ -60,6 +63,7 @@ pub record IsActed (given : Given) (s : State) (d : Declared) (e : EventValue) (
     declared = d;
     keys = s.keys;
     world = Some (after_event (outside_of given s.keys) (found_world given s) (group_event s.keys e));
+    watchers = s.watchers;
   }
 
 not_said : (why : refusals.Refusal) (report : List ℕ) (new : State) → event_refused why ≡ says report new → ⊥
@@ -69,12 +73,6 @@ not_said refusals.Refusal.FetcherIdle report new h = cc
 not_said refusals.Refusal.NumbersSpent report new h = cc
 not_said refusals.Refusal.Foreign report new h = cc
 not_said refusals.Refusal.NoSuchNumber report new h = cc
-
-pub says_report : (report told : List ℕ) (new s : State) → says told s ≡ says report new → report ≡ told
-says_report report told new s h = cc
-
-pub says_state : (report told : List ℕ) (new s : State) → says told s ≡ says report new → new ≡ s
-says_state report told new s h = cc
 
 pub acts_so : (given : Given) (s : State) (d : Declared) (e : EventValue) (report : List ℕ) (new : State)
     → acted given s d e ≡ says report new → IsActed given s d e report new
@@ -87,7 +85,7 @@ acts_so given s d e report new h = go (refusals.refusal out w (group_event s.key
   w = found_world given s
 
   go : (o : Option refusals.Refusal) → refusals.refusal out w (group_event s.keys e) ≡ o
-      → stepped out s.keys d w e o ≡ says report new → IsActed given s d e report new
+      → stepped out s d w e o ≡ says report new → IsActed given s d e report new
   go (Some why) is k = absurd (not_said why report new k)
   go None is k = record {
     taken = is;
@@ -171,6 +169,7 @@ pub record IsSoundState (given : Given) (s : State) : Type 0 where
   pub labels : IsDistinct bytes_eq (map party_label s.declared.members)
   pub sound : IsSoundGroup (found_world given s)
   pub many : length (found_world given s).members ≡ length s.declared.members
+  pub watched : length s.watchers ≡ length s.declared.members
 
 length_opening : (out : Outside) (n : ℕ) → length (opening_world out n).members ≡ n
 length_opening out n = length-map (numbers_from 0 n) _ ∙ length-numbers 0 n
@@ -207,6 +206,7 @@ sound_beginning given = record {
   labels = none_twice;
   sound = sound_opening (drawing given.draw) 0;
   many = length_opening (drawing given.draw) 0;
+  watched = refl;
 }
 
 -- ---- declarations
@@ -282,6 +282,7 @@ module _ (given : Given) (s : State) (sound : IsSoundState given s) (d : Declare
         declared = record s.declared { group = true };
         keys = record { name = name; members = no_nodes; clients = no_nodes };
         world = s.world;
+        watchers = s.watchers;
       } in
       let no : HasNoWorld given next = record { world = sound.begun early; names = sym (ap length none) } in
       let result : IsSoundState given next = record {
@@ -292,6 +293,7 @@ module _ (given : Given) (s : State) (sound : IsSoundState given s) (d : Declare
         labels = sound.labels;
         sound = sound_before given next no;
         many = many_before given next no;
+        watched = sound.watched;
       } in
       let same : new ≡ next =
       says_state report [] new _ is ∙ ap (λ (e : Declared). record next { declared = e }) declares.is in
@@ -308,6 +310,7 @@ module _ (given : Given) (s : State) (sound : IsSoundState given s) (d : Declare
         declared = more;
         keys = record s.keys { members = with_node node key s.keys.members };
         world = s.world;
+        watchers = s.watchers ++ [] ∷ [];
       } in
       let names : length (s.keys.members.names ++ node ∷ []) ≡ length (s.declared.members ++ p ∷ []) =
       length-append s.keys.members.names (node ∷ []) ∙ ap (λ n. n + 1) sound.names
@@ -321,6 +324,8 @@ module _ (given : Given) (s : State) (sound : IsSoundState given s) (d : Declare
         labels = labels_more s.declared p m.0.apart sound.labels;
         sound = sound_before given next no;
         many = many_before given next no;
+        watched = length-append s.watchers ([] ∷ []) ∙ ap (λ n. n + 1) sound.watched
+            ∙ sym (length-append s.declared.members (p ∷ []));
       } in
       let same : new ≡ next = says_state report [] new _ is ∙ ap (λ (e : Declared). record next { declared = e }) m.1 in
       subst (IsSoundState given) (sym same) result
@@ -336,6 +341,7 @@ module _ (given : Given) (s : State) (sound : IsSoundState given s) (d : Declare
         declared = more;
         keys = record s.keys { clients = with_node node key s.keys.clients };
         world = s.world;
+        watchers = s.watchers;
       } in
       let no : HasNoWorld given next = record { world = sound.begun m.0.before; names = sound.names } in
       let result : IsSoundState given next = record {
@@ -346,6 +352,7 @@ module _ (given : Given) (s : State) (sound : IsSoundState given s) (d : Declare
         labels = sound.labels;
         sound = sound_before given next no;
         many = many_before given next no;
+        watched = sound.watched;
       } in
       let same : new ≡ next = says_state report [] new _ is ∙ ap (λ (e : Declared). record next { declared = e }) m.1 in
       subst (IsSoundState given) (sym same) result
@@ -393,7 +400,12 @@ module _ (given : Given) (s : State) (sound : IsSoundState given s) (line : List
       let fits = event_fits line s.declared d stated e read_as after acts.1 in
       let named : NamesThose w event = named_ready (length d.members) w s.keys e (sound.many ∙ sym count) fits.0 in
       let ready : refusals.EventIsTaken out w event = record { named = named; taken = acts.2.taken } in
-      let next : State = record { declared = d; keys = s.keys; world = Some (after_event out w event) } in
+      let next : State = record {
+        declared = d;
+        keys = s.keys;
+        world = Some (after_event out w event);
+        watchers = s.watchers;
+      } in
       let result : IsSoundState given next = record {
         ungrouped = λ h. absurd (true≢false (sym grouped ∙ h));
         uneventful = λ h. absurd (true≢false (sym grouped ∙ h));
@@ -402,8 +414,30 @@ module _ (given : Given) (s : State) (sound : IsSoundState given s) (line : List
         labels = subst (λ (ps : List Party). IsDistinct bytes_eq (map party_label ps)) (sym members) sound.labels;
         sound = sound_after out w event ready sound.sound;
         many = (lasts out w event ready sound.sound).width ∙ sound.many ∙ sym count;
+        watched = sound.watched ∙ sym count;
       } in
       subst (IsSoundState given) (sym acts.2.next) result
+
+  after_watched_line : checking.after_event s.declared stated ≡ Ok d → IsWatched given s d new → IsSoundState given new
+  after_watched_line taken watched =
+      let declares = event_line s.declared d stated taken in
+      let members : d.members ≡ s.declared.members = ap (λ (x : Declared). x.members) declares.is in
+      let grouped : d.group ≡ true = ap (λ (x : Declared). x.group) declares.is ∙ declares.grouped in
+      let begun : d.events ≡ true = ap (λ (x : Declared). x.events) declares.is in
+      let count : length d.members ≡ length s.declared.members = ap length members in
+      let result : IsSoundState given (with_watchers (found_world given s) s d watched.m
+      (after_watch_call watched.call (watchers_at s watched.m))) = record {
+        ungrouped = λ h. absurd (true≢false (sym grouped ∙ h));
+        uneventful = λ h. absurd (true≢false (sym grouped ∙ h));
+        begun = λ h. absurd (true≢false (sym begun ∙ h));
+        names = sound.names ∙ sym count;
+        labels = subst (λ (ps : List Party). IsDistinct bytes_eq (map party_label ps)) (sym members) sound.labels;
+        sound = sound.sound;
+        many = sound.many ∙ sym count;
+        watched = length-set s.watchers watched.m (after_watch_call watched.call (watchers_at s watched.m))
+            ∙ sound.watched ∙ sym count;
+      } in
+      subst (IsSoundState given) (sym watched.next) result
 
   after_stated : (form : Verb) → after_by s.declared stated form stated.values ≡ Ok d
       → taken_by form given s d stated ≡ says report new → IsSoundState given new
@@ -411,6 +445,8 @@ module _ (given : Given) (s : State) (sound : IsSoundState given s) (line : List
   after_stated verb.Group k is = after_group_line given s sound d report new stated.values k is
   after_stated verb.Member k is = after_member_line given s sound d report new stated stated.values k is
   after_stated verb.Client k is = after_client_line given s sound d report new stated stated.values k is
+  after_stated verb.Watch k is = after_watched_line k (watched_so given s d stated.values report new is)
+  after_stated verb.Told k is = after_watched_line k (told_so given s d stated.values report new is)
   after_stated form k is = after_event_line k is
 
 -- ---- lines

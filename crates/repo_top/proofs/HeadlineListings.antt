@@ -40,7 +40,8 @@ use Rattle.repo_top.specs.Headline.{AreTakenFirst, IsTakenAmid, LineIsTaken, Lin
 use Rattle.repo_top.specs.Listings.{IsToldOfAll, ListedStay, SettledListWhatIsHeld}
 use Rattle.repo_top.specs.Listings.{SettledListWhatIsLeft, ToldMembersJoin}
 use Rattle.repo_top.proofs.HeadlineLines.{each_is_taken}
-use Rattle.repo_top.proofs.HeadlineGroups.{IsActed, IsSoundState, acts_so, event_line, opened, says_report, says_state}
+use Rattle.repo_top.proofs.HeadlineTaken.{says_report, says_state}
+use Rattle.repo_top.proofs.HeadlineGroups.{IsActed, IsSoundState, acts_so, event_line, opened}
 use Rattle.repo_top.proofs.HeadlineGroups.{sound_from_start, sound_lines, stated_taken, taken_line}
 use Rattle.repo_top.proofs.HeadlineEvents.{RunsTo, lines_run, so_from_start}
 use Rattle.repo_top.proofs.HeadlineSettles.{settled_group, shows_join}
@@ -187,7 +188,7 @@ apart_at label (p ∷ ps) zero apart inside = apart.0
 apart_at label (p ∷ ps) (suc m) apart inside = apart_at label ps m apart.1 (omega (arith, inside))
 
 -- A label stands for the member that has it.
-number_of : (parties : List Party) (m : ℕ) → IsDistinct bytes_eq (map party_label parties) → m < length parties
+pub number_of : (parties : List Party) (m : ℕ) → IsDistinct bytes_eq (map party_label parties) → m < length parties
     → party_number (label_at (map party_label parties) m) parties ≡ m
 unfolding IsDistinct
 number_of [] m distinct inside = absurd (omega (arith, inside))

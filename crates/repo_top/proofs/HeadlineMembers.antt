@@ -35,10 +35,11 @@ use Rattle.script_lang.proofs.LineTexts.{line_texts}
 use Rattle.bench_world.specs.EventValues.{EventValue, group_event}
 use Rattle.bench_world.specs.Steps.{IsReady}
 use Rattle.bench_world.proofs.EventRuns.{named_ready}
+use Rattle.repo_watch.specs.Laws.{after_watch_call}
 use Rattle.repo_top.specs.SaidEvents.{said_by, said_event}
 use Rattle.repo_top.specs.Judging.{Given, State, acted_by, acted_if, found_world, group_named, opening_state}
 use Rattle.repo_top.specs.Judging.{outside_of, says, taken_by, with_client, with_client_too, with_group}
-use Rattle.repo_top.specs.Judging.{declaring_member, with_member_too}
+use Rattle.repo_top.specs.Judging.{declaring_member, watchers_at, with_member_too, with_watchers}
 use Rattle.repo_top.specs.Progressing.{node_of}
 use Rattle.repo_top.specs.Story.{Reached, nothing_reached}
 use Rattle.repo_top.specs.Headline.{LinesAreTaken, AreTakenFirst, ReachSoundGroups}
@@ -47,8 +48,9 @@ use Rattle.repo_top.proofs.Fitting.{AreWritten, client_fits, event_fits, group_f
 use Rattle.repo_top.proofs.DeclaredGroups.{AreApart, AreOthers, apart_client, apart_member, differ, none_have_keys}
 use Rattle.repo_top.proofs.DeclaredGroups.{one_has_too}
 use Rattle.repo_top.proofs.Judgings.{client_declares, member_declares, nobody_has}
+use Rattle.repo_top.proofs.HeadlineTaken.{IsWatched, says_state, told_so, watched_so}
 use Rattle.repo_top.proofs.HeadlineGroups.{IsSoundState, LineTaken, acted_said, declares_group, event_line, nothing}
-use Rattle.repo_top.proofs.HeadlineGroups.{opened, says_state, sound_beginning, sound_from_start, sound_line, stating}
+use Rattle.repo_top.proofs.HeadlineGroups.{opened, sound_beginning, sound_from_start, sound_line, stating}
 use Rattle.repo_top.proofs.HeadlineGroups.{taken_line}
 use Rattle.repo_top.proofs.HeadlineLimits.{AllWithin, BringsWithin, IsLimited, limited_after}
 
@@ -209,6 +211,7 @@ module _ (given : Given) (s : State) (sound : IsSoundState given s) (kept : IsKe
         declared = record s.declared { group = true };
         keys = group_named name;
         world = s.world;
+        watchers = s.watchers;
       } in
       let grouped : AreGroupKeys (group_named name) = record {
         name = group_fits octets name read;
@@ -242,6 +245,7 @@ module _ (given : Given) (s : State) (sound : IsSoundState given s) (kept : IsKe
         declared = record s.declared { members = s.declared.members ++ party label node ∷ [] };
         keys = with_member_too node key s.keys;
         world = s.world;
+        watchers = s.watchers ++ [] ∷ [];
       } in
       let grouped : AreGroupKeys (with_member_too node key s.keys) = record {
         name = group.name;
@@ -279,6 +283,7 @@ module _ (given : Given) (s : State) (sound : IsSoundState given s) (kept : IsKe
         declared = record s.declared { clients = s.declared.clients ++ party label node ∷ [] };
         keys = with_client_too node key s.keys;
         world = s.world;
+        watchers = s.watchers;
       } in
       let grouped : AreGroupKeys (with_client_too node key s.keys) = record {
         name = group.name;
@@ -321,7 +326,12 @@ module _ (given : Given) (s : State) (sound : IsSoundState given s) (kept : IsKe
       let ready : refusals.EventIsTaken out w event = record { named = named; taken = acts.2.taken } in
       let brings : BringsWithin event =
       brings_within s.keys (length d.members) e fits.0 (valid_event octets d stated e read acts.1) in
-      let next : State = record { declared = d; keys = s.keys; world = Some (after_event out w event) } in
+      let next : State = record {
+        declared = d;
+        keys = s.keys;
+        world = Some (after_event out w event);
+        watchers = s.watchers;
+      } in
       let result : IsKept given next = record {
         ungrouped = λ h. absurd (true≢false (sym grouped ∙ h));
         members = ap (map node_of) members ∙ kept.members;
@@ -331,6 +341,23 @@ module _ (given : Given) (s : State) (sound : IsSoundState given s) (kept : IsKe
       } in
       subst (IsKept given) (sym acts.2.next) result
 
+  kept_watched : (stated : Stated) → checking.after_event s.declared stated ≡ Ok d → IsWatched given s d new
+      → IsKept given new
+  kept_watched stated taken watched =
+      let declares = event_line s.declared d stated taken in
+      let members : d.members ≡ s.declared.members = ap (λ (x : Declared). x.members) declares.is in
+      let clients : d.clients ≡ s.declared.clients = ap (λ (x : Declared). x.clients) declares.is in
+      let grouped : d.group ≡ true = ap (λ (x : Declared). x.group) declares.is ∙ declares.grouped in
+      let result : IsKept given (with_watchers (found_world given s) s d watched.m
+      (after_watch_call watched.call (watchers_at s watched.m))) = record {
+        ungrouped = λ h. absurd (true≢false (sym grouped ∙ h));
+        members = ap (map node_of) members ∙ kept.members;
+        clients = ap (map node_of) clients ∙ kept.clients;
+        group = λ h. kept.group declares.grouped;
+        limited = λ h. kept.limited declares.grouped;
+      } in
+      subst (IsKept given) (sym watched.next) result
+
   kept_stated : (form_verb : Verb) (values : List Value) → line_of octets ≡ Ok (Some (said form_verb values))
       → after_line s.declared (said form_verb values) ≡ Ok d
       → taken_by form_verb given s d (said form_verb values) ≡ says report new → IsKept given new
@@ -338,6 +365,10 @@ module _ (given : Given) (s : State) (sound : IsSoundState given s) (kept : IsKe
   kept_stated verb.Group values read after is = kept_group values read after is
   kept_stated verb.Member values read after is = kept_member values read after is
   kept_stated verb.Client values read after is = kept_client values read after is
+  kept_stated verb.Watch values read after is =
+      kept_watched (said verb.Watch values) after (watched_so given s d values report new is)
+  kept_stated verb.Told values read after is =
+      kept_watched (said verb.Told values) after (told_so given s d values report new is)
   kept_stated form_verb values read after is = kept_event (said form_verb values) read after after is
 
 -- ---- lines

@@ -1,8 +1,13 @@
 -- The report of a line that is taken tells of members alone that lines declared.
-use Rattle.std.proofs.Common.{◌≡◌, ◌∙◌, ℕ, zero, suc, List, [], ◌∷◌, length, map, Option, Some, None, Result, Ok}
-use Rattle.std.proofs.Common.{Err, refl, sym, ap, subst, arith}
+use Rattle.std.proofs.Common.{◌≡◌, ◌∙◌, ℕ, zero, suc, ◌+◌, ◌<◌, Bool, true, false, nat_le, List, [], ◌∷◌, length, map}
+use Rattle.std.proofs.Common.{Option, Some, None, Result, Ok, Err, refl, sym, ap, subst, arith, if◌then◌else◌}
+use Rattle.std.specs.Prelude.{is_some}
+use Rattle.std.specs.List.{All}
 use Rattle.std.proofs.lemmas.List.{length-map}
-use Rattle.group_model.specs.World.{Outside, World}
+use Rattle.std.proofs.lemmas.List.Elements.{All-filter, All-nil}
+use Rattle.repo_catalog.specs.declared.entry.Entry.{Entry}
+use Rattle.repo_watch.specs.Watching.{Watching, after_add, after_take, is_news, watch_of}
+use Rattle.group_model.specs.World.{Outside, World, catalogue_at}
 use Rattle.bench_world.specs.EventValues.{EventValue, telling}
 use Rattle.bench_world.specs.Steps.{NamesAll}
 use Rattle.bench_world.proofs.Names.{names_all}
@@ -11,22 +16,28 @@ use Rattle.script_lang.specs.declared.line_fault.LineFault.TheVariants as line_f
 use Rattle.script_lang.specs.declared.check_fault.CheckFault.{CheckFault}
 use Rattle.script_lang.specs.declared.verb.Verb.{Verb}
 use Rattle.script_lang.specs.declared.verb.Verb.TheVariants as verb
-use Rattle.script_lang.specs.Kinds.{Value, Text, Named, Octets}
+use Rattle.script_lang.specs.Kinds.{Value, Text, Number, Named, Octets}
 use Rattle.script_lang.specs.Forms.{Stated}
 use Rattle.script_lang.specs.Lines.{line_of}
 use Rattle.script_lang.specs.Checking as checking
-use Rattle.script_lang.specs.Checking.{Declared, after_by, after_line, party_label}
-use Rattle.repo_top.specs.Labels.{MembersHaveLabels}
-use Rattle.repo_top.specs.SaidEvents.{said_event}
-use Rattle.repo_top.specs.ToldMembers.{TellsOfMembers, ReportsTellOfMembers, silent, tells}
+use Rattle.script_lang.specs.Checking.{Declared, Party, after_by, after_line, are_known_by, are_members, has_label}
+use Rattle.script_lang.specs.Checking.{labels_in, party_label}
+use Rattle.script_lang.proofs.Conditions.{and_left}
+use Rattle.script_report.specs.Texts.{watch_text}
+use Rattle.repo_top.specs.declared.refusal.Refusal.TheVariants as refusal
+use Rattle.repo_top.specs.Labels.{MembersHaveLabels, label_at}
+use Rattle.repo_top.specs.SaidEvents.{party_number, pattern_for, publisher_number, said_event}
+use Rattle.repo_top.specs.ToldMembers.{TellsOfMembers, ReportsTellOfMembers, silent, tells, tells_news, watches}
+use Rattle.repo_top.specs.ToldTexts.{news_in, news_text}
 use Rattle.repo_top.specs.Judging.{Given, State, acted_by, acted_if, checked, found_world, judged, judged_line}
 use Rattle.repo_top.specs.Judging.{line_taken, outside_of, read, says, taken_by, with_client, with_group}
-use Rattle.repo_top.specs.Judging.{declaring_member}
+use Rattle.repo_top.specs.Judging.{declaring_member, refused, told_by, watched_by, watchers_at, with_watchers}
 use Rattle.repo_top.specs.Story.{nothing_reached}
-use Rattle.repo_top.proofs.Fitting.{event_fits}
+use Rattle.repo_top.proofs.Fitting.{event_fits, number_within}
 use Rattle.repo_top.proofs.HeadlineLines.{judged_by}
-use Rattle.repo_top.proofs.HeadlineGroups.{IsSoundState, acted_said, event_line, not_checked, says_report}
-use Rattle.repo_top.proofs.HeadlineGroups.{sound_beginning, sound_lines}
+use Rattle.repo_top.proofs.HeadlineTaken.{says_report, says_state}
+use Rattle.repo_top.proofs.HeadlineGroups.{IsSoundState, acted_said, event_line, not_checked, sound_beginning}
+use Rattle.repo_top.proofs.HeadlineGroups.{sound_lines}
 
 pub members_have_labels : MembersHaveLabels
 members_have_labels [] m there = absurd (omega arith)
@@ -35,6 +46,12 @@ members_have_labels (label ∷ labels) (suc m) there = members_have_labels label
 
 abbrev Tells : State → List ℕ → Type 0
 Tells new report = TellsOfMembers (map party_label new.declared.members) report
+
+-- What holds of all entries holds of those that are news.
+pub news_among : (P : Entry → Type 0) (o : Option Watching) (entries : List Entry) → All P entries
+    → All P (news_in o entries)
+news_among P None entries all = All-nil P
+news_among P (Some watching) entries all = All-filter (is_news watching) P entries all
 
 -- ---- declarations
 
@@ -75,13 +92,93 @@ module _ (given : Given) (s : State) (sound : IsSoundState given s) (line : List
       subst (λ (x : State). Tells x report) (sym acts.2.next)
       (tells (telling s.keys out w e) acts.2.text labelled)
 
-  stated_tells : (form : Verb) → after_by s.declared stated form stated.values ≡ Ok d
+  same_members : checking.after_event s.declared stated ≡ Ok d → d.members ≡ s.declared.members
+  same_members taken = ap (λ (x : Declared). x.members) (event_line s.declared d stated taken).is
+
+  as_many : length (map party_label d.members) ≡ length d.members
+  as_many = length-map d.members party_label
+
+  watch_tells : (values : List Value) → watched_by (found_world given s) s d values ≡ says report new
+      → are_members s.declared (labels_in values) ≡ true → d.members ≡ s.declared.members → Tells new report
+  watch_tells (Text m ∷ publisher ∷ Named prefix ∷ []) is known same =
+      go (nat_le 16 (length (watchers_at s (party_number m d.members)))) is where
+        labels : List (List ℕ)
+        labels = map party_label d.members
+
+        number : ℕ
+        number = party_number m d.members
+
+        there : number < length d.members
+        there = number_within m s.declared.members d.members same (and_left (has_label m s.declared.members) _ known)
+
+        go : (full : Bool) → (if full then refused refusal.Limit
+            else says (watch_text (label_at labels number) (length (watchers_at s number) + 1))
+            (with_watchers (found_world given s) s d number (after_add
+            (pattern_for (publisher_number d publisher) prefix) (catalogue_at (found_world given s) number)
+            (watchers_at s number)))) ≡ says report new → Tells new report
+        go true k = cc
+        go false k =
+            subst (λ (x : State). Tells x report) (sym (says_state report _ new _ k))
+            (watches number (length (watchers_at s number) + 1) (says_report report _ new _ k)
+            (omega (arith, there, as_many)))
+  watch_tells values is known same = cc
+
+  news_tell : (values : List Value) → told_by (found_world given s) s d values ≡ says report new
+      → are_members s.declared (labels_in values) ≡ true → d.members ≡ s.declared.members → Tells new report
+  news_tell (Text m ∷ Number n ∷ []) is known same =
+      go (is_some (watch_of n (watchers_at s (party_number m d.members)))) is where
+        labels : List (List ℕ)
+        labels = map party_label d.members
+
+        number : ℕ
+        number = party_number m d.members
+
+        w : World
+        w = found_world given s
+
+        there : number < length d.members
+        there = number_within m s.declared.members d.members same (and_left (has_label m s.declared.members) _ known)
+
+        news : List Entry
+        news = news_in (watch_of n (watchers_at s number)) (catalogue_at w number)
+
+        count : length d.members ≡ length s.declared.members
+        count = ap (λ (ps : List Party). length ps) same
+
+        publishers : All (λ (e : Entry). e.publisher < length labels) (catalogue_at w number)
+        publishers =
+            subst (λ (k : ℕ). All (λ (e : Entry). e.publisher < k) (catalogue_at w number)) (sym as_many)
+            (names_all (length d.members) s.keys (outside_of given s.keys) w (sound.names ∙ sym count)
+            (sound.many ∙ sym count) sound.sound (EventValue.Catalogue number) there).1
+
+        go : (found : Bool) → (if found then says (news_text labels number n news)
+            (with_watchers w s d number (after_take n (catalogue_at w number) (watchers_at s number)))
+            else refused refusal.NoSuchWatch) ≡ says report new → Tells new report
+        go false k = cc
+        go true k =
+            subst (λ (x : State). Tells x report) (sym (says_state report _ new _ k))
+            (tells_news number n news (says_report report _ new _ k) (omega (arith, there, as_many))
+            (news_among (λ (e : Entry). e.publisher < length labels) (watch_of n (watchers_at s number))
+            (catalogue_at w number) publishers))
+  news_tell values is known same = cc
+
+  known_as : (form : Verb) → stated.verb ≡ form → checking.after_event s.declared stated ≡ Ok d
+      → are_known_by form s.declared (labels_in stated.values) ≡ true
+  known_as form same taken =
+      subst (λ (f : Verb). are_known_by f s.declared (labels_in stated.values) ≡ true) same
+      (event_line s.declared d stated taken).known
+
+  stated_tells : (form : Verb) → stated.verb ≡ form → after_by s.declared stated form stated.values ≡ Ok d
       → taken_by form given s d stated ≡ says report new → Tells new report
   unfolding acted_by
-  stated_tells verb.Group taken is = group_silent s d report new stated.values is
-  stated_tells verb.Member taken is = member_silent s d report new stated.values is
-  stated_tells verb.Client taken is = client_silent s d report new stated.values is
-  stated_tells form taken is = event_tells taken is
+  stated_tells verb.Group same taken is = group_silent s d report new stated.values is
+  stated_tells verb.Member same taken is = member_silent s d report new stated.values is
+  stated_tells verb.Client same taken is = client_silent s d report new stated.values is
+  stated_tells verb.Watch same taken is =
+      watch_tells stated.values is (known_as verb.Watch same taken) (same_members taken)
+  stated_tells verb.Told same taken is =
+      news_tell stated.values is (known_as verb.Told same taken) (same_members taken)
+  stated_tells form same taken is = event_tells taken is
 
 -- ---- lines
 
@@ -92,7 +189,7 @@ line_tells given s line report new sound h = go (line_of line) refl h where
   by_check : (stated : Stated) → line_of line ≡ Ok (Some stated) → (r : Result Declared CheckFault)
       → after_line s.declared stated ≡ r → checked given s stated r ≡ says report new → Tells new report
   by_check stated is (Ok d) after k =
-      stated_tells given s sound line stated d report new is after stated.verb after k
+      stated_tells given s sound line stated d report new is after stated.verb refl after k
   by_check stated is (Err fault) after k = absurd (not_checked fault report new k)
 
   go : (r : Result (Option Stated) LineFault) → line_of line ≡ r → read given s r ≡ says report new → Tells new report

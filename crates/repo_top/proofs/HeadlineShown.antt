@@ -117,6 +117,27 @@ settle_spares : (settle : List ℕ) (workers : ℕ) → Says settle (said verb.S
     → deletes_nothing (line_of settle) ≡ true
 settle_spares settle workers stated = ap deletes_nothing stated
 
+-- Right after a `settle` line, where nothing can have been deleted, the catalogues are joined.
+pub joined_behind : (given : Given) (before : List (List ℕ)) (settle : List ℕ) (workers : ℕ)
+    (between reports : List (List ℕ)) (r : Reached) → AreTakenFirst given (before ++ settle ∷ between) reports r
+    → list_all (λ l. deletes_nothing (line_of l)) before ≡ true → Says settle (said verb.Settle (Number workers ∷ []))
+    → list_all (λ l. changes_nothing (line_of l)) between ≡ true → AllJoined (group_at given r)
+joined_behind given before settle workers between reports r taken kept settles between_tells =
+    let amid = each_is_taken given nothing_reached before settle between reports r taken in
+    let tells : IsSameGroup given amid.new r =
+    lines_tell given amid.new between amid.later r amid.behind_it between_tells in
+    let no_deletion : list_all (λ l. deletes_nothing (line_of l)) (before ++ settle ∷ between) ≡ true =
+    all_both before (settle ∷ between) kept
+    (and_from (deletes_nothing (line_of settle)) _ (settle_spares settle workers settles)
+    (all_spare between between_tells)) in
+    let hidden : NothingHidden (group_at given amid.new) =
+    subst NothingHidden tells.group
+    (hides_by_deletion_alone given (before ++ settle ∷ between) reports r taken no_deletion) in
+    let joined : IsJoined given amid.new =
+    settles_join given before amid.told amid.here amid.before_it amid.report amid.new
+    (record { line = settle; workers = workers; stated = settles; taken = amid.it }) hidden in
+    subst AllJoined (sym tells.group) joined.all
+
 pub settle_lines_show : SettleLinesShow
 settle_lines_show given input before settle workers between line others label done cut kept settles between_tells
     stated =
@@ -125,17 +146,6 @@ settle_lines_show given input before settle workers between line others label do
     append_assoc before (settle ∷ between) (line ∷ others) in
     let c : ShowsCatalogue given first label (story_of given input).text =
     catalogue_lines_show given input first line others label done (cut ∙ sym same) stated in
-    let amid = each_is_taken given nothing_reached before settle between c.reports c.here c.taken in
-    let tells : IsSameGroup given amid.new c.here =
-    lines_tell given amid.new between amid.later c.here amid.behind_it between_tells in
-    let no_deletion : list_all (λ l. deletes_nothing (line_of l)) first ≡ true =
-    all_both before (settle ∷ between) kept
-    (and_from (deletes_nothing (line_of settle)) _ (settle_spares settle workers settles)
-    (all_spare between between_tells)) in
-    let hidden : NothingHidden (group_at given amid.new) =
-    subst NothingHidden tells.group (hides_by_deletion_alone given first c.reports c.here c.taken no_deletion) in
-    let joined : IsJoined given amid.new =
-    settles_join given before amid.told amid.here amid.before_it amid.report amid.new
-    (record { line = settle; workers = workers; stated = settles; taken = amid.it }) hidden in
-    let all : AllJoined (group_at given c.here) = subst AllJoined (sym tells.group) joined.all in
+    let all : AllJoined (group_at given c.here) =
+    joined_behind given before settle workers between c.reports c.here c.taken kept settles between_tells in
     record { catalogue = c; joined = all c.shown.number c.shown.there }

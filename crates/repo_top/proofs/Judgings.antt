@@ -87,19 +87,25 @@ taken_line given s d l h = rw h refl
 
 pub group_says : (given : Given) (s : State) (d : Declared) (name : List Component)
     → line_taken given s d (said verb.Group (Named name ∷ []))
-    ≡ says [] (record { declared = d; keys = group_named name; world = s.world })
+    ≡ says [] (record { declared = d; keys = group_named name; world = s.world; watchers = s.watchers })
 unfolding line_taken
 group_says given s d name = refl
 
 pub member_says : (given : Given) (s : State) (d : Declared) (label : List ℕ) (node : List Component) (key : List ℕ)
     → line_taken given s d (said verb.Member (Text label ∷ Named node ∷ Octets key ∷ []))
-    ≡ says [] (record { declared = d; keys = with_member_too node key s.keys; world = s.world })
+    ≡ says [] (record {
+      declared = d;
+      keys = with_member_too node key s.keys;
+      world = s.world;
+      watchers = s.watchers ++ [] ∷ [];
+    })
 unfolding line_taken
 member_says given s d label node key = refl
 
 pub client_says : (given : Given) (s : State) (d : Declared) (label : List ℕ) (node : List Component) (key : List ℕ)
     → line_taken given s d (said verb.Client (Text label ∷ Named node ∷ Octets key ∷ []))
-    ≡ says [] (record { declared = d; keys = with_client_too node key s.keys; world = s.world })
+    ≡ says []
+    (record { declared = d; keys = with_client_too node key s.keys; world = s.world; watchers = s.watchers })
 unfolding line_taken
 client_says given s d label node key = refl
 
@@ -201,7 +207,7 @@ same_by verb.Status d totals labels = same_those d totals labels
 same_by verb.Delete d totals labels = same_those d totals labels
 same_by form d totals labels = refl
 
-event_after : (d e : Declared) (l : Stated) → after_event d l ≡ Ok e → IsEvent d e l
+pub event_after : (d e : Declared) (l : Stated) → after_event d l ≡ Ok e → IsEvent d e l
 event_after d e l h =
     go d.group (are_known d l) (are_within_limits (with_totals d.totals (adds l.verb l.values))) refl refl h where
       go : (group known within : Bool) → d.group ≡ group → are_known d l ≡ known
@@ -230,6 +236,8 @@ unfolding line_taken
 event_says given s d (line.Group name) is = absurd is
 event_says given s d (line.Member label name key) is = absurd is
 event_says given s d (line.Client label name key) is = absurd is
+event_says given s d (line.Watch m p name) is = absurd is
+event_says given s d (line.Told m w) is = absurd is
 event_says given s d l is = refl
 
 pub event_declares : (d e : Declared) (l : Line) → IsEventLine l → after_line d (stated l) ≡ Ok e
@@ -249,6 +257,8 @@ pub states_some : (d : Declared) (l : Line) → IsEventLine l → None ≡ said_
 states_some d (line.Group name) is h = absurd is
 states_some d (line.Member label name key) is h = absurd is
 states_some d (line.Client label name key) is h = absurd is
+states_some d (line.Watch m p name) is h = absurd is
+states_some d (line.Told m w) is h = absurd is
 states_some d l is h = cc
 
 pub acted_says : (given : Given) (s : State) (d : Declared) (e : EventValue)
@@ -259,21 +269,22 @@ pub acted_says : (given : Given) (s : State) (d : Declared) (e : EventValue)
       declared = d;
       keys = s.keys;
       world = Some (after_group_event (outside_of given s.keys) (found_world given s) (group_event s.keys e));
+      watchers = s.watchers;
     })
 unfolding acted
 acted_says given s d e h = rw h refl
 
-stepped_stops : (out : Outside) (keys : GroupKeys) (d : Declared) (w : World) (e : EventValue)
-    (why : Option group.Refusal) (stop : Stop) → IsStopOf why stop → IsStop (stepped out keys d w e why) stop
-stepped_stops out keys d w e why stop.NoMemory h = tt
-stepped_stops out keys d w e None (stop.Refused r) h = absurd h
-stepped_stops out keys d w e None stop.Foreign h = absurd h
-stepped_stops out keys d w e (Some why) (stop.Refused r) h = h
-stepped_stops out keys d w e (Some why) stop.Foreign h = h
+stepped_stops : (out : Outside) (s : State) (d : Declared) (w : World) (e : EventValue)
+    (why : Option group.Refusal) (stop : Stop) → IsStopOf why stop → IsStop (stepped out s d w e why) stop
+stepped_stops out s d w e why stop.NoMemory h = tt
+stepped_stops out s d w e None (stop.Refused r) h = absurd h
+stepped_stops out s d w e None stop.Foreign h = absurd h
+stepped_stops out s d w e (Some why) (stop.Refused r) h = h
+stepped_stops out s d w e (Some why) stop.Foreign h = h
 
 pub acted_stops : (given : Given) (s : State) (d : Declared) (e : EventValue) (stop : Stop)
     → IsStopOf (group.refusal (outside_of given s.keys) (found_world given s) (group_event s.keys e)) stop
     → IsStop (acted given s d e) stop
 unfolding acted
-acted_stops given s d e stop h = stepped_stops (outside_of given s.keys) s.keys d (found_world given s) e
+acted_stops given s d e stop h = stepped_stops (outside_of given s.keys) s d (found_world given s) e
     (group.refusal (outside_of given s.keys) (found_world given s) (group_event s.keys e)) stop h

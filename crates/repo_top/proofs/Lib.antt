@@ -7,6 +7,7 @@ pub mod ReadNames
 pub mod Fitting
 pub mod Sayings
 pub mod HeadlineLines
+pub mod HeadlineTaken
 pub mod HeadlineGroups
 pub mod HeadlineNames
 pub mod HeadlineCatalogues
@@ -20,6 +21,7 @@ pub mod HeadlineMembers
 pub mod ListedDigests
 pub mod HeadlineChecks
 pub mod HeadlineShown
+pub mod HeadlineWatchers
 pub mod WorkerLaws
 pub mod LineLaws
 pub mod Readings
@@ -30,4 +32,5 @@ pub mod Stops
 pub mod Labels
 pub mod Judgings
 pub mod Progressings
+pub mod WatchLines
 pub mod Ends

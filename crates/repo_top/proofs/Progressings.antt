@@ -1,6 +1,6 @@
 -- What a line changes of what is kept, by what it states.
 use Rattle.std.proofs.Common.{◌≡◌, ◌∙◌, ℕ, ◌<◌, true, false, List, [], ◌∷◌, ◌++◌, length, map, Option, Some, None}
-use Rattle.std.proofs.Common.{Result, Ok, Err, String, Global, Vec, refl, sym, ap, subst}
+use Rattle.std.proofs.Common.{◌+◌, length-append, Result, Ok, Err, String, Global, Vec, refl, sym, ap, subst}
 use Rattle.std.specs.Prelude.{IfErr, OnOk}
 use Rattle.std.specs.Result.{IsErrAnd}
 use Rattle.std.proofs.lemmas.Bool.{true≢false}
@@ -11,19 +11,20 @@ use Rattle.script_lang.specs.declared.line.Line.{Line}
 use Rattle.script_lang.specs.declared.line.Line.TheVariants as line
 use Rattle.script_lang.specs.declared.verb.Verb.{Verb}
 use Rattle.script_lang.specs.declared.verb.Verb.TheVariants as verb
-use Rattle.script_lang.specs.Kinds.{Text, Named, Octets}
+use Rattle.script_lang.specs.Kinds.{Value, Text, Number, Named, Octets}
 use Rattle.script_lang.specs.Forms.{Stated, said, stated}
-use Rattle.script_lang.specs.Checking.{Declared, after_line, party_label, party}
+use Rattle.script_lang.specs.Checking.{Declared, Party, after_line, party_label, party}
 use Rattle.group_model.specs.World.{World}
 use Rattle.repo_member.specs.Groups.{GroupKeys, IsKey, IsPlainNodeName, is_name_taken}
 use Rattle.group_model.specs.Steps.{after_event}
 use Rattle.group_model.specs.Refusals as group
 use Rattle.bench_world.specs.EventValues.{EventValue, group_event, telling}
+use Rattle.repo_watch.specs.Watching.{Watching}
 use Rattle.repo_top.specs.declared.progress.Standing.{Standing}
 use Rattle.repo_top.specs.declared.progress.Standing.TheVariants.{Opening, Declaring, Acting}
 use Rattle.repo_top.specs.Judging.{Given, State, Verdict, says, acted, acted_by, acted_if, found_world, group_named}
 use Rattle.repo_top.specs.Judging.{outside_of, judged_line, line_taken, no_group, taken_by, with_client_too}
-use Rattle.repo_top.specs.Judging.{with_member_too}
+use Rattle.repo_top.specs.Judging.{told_by, watched_by, with_member_too}
 use Rattle.repo_top.specs.Progressing.{IsEventLine, NamesAreDeclared, LineIsChecked, IsStop, IsStopOf, StatesFit}
 use Rattle.repo_top.specs.Progressing.{has_group}
 use Rattle.repo_top.specs.Progressing.{has_world, standing_keys, node_of, state_of, world_in}
@@ -36,29 +37,44 @@ use Rattle.repo_top.proofs.Judgings.{event_says, group_declares, group_says, is_
 use Rattle.repo_top.proofs.Judgings.{taken_line}
 
 -- Nothing but what a line declares matters where it is taken.
-same_acted : (given : Given) (standing : Standing) (d e : Declared) (o : Option EventValue)
-    → acted_if given (state_of standing d) e o ≡ acted_if given (state_of standing e) e o
+same_acted : (given : Given) (standing : Standing) (ws : List (List Watching)) (d e : Declared) (o : Option EventValue)
+    → acted_if given (state_of standing ws d) e o ≡ acted_if given (state_of standing ws e) e o
 unfolding acted
-same_acted given standing d e None = refl
-same_acted given standing d e (Some v) = refl
+same_acted given standing ws d e None = refl
+same_acted given standing ws d e (Some v) = refl
 
-same_acted_by : (given : Given) (standing : Standing) (d e : Declared) (s : Stated)
-    → acted_by given (state_of standing d) e s ≡ acted_by given (state_of standing e) e s
+same_acted_by : (given : Given) (standing : Standing) (ws : List (List Watching)) (d e : Declared) (s : Stated)
+    → acted_by given (state_of standing ws d) e s ≡ acted_by given (state_of standing ws e) e s
 unfolding acted_by
-same_acted_by given standing d e s = same_acted given standing d e (said_event e s)
+same_acted_by given standing ws d e s = same_acted given standing ws d e (said_event e s)
 
-same_taken : (given : Given) (standing : Standing) (d e : Declared) (v : Verb) (s : Stated)
-    → taken_by v given (state_of standing d) e s ≡ taken_by v given (state_of standing e) e s
-same_taken given standing d e verb.Group s = refl
-same_taken given standing d e verb.Member s = refl
-same_taken given standing d e verb.Client s = refl
-same_taken given standing d e v s = same_acted_by given standing d e s
+same_watched : (given : Given) (standing : Standing) (ws : List (List Watching)) (d e : Declared) (values : List Value)
+    → watched_by (found_world given (state_of standing ws d)) (state_of standing ws d) e values
+    ≡ watched_by (found_world given (state_of standing ws e)) (state_of standing ws e) e values
+same_watched given standing ws d e (Text m ∷ publisher ∷ Named prefix ∷ []) = refl
+same_watched given standing ws d e values = refl
 
-pub line_is_taken : (given : Given) (standing : Standing) (d e : Declared) (s : Stated) → after_line d s ≡ Ok e
-    → judged_line given (state_of standing d) s ≡ line_taken given (state_of standing e) e s
+same_told : (given : Given) (standing : Standing) (ws : List (List Watching)) (d e : Declared) (values : List Value)
+    → told_by (found_world given (state_of standing ws d)) (state_of standing ws d) e values
+    ≡ told_by (found_world given (state_of standing ws e)) (state_of standing ws e) e values
+same_told given standing ws d e (Text m ∷ Number number ∷ []) = refl
+same_told given standing ws d e values = refl
+
+same_taken : (given : Given) (standing : Standing) (ws : List (List Watching)) (d e : Declared) (v : Verb) (s : Stated)
+    → taken_by v given (state_of standing ws d) e s ≡ taken_by v given (state_of standing ws e) e s
+same_taken given standing ws d e verb.Group s = refl
+same_taken given standing ws d e verb.Member s = refl
+same_taken given standing ws d e verb.Client s = refl
+same_taken given standing ws d e verb.Watch s = same_watched given standing ws d e s.values
+same_taken given standing ws d e verb.Told s = same_told given standing ws d e s.values
+same_taken given standing ws d e v s = same_acted_by given standing ws d e s
+
+pub line_is_taken : (given : Given) (standing : Standing) (ws : List (List Watching)) (d e : Declared) (s : Stated)
+    → after_line d s ≡ Ok e
+    → judged_line given (state_of standing ws d) s ≡ line_taken given (state_of standing ws e) e s
 unfolding line_taken
-line_is_taken given standing d e s after =
-    taken_line given (state_of standing d) e s after ∙ same_taken given standing d e s.verb s
+line_is_taken given standing ws d e s after =
+    taken_line given (state_of standing ws d) e s after ∙ same_taken given standing ws d e s.verb s
 
 no_world : (standing : Standing) → has_world standing ≡ false → world_in standing ≡ None
 no_world Opening h = refl
@@ -77,24 +93,29 @@ is_opening (Declaring group) h = absurd (true≢false h)
 is_opening (Acting world) h = absurd (true≢false h)
 
 -- The verdict of a line that declares something, and has no report.
-abbrev pub Says : Given → Standing → Declared → Stated → GroupKeys → Type 0
-Says given standing e s keys =
-    line_taken given (state_of standing e) e s ≡ says [] (record { declared = e; keys = keys; world = None })
+abbrev pub Says : Given → Standing → List (List Watching) → Declared → Stated → GroupKeys → List (List Watching)
+    → Type 0
+Says given standing ws e s keys after =
+    line_taken given (state_of standing ws e) e s
+    ≡ says [] (record { declared = e; keys = keys; world = None; watchers = after })
 
 -- ---- the group
 
-pub record Grouped (given : Given) (labels : List (List ℕ)) (standing : Standing) (e : Declared) (s : Stated)
+pub record Grouped (given : Given) (labels : List (List ℕ)) (standing : Standing) (ws : List (List Watching))
+    (e : Declared) (s : Stated)
     (name : List Component) : Type 0 where
   pub plain : IsPlainNodeName name
   pub group : e.group ≡ true
   pub early : e.events ≡ false
   pub named : NamesAreDeclared labels (group_named name) e
-  pub says : Says given standing e s (group_named name)
+  pub watched : length ws ≡ length e.members
+  pub says : Says given standing ws e s (group_named name) ws
 
-grouped_at : (given : Given) (labels : List (List ℕ)) (standing : Standing) (e : Declared) (name : List Component)
-    → LineIsChecked labels standing e (said verb.Group (Named name ∷ []))
-    → Grouped given labels standing e (said verb.Group (Named name ∷ [])) name
-grouped_at given labels standing e name c =
+grouped_at : (given : Given) (labels : List (List ℕ)) (standing : Standing) (ws : List (List Watching)) (e : Declared)
+    (name : List Component)
+    → LineIsChecked labels standing ws e (said verb.Group (Named name ∷ []))
+    → Grouped given labels standing ws e (said verb.Group (Named name ∷ [])) name
+grouped_at given labels standing ws e name c =
     let opens = group_declares c.before e name c.after in
     let none = is_opening standing (sym c.stands.group ∙ opens.0) in
     let empty : NamesAreDeclared labels no_group c.before =
@@ -107,22 +128,27 @@ grouped_at given labels standing e name c =
       group = ap (λ (x : Declared). x.group) (sym opens.1);
       early = ap (λ (x : Declared). x.events) (sym opens.1) ∙ c.stands.events ∙ none.early;
       named = subst (NamesAreDeclared labels (group_named name)) opens.1 new;
-      says = group_says given (state_of standing e) e name
-          ∙ ap (λ (w : Option World). says [] (record { declared = e; keys = group_named name; world = w })) none.world;
+      watched = c.stands.watched ∙ ap (λ (x : Declared). length x.members) opens.1;
+      says = group_says given (state_of standing ws e) e name
+          ∙ ap (λ (w : Option World). says []
+          (record { declared = e; keys = group_named name; world = w; watchers = ws })) none.world;
     }
 
-pub grouped : (given : Given) (labels : List (List ℕ)) (standing : Standing) (e : Declared) (s : Stated)
+pub grouped : (given : Given) (labels : List (List ℕ)) (standing : Standing) (ws : List (List Watching)) (e : Declared)
+    (s : Stated)
     (name : List Component)
-    → s ≡ said verb.Group (Named name ∷ []) → LineIsChecked labels standing e s → Grouped given labels standing e s name
-grouped given labels standing e s name is c =
-    subst (λ (x : Stated). Grouped given labels standing e x name) (sym is)
-    (grouped_at given labels standing e name (subst (LineIsChecked labels standing e) is c))
+    → s ≡ said verb.Group (Named name ∷ []) → LineIsChecked labels standing ws e s
+    → Grouped given labels standing ws e s name
+grouped given labels standing ws e s name is c =
+    subst (λ (x : Stated). Grouped given labels standing ws e x name) (sym is)
+    (grouped_at given labels standing ws e name (subst (LineIsChecked labels standing ws e) is c))
 
 -- ---- members and clients
 
 -- A name and a key are kept in addition, and then the labels and names are these.
-pub record Declares (given : Given) (labels : List (List ℕ)) (standing : Standing) (e : Declared) (s : Stated)
-    (node : List Component) (key : List ℕ) (keys : GroupKeys) : Type 0 where
+pub record Declares (given : Given) (labels : List (List ℕ)) (standing : Standing) (ws : List (List Watching))
+    (e : Declared) (s : Stated)
+    (node : List Component) (key : List ℕ) (keys : GroupKeys) (after : List (List Watching)) : Type 0 where
   pub plain : IsPlainNodeName node
   pub fits : IsKey key
   pub group : e.group ≡ true
@@ -131,20 +157,24 @@ pub record Declares (given : Given) (labels : List (List ℕ)) (standing : Stand
   pub unchanged : has_world standing ≡ false
   pub apart : is_name_taken (standing_keys standing) node ≡ false
   pub named : NamesAreDeclared labels keys e
-  pub says : Says given standing e s keys
+  pub watched : length after ≡ length e.members
+  pub says : Says given standing ws e s keys after
 
-abbrev pub MemberDeclares : Given → List (List ℕ) → Standing → Declared → Stated → List ℕ → List Component → List ℕ
+abbrev pub MemberDeclares : Given → List (List ℕ) → Standing → List (List Watching) → Declared → Stated → List ℕ
+    → List Component → List ℕ
     → Type 0
-MemberDeclares given labels standing e s label node key =
-    Declares given (labels ++ label ∷ []) standing e s node key (with_member_too node key (standing_keys standing))
-    × (length (standing_keys standing).members.names < 16)
+MemberDeclares given labels standing ws e s label node key =
+    Declares given (labels ++ label ∷ []) standing ws e s node key (with_member_too node key (standing_keys standing))
+    (ws ++ [] ∷ []) × (length (standing_keys standing).members.names < 16)
 
-member_at : (given : Given) (labels : List (List ℕ)) (standing : Standing) (e : Declared) (label : List ℕ)
+member_at : (given : Given) (labels : List (List ℕ)) (standing : Standing) (ws : List (List Watching)) (e : Declared)
+    (label : List ℕ)
     (node : List Component) (key : List ℕ)
-    → LineIsChecked labels standing e (said verb.Member (Text label ∷ Named node ∷ Octets key ∷ []))
-    → MemberDeclares given labels standing e (said verb.Member (Text label ∷ Named node ∷ Octets key ∷ [])) label node
+    → LineIsChecked labels standing ws e (said verb.Member (Text label ∷ Named node ∷ Octets key ∷ []))
+    → MemberDeclares given labels standing ws e
+    (said verb.Member (Text label ∷ Named node ∷ Octets key ∷ [])) label node
     key
-member_at given labels standing e label node key c =
+member_at given labels standing ws e label node key c =
     let d = c.before in
     let both = member_declares d e label node key c.after in
     let may = both.0 in
@@ -169,37 +199,44 @@ member_at given labels standing e label node key c =
         apart = is_free d (standing_keys standing) label node was.members was.clients may.apart;
         named = subst (NamesAreDeclared (labels ++ label ∷ []) (with_member_too node key (standing_keys standing)))
             both.1 new;
-        says = member_says given (state_of standing e) e label node key
+        watched = length-append ws ([] ∷ []) ∙ ap (λ (n : ℕ). n + 1) c.stands.watched
+            ∙ sym (length-append d.members (party label node ∷ []))
+            ∙ ap (λ (x : Declared). length x.members) both.1;
+        says = member_says given (state_of standing ws e) e label node key
             ∙ ap (λ (w : Option World). says [] (record {
               declared = e;
               keys = with_member_too node key (standing_keys standing);
               world = w;
+              watchers = ws ++ [] ∷ [];
             })) (no_world standing unchanged);
       },
       subst (λ n. n < 16) (sym (length-map d.members node_of)
           ∙ ap (λ (xs : List (List Component)). length xs) was.members) may.few,
     )
 
-pub member_declared : (given : Given) (labels : List (List ℕ)) (standing : Standing) (e : Declared) (s : Stated)
+pub member_declared : (given : Given) (labels : List (List ℕ)) (standing : Standing) (ws : List (List Watching))
+    (e : Declared) (s : Stated)
     (label : List ℕ) (node : List Component) (octets key : List ℕ)
     → s ≡ said verb.Member (Text label ∷ Named node ∷ Octets octets ∷ [])
-    → key ≡ octets → LineIsChecked labels standing e s → MemberDeclares given labels standing e s label node key
-member_declared given labels standing e s label node octets key is same c =
+    → key ≡ octets → LineIsChecked labels standing ws e s → MemberDeclares given labels standing ws e s label node key
+member_declared given labels standing ws e s label node octets key is same c =
     let is_key : s ≡ said verb.Member (Text label ∷ Named node ∷ Octets key ∷ []) =
     is ∙ ap (λ (k : List ℕ). said verb.Member (Text label ∷ Named node ∷ Octets k ∷ [])) (sym same) in
-    subst (λ (x : Stated). MemberDeclares given labels standing e x label node key) (sym is_key)
-    (member_at given labels standing e label node key (subst (LineIsChecked labels standing e) is_key c))
+    subst (λ (x : Stated). MemberDeclares given labels standing ws e x label node key) (sym is_key)
+    (member_at given labels standing ws e label node key (subst (LineIsChecked labels standing ws e) is_key c))
 
-abbrev pub ClientDeclares : Given → List (List ℕ) → Standing → Declared → Stated → List Component → List ℕ → Type 0
-ClientDeclares given labels standing e s node key =
-    Declares given labels standing e s node key (with_client_too node key (standing_keys standing))
+abbrev pub ClientDeclares : Given → List (List ℕ) → Standing → List (List Watching) → Declared → Stated
+    → List Component → List ℕ → Type 0
+ClientDeclares given labels standing ws e s node key =
+    Declares given labels standing ws e s node key (with_client_too node key (standing_keys standing)) ws
     × (length (standing_keys standing).clients.names < 16)
 
-client_at : (given : Given) (labels : List (List ℕ)) (standing : Standing) (e : Declared) (label : List ℕ)
+client_at : (given : Given) (labels : List (List ℕ)) (standing : Standing) (ws : List (List Watching)) (e : Declared)
+    (label : List ℕ)
     (node : List Component) (key : List ℕ)
-    → LineIsChecked labels standing e (said verb.Client (Text label ∷ Named node ∷ Octets key ∷ []))
-    → ClientDeclares given labels standing e (said verb.Client (Text label ∷ Named node ∷ Octets key ∷ [])) node key
-client_at given labels standing e label node key c =
+    → LineIsChecked labels standing ws e (said verb.Client (Text label ∷ Named node ∷ Octets key ∷ []))
+    → ClientDeclares given labels standing ws e (said verb.Client (Text label ∷ Named node ∷ Octets key ∷ [])) node key
+client_at given labels standing ws e label node key c =
     let d = c.before in
     let both = client_declares d e label node key c.after in
     let may = both.0 in
@@ -222,42 +259,48 @@ client_at given labels standing e label node key c =
         unchanged = unchanged;
         apart = is_free d (standing_keys standing) label node was.members was.clients may.apart;
         named = subst (NamesAreDeclared labels (with_client_too node key (standing_keys standing))) both.1 new;
-        says = client_says given (state_of standing e) e label node key
+        watched = c.stands.watched ∙ ap (λ (x : Declared). length x.members) both.1;
+        says = client_says given (state_of standing ws e) e label node key
             ∙ ap (λ (w : Option World). says [] (record {
               declared = e;
               keys = with_client_too node key (standing_keys standing);
               world = w;
+              watchers = ws;
             })) (no_world standing unchanged);
       },
       subst (λ n. n < 16) (sym (length-map d.clients node_of)
           ∙ ap (λ (xs : List (List Component)). length xs) was.clients) may.few,
     )
 
-pub client_declared : (given : Given) (labels : List (List ℕ)) (standing : Standing) (e : Declared) (s : Stated)
+pub client_declared : (given : Given) (labels : List (List ℕ)) (standing : Standing) (ws : List (List Watching))
+    (e : Declared) (s : Stated)
     (label : List ℕ) (node : List Component) (octets key : List ℕ)
     → s ≡ said verb.Client (Text label ∷ Named node ∷ Octets octets ∷ [])
-    → key ≡ octets → LineIsChecked labels standing e s → ClientDeclares given labels standing e s node key
-client_declared given labels standing e s label node octets key is same c =
+    → key ≡ octets → LineIsChecked labels standing ws e s → ClientDeclares given labels standing ws e s node key
+client_declared given labels standing ws e s label node octets key is same c =
     let is_key : s ≡ said verb.Client (Text label ∷ Named node ∷ Octets key ∷ []) =
     is ∙ ap (λ (k : List ℕ). said verb.Client (Text label ∷ Named node ∷ Octets k ∷ [])) (sym same) in
-    subst (λ (x : Stated). ClientDeclares given labels standing e x node key) (sym is_key)
-    (client_at given labels standing e label node key (subst (LineIsChecked labels standing e) is_key c))
+    subst (λ (x : Stated). ClientDeclares given labels standing ws e x node key) (sym is_key)
+    (client_at given labels standing ws e label node key (subst (LineIsChecked labels standing ws e) is_key c))
 
 -- ---- events
 
-pub record Acts (given : Given) (labels : List (List ℕ)) (standing : Standing) (e : Declared)
+pub record Acts (given : Given) (labels : List (List ℕ)) (standing : Standing) (ws : List (List Watching))
+    (e : Declared)
     (s : Stated) : Type 0 where
   pub fit : StatesFit e s
   pub named : NamesAreDeclared labels (standing_keys standing) e
   pub group : e.group ≡ true
   pub events : e.events ≡ true
   pub there : has_group standing ≡ true
-  pub acts : line_taken given (state_of standing e) e s ≡ acted_by given (state_of standing e) e s
+  pub watched : length ws ≡ length e.members
+  pub acts : line_taken given (state_of standing ws e) e s ≡ acted_by given (state_of standing ws e) e s
 
-pub event_acts : (given : Given) (labels : List (List ℕ)) (standing : Standing) (e : Declared) (l : Line)
+pub event_acts : (given : Given) (labels : List (List ℕ)) (standing : Standing) (ws : List (List Watching))
+    (e : Declared) (l : Line)
     → IsEventLine l
-    → LineIsChecked labels standing e (stated l) → Acts given labels standing e (stated l)
-event_acts given labels standing e l is c =
+    → LineIsChecked labels standing ws e (stated l) → Acts given labels standing ws e (stated l)
+event_acts given labels standing ws e l is c =
     let event = event_declares c.before e l is c.after in
     let was = c.stands.named in
     record {
@@ -273,7 +316,8 @@ event_acts given labels standing e l is c =
       group = event.group;
       events = event.events;
       there = sym c.stands.group ∙ event.there;
-      acts = event_says given (state_of standing e) e l is;
+      watched = c.stands.watched ∙ ap (λ (ps : List Party). length ps) (sym event.members);
+      acts = event_says given (state_of standing ws e) e l is;
     }
 
 -- There are as many labels as names.
@@ -284,13 +328,14 @@ as_many f xs keys d n =
     sym (length-map xs f) ∙ ap (λ (ls : List (List ℕ)). length ls) n.labels ∙ length-map d.members party_label
     ∙ sym (length-map d.members node_of) ∙ ap (λ (names : List (List Component)). length names) n.members
 
-module _ (given : Given) (standing found : Standing) (d : Declared) (e : EventValue) (keys : GroupKeys) (w : World)
-    (is : found ≡ standing) (k : keys ≡ standing_keys found) (v : w ≡ found_world given (state_of found d)) where
+module _ (given : Given) (standing found : Standing) (ws : List (List Watching)) (d : Declared) (e : EventValue)
+    (keys : GroupKeys) (w : World)
+    (is : found ≡ standing) (k : keys ≡ standing_keys found) (v : w ≡ found_world given (state_of found ws d)) where
   keys_is : keys ≡ standing_keys standing
   keys_is = k ∙ ap standing_keys is
 
-  world_is : w ≡ found_world given (state_of standing d)
-  world_is = v ∙ ap (λ (s : Standing). found_world given (state_of s d)) is
+  world_is : w ≡ found_world given (state_of standing ws d)
+  world_is = v ∙ ap (λ (s : Standing). found_world given (state_of s ws d)) is
 
   -- What is told of the event and what comes of it, by the world that was found.
   pub carried_says : (labels : List (List ℕ)) (report : List ℕ) (keys_new : GroupKeys) (next : World)
@@ -298,10 +343,11 @@ module _ (given : Given) (standing found : Standing) (d : Declared) (e : EventVa
       → report ≡ told_text labels (telling keys (outside_of given keys) w e)
       → next ≡ after_event (outside_of given keys) w (group_event keys e)
       → keys_new ≡ keys → labels ≡ map party_label d.members
-      → acted given (state_of standing d) d e ≡ says report
-      (record { declared = d; keys = keys_new; world = Some next })
+      → acted given (state_of standing ws d) d e ≡ says report
+      (record { declared = d; keys = keys_new; world = Some next; watchers = ws })
   carried_says labels report keys_new next taken told after kept named =
-      let taken_so : group.refusal (outside_of given (standing_keys standing)) (found_world given (state_of standing d))
+      let taken_so : group.refusal (outside_of given (standing_keys standing))
+      (found_world given (state_of standing ws d))
       (group_event (standing_keys standing) e) ≡ None =
       subst (λ (x : World). group.refusal (outside_of given (standing_keys standing)) x
       (group_event (standing_keys standing) e) ≡ None)
@@ -309,32 +355,34 @@ module _ (given : Given) (standing found : Standing) (d : Declared) (e : EventVa
       (subst (λ (x : GroupKeys). group.refusal (outside_of given x) w (group_event x e) ≡ None) keys_is taken) in
       let told_so : report ≡ told_text (map party_label d.members) (telling (standing_keys standing)
       (outside_of given (standing_keys standing))
-      (found_world given (state_of standing d)) e) =
+      (found_world given (state_of standing ws d)) e) =
       told ∙ ap (λ (x : List (List ℕ)). told_text x (telling keys (outside_of given keys) w e)) named
       ∙ ap (λ (x : GroupKeys). told_text (map party_label d.members) (telling x (outside_of given x) w e)) keys_is
       ∙ ap (λ (x : World). told_text (map party_label d.members)
       (telling (standing_keys standing) (outside_of given (standing_keys standing)) x e)) world_is in
       let after_so : next ≡ after_event (outside_of given (standing_keys standing))
-      (found_world given (state_of standing d))
+      (found_world given (state_of standing ws d))
       (group_event (standing_keys standing) e) =
       after ∙ ap (λ (x : GroupKeys). after_event (outside_of given x) w (group_event x e)) keys_is
       ∙ ap (λ (x : World). after_event (outside_of given (standing_keys standing)) x
       (group_event (standing_keys standing) e)) world_is in
-      acted_says given (state_of standing d) d e taken_so
+      acted_says given (state_of standing ws d) d e taken_so
       ∙ ap (λ (x : List ℕ). says x (record {
         declared = d;
         keys = standing_keys standing;
-        world = Some (after_event (outside_of given (standing_keys standing)) (found_world given (state_of standing d))
+        world = Some
+            (after_event (outside_of given (standing_keys standing)) (found_world given (state_of standing ws d))
             (group_event (standing_keys standing) e));
+        watchers = ws;
       })) (sym told_so)
-      ∙ ap (λ (x : World). says report (record { declared = d; keys = standing_keys standing; world = Some x }))
-      (sym after_so)
-      ∙ ap (λ (x : GroupKeys). says report (record { declared = d; keys = x; world = Some next }))
+      ∙ ap (λ (x : World). says report
+      (record { declared = d; keys = standing_keys standing; world = Some x; watchers = ws })) (sym after_so)
+      ∙ ap (λ (x : GroupKeys). says report (record { declared = d; keys = x; world = Some next; watchers = ws }))
       (sym (kept ∙ keys_is))
 
   pub carried_stops : (stop : Stop) → IsStopOf (group.refusal (outside_of given keys) w (group_event keys e)) stop
-      → IsStop (acted given (state_of standing d) d e) stop
-  carried_stops stop h = acted_stops given (state_of standing d) d e stop
+      → IsStop (acted given (state_of standing ws d) d e) stop
+  carried_stops stop h = acted_stops given (state_of standing ws d) d e stop
       (subst (λ (x : World). IsStopOf (group.refusal (outside_of given (standing_keys standing)) x
       (group_event (standing_keys standing) e)) stop)
       world_is
@@ -345,11 +393,15 @@ module _ (given : Given) (standing found : Standing) (d : Declared) (e : EventVa
 -- The line is none of the declarations.
 pub is_event : (l : Line) → ((name : Name) → l ≡ line.Group name → ⊥)
     → ((label : String Global) (name : Name) (key : Vec ℕ Global) → l ≡ line.Member label name key → ⊥)
-    → ((label : String Global) (name : Name) (key : Vec ℕ Global) → l ≡ line.Client label name key → ⊥) → IsEventLine l
-is_event (line.Group name) g m k = g name refl
-is_event (line.Member label name key) g m k = m label name key refl
-is_event (line.Client label name key) g m k = k label name key refl
-is_event l g m k = tt
+    → ((label : String Global) (name : Name) (key : Vec ℕ Global) → l ≡ line.Client label name key → ⊥)
+    → ((label : String Global) (p : Option (String Global)) (name : Name) → l ≡ line.Watch label p name → ⊥)
+    → ((label : String Global) (number : ℕ) → l ≡ line.Told label number → ⊥) → IsEventLine l
+is_event (line.Group name) g m k w t = g name refl
+is_event (line.Member label name key) g m k w t = m label name key refl
+is_event (line.Client label name key) g m k w t = k label name key refl
+is_event (line.Watch label p name) g m k w t = w label p name refl
+is_event (line.Told label number) g m k w t = t label number refl
+is_event l g m k w t = tt
 
 -- A declaration has no report.
 pub declared_says : {A : Type 0} (r : Result A Stop) (v : Verdict) (report : List ℕ) (s t : State) → v ≡ says [] t

@@ -1,7 +1,7 @@
 -- Each line is judged, and only those that the grammar refuses are told as Syntax.
-use Rattle.std.proofs.Common.{◌≡◌, ◌∙◌, ◌⊎◌, inl, inr, ℕ, List, [], ◌∷◌, Option}
-use Rattle.std.proofs.Common.{Some, None, Result, Ok, Err, refl, sym, ap, subst}
-use Rattle.std.specs.Prelude.{◌≢◌, IfErr}
+use Rattle.std.proofs.Common.{◌≡◌, ◌∙◌, ◌⊎◌, inl, inr, ℕ, Bool, true, false, nat_le, List, [], ◌∷◌, length, Option}
+use Rattle.std.proofs.Common.{Some, None, Result, Ok, Err, refl, sym, ap, subst, if◌then◌else◌}
+use Rattle.std.specs.Prelude.{◌≢◌, IfErr, is_some}
 use Rattle.ndn_name.specs.Names.{Component}
 use Rattle.group_model.specs.Refusals as group
 use Rattle.script_lang.specs.declared.check_fault.CheckFault.{CheckFault}
@@ -10,7 +10,8 @@ use Rattle.script_lang.specs.declared.line_fault.LineFault.{LineFault}
 use Rattle.script_lang.specs.declared.line_fault.LineFault.TheVariants as line_fault
 use Rattle.script_lang.specs.declared.verb.Verb.{Verb}
 use Rattle.script_lang.specs.declared.verb.Verb.TheVariants as verb
-use Rattle.script_lang.specs.Kinds.{Kind, LABEL, N, URI, HEX, CONTENT, Value, Text, Number, Named, Octets}
+use Rattle.script_lang.specs.Kinds.{Kind, LABEL, PUBLISHER, N, URI, HEX, CONTENT, Value, Text, Anyone, Number, Named}
+use Rattle.script_lang.specs.Kinds.{Octets}
 use Rattle.script_lang.specs.Forms.{Stated, form, said}
 use Rattle.script_lang.specs.Lines.{line_of}
 use Rattle.script_lang.specs.Texts.{AreOf, IsLineText}
@@ -18,11 +19,14 @@ use Rattle.script_lang.specs.Checking.{Declared, after_line}
 use Rattle.script_lang.proofs.LineTexts.{line_texts}
 use Rattle.script_lang.proofs.RefusalLemmas.{checked_for_a_cause, read_for_a_cause}
 use Rattle.script_lang.proofs.StatedForms.{read_in_its_form}
+use Rattle.repo_watch.specs.Watching.{watch_of}
 use Rattle.bench_world.specs.EventValues.{EventValue, group_event}
 use Rattle.repo_top.specs.declared.refusal.Refusal.TheVariants as refusal
 use Rattle.repo_top.specs.Judging.{EachLineIsJudged, Given, State, SyntaxIsOfTheGrammar, Verdict, acted, acted_by}
 use Rattle.repo_top.specs.Judging.{checked, check_refused, event_refused, foreign, found_world, judged, judged_line}
 use Rattle.repo_top.specs.Judging.{line_taken, outside_of, read, refused, says, stepped, taken_by, unjudged}
+use Rattle.repo_top.specs.Judging.{watchers_at}
+use Rattle.repo_top.specs.SaidEvents.{party_number}
 
 -- ---- values by their kinds
 
@@ -30,16 +34,22 @@ use Rattle.repo_top.specs.Judging.{line_taken, outside_of, read, refused, says, 
 abbrev Typed : List Kind → Type 0
 Typed [] = Unit {0}
 Typed (LABEL ∷ kinds) = List ℕ × Typed kinds
+Typed (PUBLISHER ∷ kinds) = Option (List ℕ) × Typed kinds
 Typed (N least most ∷ kinds) = ℕ × Typed kinds
-Typed (URI most ∷ kinds) = List Component × Typed kinds
+Typed (URI least most ∷ kinds) = List Component × Typed kinds
 Typed (HEX most ∷ kinds) = List ℕ × Typed kinds
 Typed (CONTENT least most ∷ kinds) = List ℕ × Typed kinds
+
+abbrev named_or_all : Option (List ℕ) → Value
+named_or_all None = Anyone
+named_or_all (Some label) = Text label
 
 abbrev untyped : (kinds : List Kind) → Typed kinds → List Value
 untyped [] t = []
 untyped (LABEL ∷ kinds) t = Text t.0 ∷ untyped kinds t.1
+untyped (PUBLISHER ∷ kinds) t = named_or_all t.0 ∷ untyped kinds t.1
 untyped (N least most ∷ kinds) t = Number t.0 ∷ untyped kinds t.1
-untyped (URI most ∷ kinds) t = Named t.0 ∷ untyped kinds t.1
+untyped (URI least most ∷ kinds) t = Named t.0 ∷ untyped kinds t.1
 untyped (HEX most ∷ kinds) t = Octets t.0 ∷ untyped kinds t.1
 untyped (CONTENT least most ∷ kinds) t = Octets t.0 ∷ untyped kinds t.1
 
@@ -57,10 +67,16 @@ typed_of (kind ∷ kinds) [] of = absurd of
 typed_of (LABEL ∷ kinds) (Text label ∷ values) of =
     let t = typed_of kinds values of.1 in
     record { typed = (label, t.typed); is = in_front (Text label) _ _ t.is }
+typed_of (PUBLISHER ∷ kinds) (Text label ∷ values) of =
+    let t = typed_of kinds values of.1 in
+    record { typed = (Some label, t.typed); is = in_front (Text label) _ _ t.is }
+typed_of (PUBLISHER ∷ kinds) (Anyone ∷ values) of =
+    let t = typed_of kinds values of.1 in
+    record { typed = (None, t.typed); is = in_front Anyone _ _ t.is }
 typed_of (N least most ∷ kinds) (Number n ∷ values) of =
     let t = typed_of kinds values of.1 in
     record { typed = (n, t.typed); is = in_front (Number n) _ _ t.is }
-typed_of (URI most ∷ kinds) (Named name ∷ values) of =
+typed_of (URI least most ∷ kinds) (Named name ∷ values) of =
     let t = typed_of kinds values of.1 in
     record { typed = (name, t.typed); is = in_front (Named name) _ _ t.is }
 typed_of (HEX most ∷ kinds) (Octets octets ∷ values) of =
@@ -94,9 +110,19 @@ unfolding acted
 acted_beyond given s d e =
     go (group.refusal (outside_of given s.keys) (found_world given s) (group_event s.keys e)) where
       go : (o : Option group.Refusal)
-          → IsBeyondGrammar (stepped (outside_of given s.keys) s.keys d (found_world given s) e o)
+          → IsBeyondGrammar (stepped (outside_of given s.keys) s d (found_world given s) e o)
       go (Some why) = event_beyond why
       go None = tt
+
+full_or_said : (b : Bool) (report : List ℕ) (next : State)
+    → IsBeyondGrammar (if b then refused refusal.Limit else says report next)
+full_or_said true report next = tt
+full_or_said false report next = tt
+
+said_or_missing : (b : Bool) (report : List ℕ) (next : State)
+    → IsBeyondGrammar (if b then says report next else refused refusal.NoSuchWatch)
+said_or_missing true report next = tt
+said_or_missing false report next = tt
 
 typed_beyond : (given : Given) (s : State) (d : Declared) (form_verb : Verb) (t : Typed (form form_verb).kinds)
     → IsBeyondGrammar (taken_by form_verb given s d (said form_verb (untyped (form form_verb).kinds t)))
@@ -104,6 +130,10 @@ unfolding acted_by
 typed_beyond given s d verb.Group t = tt
 typed_beyond given s d verb.Member t = tt
 typed_beyond given s d verb.Client t = tt
+typed_beyond given s d verb.Watch t =
+    full_or_said (nat_le 16 (length (watchers_at s (party_number t.0 d.members)))) _ _
+typed_beyond given s d verb.Told t =
+    said_or_missing (is_some (watch_of t.1.0 (watchers_at s (party_number t.0 d.members)))) _ _
 typed_beyond given s d form_verb t = acted_beyond given s d _
 
 taken_beyond : (given : Given) (s : State) (d : Declared) (form_verb : Verb) (values : List Value)

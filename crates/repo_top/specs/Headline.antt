@@ -171,13 +171,15 @@ pub record IsSettleLine (given : Given) (r : Reached) (report : List ℕ) (new :
   pub stated : Says line (said verb.Settle (Number workers ∷ []))
   pub taken : LineIsTaken given r line report new
 
--- These forms tell of the group and change nothing.
+-- These forms change nothing of the group: they tell of it, or they are of watchers.
 abbrev pub only_tells : Verb → Bool
 only_tells verb.Sync = true
 only_tells verb.Vector = true
 only_tells verb.Catalogue = true
 only_tells verb.Dump = true
 only_tells verb.Ask = true
+only_tells verb.Watch = true
+only_tells verb.Told = true
 only_tells verb.Summary = true
 only_tells verb.Traffic = true
 only_tells other = false

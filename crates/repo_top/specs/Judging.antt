@@ -1,6 +1,7 @@
 -- What a line comes to, behind those before it.
-use Rattle.std.specs.Prelude.{◌≡◌, ◌≢◌, ◌↔◌, ℕ, Bool, List, [], ◌∷◌, map, length, Option, Some, None, Result, Ok, Err}
-use Rattle.std.specs.Prelude.{unwrap_or}
+use Rattle.std.specs.Prelude.{◌≡◌, ◌≢◌, ◌↔◌, ℕ, ◌+◌, Bool, List, [], ◌∷◌, ◌++◌, map, length, slice_index_or}
+use Rattle.std.specs.Prelude.{slice_set, Option, Some, None, is_some, Result, Ok, Err, unwrap_or, nat_le}
+use Rattle.std.specs.Prelude.{if◌then◌else◌}
 use Rattle.script_lang.specs.declared.verb.Verb.{Verb}
 use Rattle.script_lang.specs.declared.verb.Verb.TheVariants as verb
 use Rattle.script_lang.specs.declared.line_fault.LineFault.{LineFault}
@@ -8,11 +9,14 @@ use Rattle.script_lang.specs.declared.line_fault.LineFault.TheVariants as line_f
 use Rattle.script_lang.specs.declared.check_fault.CheckFault.{CheckFault}
 use Rattle.script_lang.specs.declared.check_fault.CheckFault.TheVariants as check_fault
 use Rattle.ndn_name.specs.Names.{Component}
-use Rattle.script_lang.specs.Kinds.{Value, Text, Named, Octets}
+use Rattle.script_lang.specs.Kinds.{Value, Text, Number, Named, Octets}
 use Rattle.script_lang.specs.Forms.{Stated}
 use Rattle.script_lang.specs.Lines.{line_of}
 use Rattle.script_lang.specs.Checking.{Declared, nothing_declared, after_line, party_label}
-use Rattle.group_model.specs.World.{World, Outside, opening_world}
+use Rattle.script_report.specs.Texts.{watch_text}
+use Rattle.repo_watch.specs.declared.pattern.Pattern.{Pattern}
+use Rattle.repo_watch.specs.Watching.{Watching, most_watchers, after_add, after_take, watch_of}
+use Rattle.group_model.specs.World.{World, Outside, catalogue_at, opening_world}
 use Rattle.group_model.specs.Steps.{after_event}
 use Rattle.group_model.specs.Refusals as group
 use Rattle.repo_member.specs.Groups.{GroupKeys, no_nodes, with_node}
@@ -21,8 +25,9 @@ use Rattle.bench_world.specs.Serving.{outside}
 use Rattle.bench_world.specs.EventValues.{EventValue, group_event, telling}
 use Rattle.repo_top.specs.declared.refusal.Refusal.{Refusal}
 use Rattle.repo_top.specs.declared.refusal.Refusal.TheVariants as refusal
-use Rattle.repo_top.specs.SaidEvents.{said_event}
-use Rattle.repo_top.specs.ToldTexts.{told_text}
+use Rattle.repo_top.specs.Labels.{label_at}
+use Rattle.repo_top.specs.SaidEvents.{party_number, pattern_for, publisher_number, said_event}
+use Rattle.repo_top.specs.ToldTexts.{news_in, news_text, told_text}
 
 -- What no line says: the draws, and which attempts the network passes.
 pub record Given : Type 0 where
@@ -32,18 +37,19 @@ pub record Given : Type 0 where
 abbrev pub given_by : (ℕ → ℕ → ℕ) → (ℕ → ℕ → ℕ → ℕ → ℕ → ℕ → Bool) → Given
 given_by draw passes = record { draw = draw; passes = passes }
 
--- What the lines so far came to: what they declared, the names and keys of the group, and the group itself once
--- there was an event.
+-- What the lines so far came to: what they declared, the names and keys of the group, the group itself once there was
+-- an event, and the watchers of each member. No event of the group changes those.
 pub record State : Type 0 where
   pub declared : Declared
   pub keys : GroupKeys
   pub world : Option World
+  pub watchers : List (List Watching)
 
 abbrev pub no_group : GroupKeys
 no_group = record { name = []; members = no_nodes; clients = no_nodes }
 
 abbrev pub opening_state : State
-opening_state = record { declared = nothing_declared; keys = no_group; world = None }
+opening_state = record { declared = nothing_declared; keys = no_group; world = None; watchers = [] }
 
 -- What a line comes to: it is refused; it brings what no member made; or it has a report, and others may follow. What
 -- is left is that no row here is for it: there is no such line.
@@ -59,8 +65,11 @@ abbrev pub outside_of : Given → GroupKeys → Outside
 outside_of given keys = outside keys given.draw given.passes
 
 -- The world that an event finds: the members have nothing before the first.
+abbrev pub begun_world : (ℕ → ℕ → ℕ) → State → World
+begun_world draw s = unwrap_or s.world (opening_world (drawing draw) (length s.keys.members.names))
+
 abbrev pub found_world : Given → State → World
-found_world given s = unwrap_or s.world (opening_world (drawing given.draw) (length s.keys.members.names))
+found_world given s = begun_world given.draw s
 
 abbrev pub event_refused : group.Refusal → Verdict
 event_refused group.Refusal.NoSuchPacket = refused refusal.NoSuchPacket
@@ -71,15 +80,58 @@ event_refused group.Refusal.NumbersSpent = refused refusal.NumbersSpent
 event_refused group.Refusal.Foreign = foreign
 
 -- An event that is taken is a step of the group, and its report is what is told of it.
-abbrev pub stepped : Outside → GroupKeys → Declared → World → EventValue → Option group.Refusal → Verdict
-stepped out keys d w e (Some why) = event_refused why
-stepped out keys d w e None = says (told_text (map party_label d.members) (telling keys out w e))
-    (record { declared = d; keys = keys; world = Some (after_event out w (group_event keys e)) })
+abbrev pub stepped : Outside → State → Declared → World → EventValue → Option group.Refusal → Verdict
+stepped out s d w e (Some why) = event_refused why
+stepped out s d w e None = says (told_text (map party_label d.members) (telling s.keys out w e)) (record {
+  declared = d;
+  keys = s.keys;
+  world = Some (after_event out w (group_event s.keys e));
+  watchers = s.watchers;
+})
 
 -- The event is carried out where the lines declare so much.
 unfoldable pub acted : Given → State → Declared → EventValue → Verdict
-acted given s d e = stepped (outside_of given s.keys) s.keys d (found_world given s) e
+acted given s d e = stepped (outside_of given s.keys) s d (found_world given s) e
     (group.refusal (outside_of given s.keys) (found_world given s) (group_event s.keys e))
+
+-- ---- watchers
+
+-- The watchers of a member.
+abbrev pub watchers_of : List (List Watching) → ℕ → List Watching
+watchers_of all m = slice_index_or all m []
+
+abbrev pub watchers_at : State → ℕ → List Watching
+watchers_at s m = watchers_of s.watchers m
+
+-- A member has these watchers from now on. The line is an event, and so there is a world behind it.
+abbrev pub with_watchers : World → State → Declared → ℕ → List Watching → State
+with_watchers w s d m watchers =
+    record { declared = d; keys = s.keys; world = Some w; watchers = slice_set s.watchers m watchers }
+
+-- A member gets one watcher more, which counts as told what the member lists. The 17th is refused.
+abbrev pub watched : World → State → Declared → ℕ → Pattern → Verdict
+watched w s d m pattern =
+    if nat_le most_watchers (length (watchers_at s m)) then refused refusal.Limit
+    else says (watch_text (label_at (map party_label d.members) m) (length (watchers_at s m) + 1))
+    (with_watchers w s d m (after_add pattern (catalogue_at w m) (watchers_at s m)))
+
+-- The watcher of a number is told what the member lists that it asks for and was not told. There has to be one.
+abbrev pub told_at : World → State → Declared → ℕ → ℕ → Verdict
+told_at w s d m number =
+    if is_some (watch_of number (watchers_at s m))
+    then says (news_text (map party_label d.members) m number
+    (news_in (watch_of number (watchers_at s m)) (catalogue_at w m)))
+    (with_watchers w s d m (after_take number (catalogue_at w m) (watchers_at s m)))
+    else refused refusal.NoSuchWatch
+
+abbrev pub watched_by : World → State → Declared → List Value → Verdict
+watched_by w s d (Text m ∷ publisher ∷ Named prefix ∷ []) =
+    watched w s d (party_number m d.members) (pattern_for (publisher_number d publisher) prefix)
+watched_by w s d _ = unjudged
+
+abbrev pub told_by : World → State → Declared → List Value → Verdict
+told_by w s d (Text m ∷ Number number ∷ []) = told_at w s d (party_number m d.members) number
+told_by w s d _ = unjudged
 
 -- ---- lines
 
@@ -95,17 +147,22 @@ abbrev pub with_client_too : List Component → List ℕ → GroupKeys → Group
 with_client_too node key keys = record keys { clients = with_node node key keys.clients }
 
 abbrev pub with_group : State → Declared → List Value → Verdict
-with_group s d (Named name ∷ []) = says [] (record { declared = d; keys = group_named name; world = s.world })
+with_group s d (Named name ∷ []) =
+    says [] (record { declared = d; keys = group_named name; world = s.world; watchers = s.watchers })
 with_group s d _ = unjudged
 
 abbrev pub declaring_member : State → Declared → List Value → Verdict
-declaring_member s d (Text label ∷ Named node ∷ Octets key ∷ []) =
-    says [] (record { declared = d; keys = with_member_too node key s.keys; world = s.world })
+declaring_member s d (Text label ∷ Named node ∷ Octets key ∷ []) = says [] (record {
+  declared = d;
+  keys = with_member_too node key s.keys;
+  world = s.world;
+  watchers = s.watchers ++ [] ∷ [];
+})
 declaring_member s d _ = unjudged
 
 abbrev pub with_client : State → Declared → List Value → Verdict
 with_client s d (Text label ∷ Named node ∷ Octets key ∷ []) =
-    says [] (record { declared = d; keys = with_client_too node key s.keys; world = s.world })
+    says [] (record { declared = d; keys = with_client_too node key s.keys; world = s.world; watchers = s.watchers })
 with_client s d _ = unjudged
 
 abbrev pub acted_if : Given → State → Declared → Option EventValue → Verdict
@@ -120,6 +177,8 @@ abbrev pub taken_by : Verb → Given → State → Declared → Stated → Verdi
 taken_by verb.Group given s d line = with_group s d line.values
 taken_by verb.Member given s d line = declaring_member s d line.values
 taken_by verb.Client given s d line = with_client s d line.values
+taken_by verb.Watch given s d line = watched_by (found_world given s) s d line.values
+taken_by verb.Told given s d line = told_by (found_world given s) s d line.values
 taken_by _ given s d line = acted_by given s d line
 
 unfoldable pub line_taken : Given → State → Declared → Stated → Verdict

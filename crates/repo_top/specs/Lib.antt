@@ -25,3 +25,4 @@ pub mod ListedDigests
 pub mod HeldPackets
 pub mod ShownCatalogues
 pub mod Workers
+pub mod Watchers

@@ -12,9 +12,11 @@ use Rattle.repo_member.specs.Groups.{GroupKeys}
 use Rattle.bench_world.specs.Worlds.{world_of}
 use Rattle.bench_world.specs.EventValues.{EventValue}
 use Rattle.bench_world.specs.Steps.{IsReady, NamesClient}
+use Rattle.repo_watch.specs.Watching.{Watching}
 use Rattle.repo_top.specs.declared.progress.Progress.{Progress}
 use Rattle.repo_top.specs.declared.progress.Standing.{Standing}
 use Rattle.repo_top.specs.declared.progress.Standing.TheVariants.{Opening, Declaring, Acting}
+use Rattle.repo_top.specs.declared.refusal.Refusal.{Refusal}
 use Rattle.repo_top.specs.declared.stop.Stop.{Stop}
 use Rattle.repo_top.specs.declared.stop.Stop.TheVariants as stop
 use Rattle.repo_top.specs.SaidEvents.{said_event}
@@ -35,11 +37,12 @@ steps_in Opening = zero
 steps_in (Declaring group) = zero
 steps_in (Acting world) = world.steps
 
-abbrev pub state_of : Standing → Declared → State
-state_of standing d = record { declared = d; keys = standing_keys standing; world = world_in standing }
+abbrev pub state_of : Standing → List (List Watching) → Declared → State
+state_of standing watchers d =
+    record { declared = d; keys = standing_keys standing; world = world_in standing; watchers = watchers }
 
 abbrev pub progress_state : Progress → State
-progress_state p = state_of p.standing p.words
+progress_state p = state_of p.standing p.watchers.items p.words
 
 abbrev pub has_group : Standing → Bool
 has_group Opening = false
@@ -64,14 +67,17 @@ pub record NamesAreDeclared (kept : List (List ℕ)) (keys : GroupKeys) (d : Dec
   pub members : map node_of d.members ≡ keys.members.names
   pub clients : map node_of d.clients ≡ keys.clients.names
 
--- What is kept is what lines declare: the group stands from its line on, the world from the first event on.
-pub record Stands (labels : List (List ℕ)) (standing : Standing) (d : Declared) : Type 0 where
+-- What is kept is what lines declare: the group stands from its line on, the world from the first event on. Each member
+-- has its watchers, be they none.
+pub record Stands (labels : List (List ℕ)) (standing : Standing) (watchers : List (List Watching))
+    (d : Declared) : Type 0 where
   pub named : NamesAreDeclared labels (standing_keys standing) d
   pub group : d.group ≡ has_group standing
   pub events : d.events ≡ has_world standing
+  pub watched : length watchers ≡ length d.members
 
 abbrev pub IsProgress : Progress → Type 0
-IsProgress p = Stands (map string_bytes p.labels.items) p.standing p.words
+IsProgress p = Stands (map string_bytes p.labels.items) p.standing p.watchers.items p.words
 
 -- ---- lines
 
@@ -81,17 +87,20 @@ pub record IsLine (line : Stated) : Type 0 where
   pub read : line_of octets ≡ Ok (Some line)
 
 -- The line is taken behind those whose labels and standing are kept, and so much is declared behind it.
-pub record LineIsChecked (labels : List (List ℕ)) (standing : Standing) (d : Declared) (s : Stated) : Type 0 where
+pub record LineIsChecked (labels : List (List ℕ)) (standing : Standing) (watchers : List (List Watching))
+    (d : Declared) (s : Stated) : Type 0 where
   pub line : IsLine s
   pub before : Declared
-  pub stands : Stands labels standing before
+  pub stands : Stands labels standing watchers before
   pub after : after_line before s ≡ Ok d
 
--- The line is no declaration.
+-- The line states an event of the group: it is no declaration, and not of watchers.
 abbrev pub IsEventLine : Line → Type 0
 IsEventLine (line.Group name) = ⊥
 IsEventLine (line.Member label name key) = ⊥
 IsEventLine (line.Client label name key) = ⊥
+IsEventLine (line.Watch m p name) = ⊥
+IsEventLine (line.Told m w) = ⊥
 IsEventLine _ = Unit {0}
 
 -- An event that a line states can be carried out where so much is declared.
@@ -105,6 +114,12 @@ abbrev pub IsStop : Verdict → Stop → Type 0
 IsStop verdict stop.NoMemory = Unit {0}
 IsStop verdict (stop.Refused refusal) = verdict ≡ refused refusal
 IsStop verdict stop.Foreign = verdict ≡ foreign
+
+-- Memory was wanting, or it is this refusal that comes.
+abbrev pub IsStopWhere : Bool → Refusal → Stop → Type 0
+IsStopWhere comes why stop.NoMemory = Unit {0}
+IsStopWhere comes why (stop.Refused refusal) = (comes ≡ true) × (refusal ≡ why)
+IsStopWhere comes why stop.Foreign = ⊥
 
 -- Memory was wanting, or the event is refused so.
 abbrev pub IsStopOf : Option group.Refusal → Stop → Type 0

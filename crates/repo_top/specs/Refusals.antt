@@ -4,7 +4,7 @@ use Rattle.script_report.specs.Texts.{refused_text}
 use Rattle.repo_top.specs.declared.refusal.Refusal.{Refusal}
 use Rattle.repo_top.specs.declared.refusal.Refusal.TheVariants.{Syntax, UnknownLabel, Duplicate, Limit, NoSuchPacket}
 use Rattle.repo_top.specs.declared.refusal.Refusal.TheVariants.{FetcherBusy, FetcherIdle, NumbersSpent, NoGroup}
-use Rattle.repo_top.specs.declared.refusal.Refusal.TheVariants.{TooLarge, Late, BadPacket, NoSuchNumber}
+use Rattle.repo_top.specs.declared.refusal.Refusal.TheVariants.{TooLarge, Late, BadPacket, NoSuchNumber, NoSuchWatch}
 
 abbrev pub refusal_number : Refusal → ℕ
 refusal_number Syntax = 1
@@ -20,6 +20,7 @@ refusal_number TooLarge = 10
 refusal_number Late = 11
 refusal_number BadPacket = 12
 refusal_number NoSuchNumber = 14
+refusal_number NoSuchWatch = 15
 
 abbrev pub refusal_word : Refusal → List ℕ
 refusal_word Syntax = codes "Syntax"
@@ -35,6 +36,7 @@ refusal_word TooLarge = codes "TooLarge"
 refusal_word Late = codes "Late"
 refusal_word BadPacket = codes "BadPacket"
 refusal_word NoSuchNumber = codes "NoSuchNumber"
+refusal_word NoSuchWatch = codes "NoSuchWatch"
 
 -- The line of a report that says that a script's line is refused.
 abbrev pub refusal_text : ℕ → Refusal → List ℕ

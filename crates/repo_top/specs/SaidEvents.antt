@@ -7,6 +7,8 @@ use Rattle.script_lang.specs.declared.verb.Verb.TheVariants as verb
 use Rattle.script_lang.specs.Kinds.{Value, Text, Number, Named, Octets}
 use Rattle.script_lang.specs.Forms.{Stated}
 use Rattle.script_lang.specs.Checking.{Party, Declared}
+use Rattle.ndn_name.specs.Names.{Component}
+use Rattle.repo_watch.specs.declared.pattern.Pattern.{Pattern}
 use Rattle.bench_world.specs.EventValues.{EventValue}
 
 -- The number of the first member or client with this label. Where nobody has it this is nobody's number, which is how
@@ -14,7 +16,16 @@ use Rattle.bench_world.specs.EventValues.{EventValue}
 abbrev pub party_number : List ℕ → List Party → ℕ
 party_number label parties = position_or_len (λ (p : Party). bytes_eq p.label label) parties
 
--- A declaration states no event.
+-- The number of the publisher that a value names, where it names one.
+abbrev pub publisher_number : Declared → Value → Option ℕ
+publisher_number d (Text label) = Some (party_number label d.members)
+publisher_number d other = None
+
+-- What a watcher asks for.
+abbrev pub pattern_for : Option ℕ → List Component → Pattern
+pattern_for publisher prefix = record { publisher = publisher; prefix = prefix }
+
+-- A declaration states no event, and neither does a line of watchers.
 abbrev pub said_by : Verb → Declared → List Value → Option EventValue
 said_by verb.Publish d (Text m ∷ Named name ∷ Number size ∷ Octets content ∷ []) =
     Some (EventValue.Publish (party_number m d.members) name size content)

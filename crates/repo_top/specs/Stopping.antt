@@ -5,6 +5,10 @@ use Rattle.script_lang.specs.declared.line_fault.LineFault.{LineFault}
 use Rattle.script_lang.specs.declared.line_fault.LineFault.TheVariants as line_fault
 use Rattle.script_lang.specs.declared.check_fault.CheckFault.{CheckFault}
 use Rattle.script_lang.specs.declared.check_fault.CheckFault.TheVariants as check_fault
+use Rattle.repo_watch.specs.declared.watchers.TakeFault.{TakeFault}
+use Rattle.repo_watch.specs.declared.watchers.TakeFault.TheVariants as take_fault
+use Rattle.repo_watch.specs.declared.watchers.WatchFault.{WatchFault}
+use Rattle.repo_watch.specs.declared.watchers.WatchFault.TheVariants as watch_fault
 use Rattle.bench_world.specs.declared.event.StepFault.{StepFault}
 use Rattle.bench_world.specs.declared.event.StepFault.TheVariants as step_fault
 use Rattle.repo_top.specs.declared.refusal.Refusal.{Refusal}
@@ -25,6 +29,14 @@ check_stop check_fault.Duplicate = Refused refusal.Duplicate
 check_stop check_fault.Limit = Refused refusal.Limit
 check_stop check_fault.TooLarge = Refused refusal.TooLarge
 check_stop check_fault.NoMemory = NoMemory
+
+abbrev pub watch_stop : WatchFault → Stop
+watch_stop watch_fault.Full = Refused refusal.Limit
+watch_stop watch_fault.NoMemory = NoMemory
+
+abbrev pub take_stop : TakeFault → Stop
+take_stop take_fault.NoSuchWatch = Refused refusal.NoSuchWatch
+take_stop take_fault.NoMemory = NoMemory
 
 -- The refusal of an event that has this number. There are five.
 abbrev pub step_refusal : ℕ → Option Refusal

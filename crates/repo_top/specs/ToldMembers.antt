@@ -1,18 +1,27 @@
 -- Which members reports tell of.
-use Rattle.std.specs.Prelude.{ℕ, ◌≡◌, List, [], length, map}
+use Rattle.std.specs.Prelude.{ℕ, ◌≡◌, ◌<◌, List, [], length, map}
+use Rattle.std.specs.List.{All}
 use Rattle.script_lang.specs.Checking.{party_label}
+use Rattle.script_report.specs.Texts.{watch_text}
+use Rattle.repo_catalog.specs.declared.entry.Entry.{Entry}
 use Rattle.bench_world.specs.EventValues.{Told}
 use Rattle.bench_world.specs.Steps.{NamesAll}
-use Rattle.repo_top.specs.ToldTexts.{told_text}
+use Rattle.repo_top.specs.Labels.{label_at}
+use Rattle.repo_top.specs.ToldTexts.{news_text, told_text}
 use Rattle.repo_top.specs.Judging.{Given}
 use Rattle.repo_top.specs.Story.{Reached}
 use Rattle.repo_top.specs.Headline.{AreTakenFirst, LineIsTaken}
 
--- A report is empty, or it tells of members alone that have one of these labels.
+-- A report is empty, or it tells of members alone that have one of these labels: of an event, of a new watcher of a
+-- member, or of what a member's watcher is told.
 pub data TellsOfMembers (labels : List (List ℕ)) (report : List ℕ) : Type 0 where
   silent : report ≡ [] → TellsOfMembers labels report
   tells : (told : Told) → report ≡ told_text labels told → NamesAll (length labels) told
       → TellsOfMembers labels report
+  watches : (m number : ℕ) → report ≡ watch_text (label_at labels m) number → m < length labels
+      → TellsOfMembers labels report
+  tells_news : (m number : ℕ) (entries : List Entry) → report ≡ news_text labels m number entries → m < length labels
+      → All (λ e. e.publisher < length labels) entries → TellsOfMembers labels report
 
 -- So does the report of each line that is taken, by the labels that lines declared.
 abbrev pub ReportsTellOfMembers : Type 0

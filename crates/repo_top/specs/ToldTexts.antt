@@ -1,5 +1,6 @@
 -- The line of a report for what is told of an event, under the labels of the members.
-use Rattle.std.specs.Prelude.{ℕ, List, [], map, codes}
+use Rattle.std.specs.Prelude.{ℕ, List, [], map, length, codes, Option, Some, None}
+use Rattle.std.specs.List.{filter}
 use Rattle.repo_catalog.specs.declared.entry.Entry.{Entry}
 use Rattle.script_report.specs.Texts.{publish_text, deliver_steady_text, deliver_suppressed_text, sync_text}
 use Rattle.script_report.specs.Texts.{advance_text, fire_early_text, fire_quiet_text, fire_sent_text, restart_text}
@@ -9,6 +10,8 @@ use Rattle.script_report.specs.Texts.{hear_steady_text, hear_suppressed_text, he
 use Rattle.script_report.specs.Texts.{ask_none_text, ask_refused_text, command_text, block_300_text, block_404_text}
 use Rattle.script_report.specs.Texts.{block_200_text, block_published_text, vector_text, catalogue_text, summary_text}
 use Rattle.script_report.specs.Texts.{traffic_text, withdraw_text}
+use Rattle.script_report.specs.Texts as report
+use Rattle.repo_watch.specs.Watching.{Watching, is_news}
 use Rattle.bench_world.specs.EventValues.{Told}
 use Rattle.repo_top.specs.Labels.{label_at}
 use Rattle.repo_top.specs.RefusalTexts.{hear_refusal_text, part_refusal_text, packet_fault_text}
@@ -71,3 +74,16 @@ told_text labels (Told.Summary members entries segments octets) =
     summary_text (map (label_at labels) members) entries segments octets
 told_text labels (Told.Traffic syncs delivered attempts parts octets) =
     traffic_text syncs delivered attempts parts octets
+
+-- The entries that are news to the watcher that a number may have.
+abbrev pub news_in : Option Watching → List Entry → List Entry
+news_in None entries = []
+news_in (Some watching) entries = filter (is_news watching) entries
+
+-- What the watcher of this number is told, under a member's label or by the member's number.
+abbrev pub labelled_news : List (List ℕ) → List ℕ → ℕ → List Entry → List ℕ
+labelled_news labels label number entries =
+    report.told_text label number (length entries) (map (publisher_label labels) entries) entries
+
+abbrev pub news_text : List (List ℕ) → ℕ → ℕ → List Entry → List ℕ
+news_text labels m number entries = labelled_news labels (label_at labels m) number entries

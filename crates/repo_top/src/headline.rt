@@ -10,6 +10,7 @@ ghost use Rattle.repo_top.specs.Listings.{ListedStay, SettledListWhatIsHeld, Set
 ghost use Rattle.repo_top.specs.ShownCatalogues.{CatalogueLinesShow, SettleLinesShow};
 ghost use Rattle.repo_top.specs.Story.{nothing_reached, story_of};
 ghost use Rattle.repo_top.specs.ToldMembers.{ReportsTellOfMembers};
+ghost use Rattle.repo_top.specs.Watchers.{SettledAreTold, WatchersAreToldAll, WatchersAreToldOnce};
 ghost use Rattle.repo_top.specs.Workers.{WorkersMakeNoDifference};
 
 /// The story of an input is told by its lines: the first of them are taken one after the other, their reports are its
@@ -23,8 +24,8 @@ pub fn stories_are_their_lines()
 {}
 
 /// Behind any lines that are taken the group is sound, its members are those that the lines declared, no two under one
-/// label, and what they published is within the limits of publications. Lines that only tell of the group leave it as
-/// it is.
+/// label, and what they published is within the limits of publications. Lines that only tell of the group, and those of
+/// watchers, leave it as it is.
 pub fn lines_reach_sound_groups()
     ensures sound { ReachSoundGroups }
     ensures unchanged { TellingChangesNothing }
@@ -95,6 +96,20 @@ pub fn entries_tell_what_dumps_show()
 pub fn catalogue_lines_show_what_is_held()
     ensures held { CatalogueLinesShow }
     ensures settled { SettleLinesShow }
+{}
+
+/// In every story no two `told` lines of a watcher tell of one publication, whatever lines stand between them: also
+/// restarts, deletions and withdrawals.
+pub fn watchers_are_told_once()
+    ensures { WatchersAreToldOnce }
+{}
+
+/// In every story a `told` line leaves nothing untold of what the member lists and the watcher asks for, and it stays
+/// told. Right after a `settle` line, where no line was taken that can delete, that is everything that the watcher asks
+/// for in the join of all publications, less what was withdrawn.
+pub fn watchers_are_told_all()
+    ensures all { WatchersAreToldAll }
+    ensures settled { SettledAreTold }
 {}
 
 /// Two inputs that are read as the same lines, but for how many workers their `fetch` and `settle` lines ask for, have

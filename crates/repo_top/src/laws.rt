@@ -41,6 +41,9 @@ pub fn small_stories()
         ++ codes "catalogue alice\nwithdraw alice 1\n")
         (codes "publish alice 1 segments 0 sync 1\nwithdraw alice 2 of 1 sync 2\ncatalogue alice 0\n"
         ++ codes "refused 6 14 NoSuchNumber\n") (Refused 6 14) }
+    ensures watched { (given : Given)
+        → Reports given (codes "group /g\nmember alice /alice 6b31\nwatch alice * /\ntold alice 1\ntold alice 2\n")
+        (codes "watch alice 1\ntold alice 1 0\nrefused 5 15 NoSuchWatch\n") (Refused 5 15) }
 {}
 
 /// One publication that reaches two catalogues, worked out.

@@ -4,6 +4,7 @@
 //! What is promised of it: `docs/promises/repo_top.md`.
 #![tactic(auto)]
 
+mod accepting;
 mod asked;
 mod ending;
 mod failed;
@@ -38,7 +39,8 @@ pub use headline::{
     held_parts_passed_their_checks, lines_reach_sound_groups, listed_objects_stay_listed,
     printed_catalogues_list_what_is_held, printed_labels_are_declared,
     settled_catalogues_list_what_was_held, stories_are_their_lines,
-    told_members_join_without_a_settle, workers_make_no_difference,
+    told_members_join_without_a_settle, watchers_are_told_all, watchers_are_told_once,
+    workers_make_no_difference,
 };
 pub use laws::{
     first_story, lines_are_the_input, small_inspections, small_scripts, small_stories,

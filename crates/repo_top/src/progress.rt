@@ -18,6 +18,8 @@ ghost use Rattle.repo_top.specs.Progressing.{IsStopOf};
 ghost use Rattle.repo_top.specs.Progressing.{StatesFit, has_group, has_world, standing_keys, progress_state, steps};
 ghost use Rattle.repo_top.specs.Progressing.{steps_in, world_in};
 
+mod watching;
+
 use crate::said::said;
 use crate::stop::{Stop, step_stop};
 use crate::telling::put_happened;
@@ -25,6 +27,7 @@ use bench_net::{Draws, Net};
 use bench_world::{Event, World};
 use ndn_name::Name;
 use repo_member::{Group, GroupFault};
+use repo_watch::Watchers;
 use script_lang::{Line, Words, read_line};
 use std::alloc::Global;
 use std::mem;
@@ -43,8 +46,9 @@ pub(crate) enum Standing {
 pub(crate) struct Progress {
     alloc: Global,
     words: Words,
-    // The labels of the members.
+    // The labels of the members, and the watchers of each.
     labels: Vec<String>,
+    watchers: Vec<Watchers>,
     standing: Standing,
 }
 
@@ -59,6 +63,7 @@ impl Progress {
             alloc,
             words: Words::new(alloc),
             labels: Vec::new(alloc),
+            watchers: Vec::new(alloc),
             standing: Standing::Opening,
         }
     }
@@ -123,8 +128,8 @@ impl Progress {
         net: &N,
         draws: &D,
     ) -> Result<(), Stop>
-        requires checked { LineIsChecked (map string_bytes self.old.labels.items) self.old.standing self.old.words
-            (stated line) }
+        requires checked { LineIsChecked (map string_bytes self.old.labels.items) self.old.standing
+            self.old.watchers.items self.old.words (stated line) }
         requires few { steps self.old < 100000 }
         requires empty { report.old.items ≡ [] }
         ensures taken { OnOk result
@@ -144,6 +149,8 @@ impl Progress {
                 name,
                 key,
             } => self.declare_client(&name, &key),
+            Line::Watch { m, p, name } => self.watch(m, p, name, report, draws),
+            Line::Told { m, w } => self.tell(m, w, report, draws),
             line => self.act(rt, line, report, net, draws),
         }
     }
@@ -154,8 +161,13 @@ impl Progress {
         requires early { self.old.words.events ≡ false }
         requires named { NamesAreDeclared (map string_bytes self.old.labels.items)
             (group_named name.now) self.old.words }
-        ensures state { OnOk result (progress_state self.new
-            ≡ record { declared = self.old.words; keys = group_named name.now; world = None }) }
+        requires watched { length self.old.watchers.items ≡ length self.old.words.members }
+        ensures state { OnOk result (progress_state self.new ≡ record {
+          declared = self.old.words;
+          keys = group_named name.now;
+          world = None;
+          watchers = self.old.watchers.items;
+        }) }
         ensures is { OnOk result (IsProgress self.new) }
         ensures steps { OnOk result (steps self.new ≡ 0) }
         ensures err { IfErr result (λ stop. stop ≡ Stop.NoMemory) }
@@ -175,10 +187,12 @@ impl Progress {
         requires few { length (standing_keys self.old.standing).members.names < node_limit }
         requires named { NamesAreDeclared (map string_bytes self.old.labels.items ++ string_bytes label ∷ [])
             (with_member_too node.now key.now (standing_keys self.old.standing)) self.old.words }
+        requires watched { length self.old.watchers.items + 1 ≡ length self.old.words.members }
         ensures state { OnOk result (progress_state self.new ≡ record {
           declared = self.old.words;
           keys = with_member_too node.now key.now (standing_keys self.old.standing);
           world = None;
+          watchers = self.old.watchers.items ++ [] ∷ [];
         }) }
         ensures is { OnOk result (IsProgress self.new) }
         ensures steps { OnOk result (steps self.new ≡ 0) }
@@ -186,6 +200,7 @@ impl Progress {
     {
         self.standing.add_member(node, key)?;
         self.labels.push(label)?;
+        self.watchers.push(Watchers::new(self.alloc))?;
         Ok(())
     }
 
@@ -200,10 +215,12 @@ impl Progress {
         requires few { length (standing_keys self.old.standing).clients.names < node_limit }
         requires named { NamesAreDeclared (map string_bytes self.old.labels.items)
             (with_client_too node.now key.now (standing_keys self.old.standing)) self.old.words }
+        requires watched { length self.old.watchers.items ≡ length self.old.words.members }
         ensures state { OnOk result (progress_state self.new ≡ record {
           declared = self.old.words;
           keys = with_client_too node.now key.now (standing_keys self.old.standing);
           world = None;
+          watchers = self.old.watchers.items;
         }) }
         ensures is { OnOk result (IsProgress self.new) }
         ensures steps { OnOk result (steps self.new ≡ 0) }
@@ -225,6 +242,7 @@ impl Progress {
         requires fit { StatesFit self.old.words (stated line) }
         requires named { NamesAreDeclared (map string_bytes self.old.labels.items)
             (standing_keys self.old.standing) self.old.words }
+        requires watched { length self.old.watchers.items ≡ length self.old.words.members }
         requires group { self.old.words.group ≡ true }
         requires events { self.old.words.events ≡ true }
         requires there { has_group self.old.standing ≡ true }
@@ -257,6 +275,7 @@ impl Progress {
         requires clients { NamesClient (length self.old.words.clients) (event_value event.now) }
         requires named { NamesAreDeclared (map string_bytes self.old.labels.items)
             (standing_keys self.old.standing) self.old.words }
+        requires watched { length self.old.watchers.items ≡ length self.old.words.members }
         requires group { self.old.words.group ≡ true }
         requires events { self.old.words.events ≡ true }
         requires there { has_group self.old.standing ≡ true }

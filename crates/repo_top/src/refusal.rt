@@ -30,6 +30,8 @@ pub(crate) enum Refusal {
     BadPacket,
     // The member has no object of this number, or has withdrawn it.
     NoSuchNumber,
+    // The member has no watcher of this number.
+    NoSuchWatch,
 }
 
 impl Refusal {
@@ -50,6 +52,7 @@ impl Refusal {
             Refusal::Late => 11,
             Refusal::BadPacket => 12,
             Refusal::NoSuchNumber => 14,
+            Refusal::NoSuchWatch => 15,
         }
     }
 
@@ -70,6 +73,7 @@ impl Refusal {
             Refusal::Late => "Late",
             Refusal::BadPacket => "BadPacket",
             Refusal::NoSuchNumber => "NoSuchNumber",
+            Refusal::NoSuchWatch => "NoSuchWatch",
         }
     }
 }

@@ -1,20 +1,26 @@
-ghost use Rattle.std.specs.Prelude.{◌≡◌, true};
+ghost use Rattle.std.specs.Prelude.{◌≡◌, ◌∷◌, [], true};
 ghost use Rattle.std.specs.Option.{option_map};
-ghost use Rattle.script_lang.specs.Forms.{stated};
-ghost use Rattle.script_lang.specs.Checking.{are_known, has_label};
+ghost use Rattle.script_lang.specs.Forms.{publisher_value, stated};
+ghost use Rattle.script_lang.specs.Checking.{are_known, are_members, has_label, labels_in};
 ghost use Rattle.bench_world.specs.EventValues.{event_value};
-ghost use Rattle.repo_top.specs.SaidEvents.{party_number, said_event};
+ghost use Rattle.repo_top.specs.SaidEvents.{party_number, pattern_for, publisher_number, said_event};
 
 use bench_world::Event;
+use ndn_name::Name;
+use repo_watch::Pattern;
 use script_lang::{Line, Words};
 
-// The event that a line states, whose labels the words have declared; none of a declaration.
+// The event that a line states, whose labels the words have declared; none of a declaration or a line of watchers.
 pub(crate) fn said(words: &Words, line: Line) -> Option<Event>
     requires { are_known words.now (stated line) ≡ true }
     ensures { option_map event_value result ≡ said_event words.now (stated line) }
 {
     let event = match line {
-        Line::Group { .. } | Line::Member { .. } | Line::Client { .. } => return None,
+        Line::Group { .. }
+        | Line::Member { .. }
+        | Line::Client { .. }
+        | Line::Watch { .. }
+        | Line::Told { .. } => return None,
         Line::Publish {
             m,
             name,
@@ -144,8 +150,20 @@ pub(crate) fn said(words: &Words, line: Line) -> Option<Event>
     Some(event)
 }
 
+// What a watcher asks for: the publisher of a label, or every one, and the prefix of names.
+pub(crate) fn pattern(words: &Words, p: &Option<String>, prefix: Name) -> Pattern
+    requires { are_members words.now (labels_in (publisher_value p.now ∷ [])) ≡ true }
+    ensures { result ≡ pattern_for (publisher_number words.now (publisher_value p.now)) prefix }
+{
+    let publisher = match p {
+        Some(label) => Some(member(words, label)),
+        None => None,
+    };
+    Pattern { publisher, prefix }
+}
+
 // The number of the member with this label.
-fn member(words: &Words, label: &str) -> u32
+pub(crate) fn member(words: &Words, label: &str) -> u32
     requires { has_label label.now words.now.members ≡ true }
     ensures { result ≡ party_number label.now words.now.members }
 {

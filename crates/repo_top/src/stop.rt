@@ -3,6 +3,7 @@ ghost use Rattle.repo_top.specs.Stopping.{step_stop};
 
 use crate::refusal::Refusal;
 use bench_world::StepFault;
+use repo_watch::{TakeFault, WatchFault};
 use script_lang::{CheckFault, LineFault};
 use std::alloc::{AllocError, AllocFailed};
 
@@ -67,6 +68,34 @@ impl From<CheckFault> for Stop {
             CheckFault::Limit => Stop::Refused(Refusal::Limit),
             CheckFault::TooLarge => Stop::Refused(Refusal::TooLarge),
             CheckFault::NoMemory => Stop::NoMemory,
+        }
+    }
+}
+
+impl From<WatchFault> for Stop {
+    ghost use Rattle.std.specs.Prelude.{◌≡◌};
+    ghost use Rattle.repo_top.specs.Stopping.{watch_stop};
+
+    ghost from_gives = { λ fault stop. stop ≡ watch_stop fault };
+
+    fn from(fault: WatchFault) -> Stop {
+        match fault {
+            WatchFault::Full => Stop::Refused(Refusal::Limit),
+            WatchFault::NoMemory => Stop::NoMemory,
+        }
+    }
+}
+
+impl From<TakeFault> for Stop {
+    ghost use Rattle.std.specs.Prelude.{◌≡◌};
+    ghost use Rattle.repo_top.specs.Stopping.{take_stop};
+
+    ghost from_gives = { λ fault stop. stop ≡ take_stop fault };
+
+    fn from(fault: TakeFault) -> Stop {
+        match fault {
+            TakeFault::NoSuchWatch => Stop::Refused(Refusal::NoSuchWatch),
+            TakeFault::NoMemory => Stop::NoMemory,
         }
     }
 }

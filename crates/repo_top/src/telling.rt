@@ -4,7 +4,7 @@ ghost use Rattle.script_report.specs.Pieces.{Appends};
 ghost use Rattle.bench_world.specs.EventValues.{told_value};
 ghost use Rattle.bench_world.specs.Steps.{NamesAll};
 ghost use Rattle.repo_top.specs.Labels.{label_at};
-ghost use Rattle.repo_top.specs.ToldTexts.{publisher_label, told_text};
+ghost use Rattle.repo_top.specs.ToldTexts.{news_text, publisher_label, told_text};
 
 mod refusal_text;
 
@@ -18,7 +18,7 @@ use script_report::{
     put_dump_hex, put_dump_none, put_feed_kept, put_feed_refused, put_fetch, put_fire_early,
     put_fire_quiet, put_fire_sent, put_hear_refused, put_hear_steady, put_hear_suppressed,
     put_insert, put_lose, put_order, put_publish, put_restart, put_settle, put_status, put_summary,
-    put_sync, put_traffic, put_vector, put_withdraw,
+    put_sync, put_told, put_traffic, put_vector, put_withdraw,
 };
 use std::alloc::{AllocError, Global};
 
@@ -196,6 +196,30 @@ pub(crate) fn put_happened(
             octets,
         } => put_traffic(report, *syncs, *delivered, *attempts, *parts, *octets),
     }
+}
+
+// Writes what the watcher of this number of a member is told.
+pub(crate) fn put_news(
+    report: &mut Vec<u8>,
+    labels: &[String],
+    m: u32,
+    number: u32,
+    entries: &[Entry],
+) -> Result<(), AllocError>
+    requires there { m < length labels.now }
+    requires publishers { All (λ entry. entry.publisher < length labels.now) entries.now }
+    ensures { Appends (news_text (map string_bytes labels.now) m number entries.now)
+        report.old.items report.new.items result }
+{
+    let publishers = publishers(*report.allocator(), labels, entries)?;
+    put_told(
+        report,
+        label(labels, m),
+        u64::from(number),
+        entries.len() as u64,
+        &publishers,
+        entries,
+    )
 }
 
 // The label of a member.

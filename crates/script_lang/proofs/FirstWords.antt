@@ -7,7 +7,8 @@ use Rattle.script_lang.specs.declared.verb.Verb.{Verb}
 use Rattle.script_lang.specs.declared.verb.Verb.TheVariants.{Group, Member, Client, Publish, Withdraw, Deliver, Sync}
 use Rattle.script_lang.specs.declared.verb.Verb.TheVariants.{Advance, Fire, Restart, Vector, Catalogue, Claim, Lose}
 use Rattle.script_lang.specs.declared.verb.Verb.TheVariants.{Answer, Fetch, Settle, Dump, Hear, Order, Ask, Feed}
-use Rattle.script_lang.specs.declared.verb.Verb.TheVariants.{Insert, Block, Status, Delete, Summary, Traffic}
+use Rattle.script_lang.specs.declared.verb.Verb.TheVariants.{Insert, Block, Status, Delete, Watch, Told, Summary}
+use Rattle.script_lang.specs.declared.verb.Verb.TheVariants.{Traffic}
 use Rattle.script_lang.specs.Forms.{form}
 use Rattle.script_lang.specs.Lines.{verb_named, verb_of_word, verbs, says_nothing}
 use Rattle.script_lang.specs.Texts.{IsWord}
@@ -40,6 +41,8 @@ verb_back Insert = refl
 verb_back Block = refl
 verb_back Status = refl
 verb_back Delete = refl
+verb_back Watch = refl
+verb_back Told = refl
 verb_back Summary = refl
 verb_back Traffic = refl
 
@@ -70,6 +73,8 @@ verb_is_word Insert = record { some = omega arith; graphic = refl }
 verb_is_word Block = record { some = omega arith; graphic = refl }
 verb_is_word Status = record { some = omega arith; graphic = refl }
 verb_is_word Delete = record { some = omega arith; graphic = refl }
+verb_is_word Watch = record { some = omega arith; graphic = refl }
+verb_is_word Told = record { some = omega arith; graphic = refl }
 verb_is_word Summary = record { some = omega arith; graphic = refl }
 verb_is_word Traffic = record { some = omega arith; graphic = refl }
 
@@ -100,6 +105,8 @@ speaks Insert rest = refl
 speaks Block rest = refl
 speaks Status rest = refl
 speaks Delete rest = refl
+speaks Watch rest = refl
+speaks Told rest = refl
 speaks Summary rest = refl
 speaks Traffic rest = refl
 

@@ -14,8 +14,8 @@ use Rattle.ndn_name.specs.Uri.{uri}
 use Rattle.ndn_name.specs.UriVerdict.{HasUri}
 use Rattle.ndn_name.proofs.PrintedTexts.{parts_at, parts-name, uri-is}
 use Rattle.script_lang.specs.Limits.{line_octets}
-use Rattle.script_lang.specs.Kinds.{Kind, LABEL, N, URI, HEX, CONTENT, Value, Text, Number, Named, Octets, is_label}
-use Rattle.script_lang.specs.Kinds.{is_label_octet}
+use Rattle.script_lang.specs.Kinds.{Kind, LABEL, PUBLISHER, N, URI, HEX, CONTENT, Value, Text, Anyone, Number, Named}
+use Rattle.script_lang.specs.Kinds.{Octets, is_label, is_label_octet}
 use Rattle.script_lang.specs.Forms.{Stated, form}
 use Rattle.script_lang.specs.Lines.{are_within, line_of}
 use Rattle.script_lang.specs.Texts.{IsOfKind, IsWordText, digits, AreOf, AreWordTexts, is_graphic, IsWord, IsSpaced}
@@ -74,6 +74,8 @@ printed_uri name h = (parts_at 0 name, uri-is name h, parts-name 0 name)
 printed_is_word : (kind : Kind) (value : Value) → IsPlainValue value → IsOfKind kind value → IsWord
     (word_text kind value)
 printed_is_word LABEL (Text label) plain of = label_is_word label of
+printed_is_word PUBLISHER (Text label) plain of = label_is_word label of
+printed_is_word PUBLISHER Anyone plain of = record { some = omega arith; graphic = refl }
 printed_is_word (N least most) (Number n) plain of =
     let low : n < 2 ^ 64 = omega arith in
     record {
@@ -81,7 +83,7 @@ printed_is_word (N least most) (Number n) plain of =
       graphic = weaker is_ascii_digit is_graphic digit_graphic
           (decimal n) (decimal_digits n low);
     }
-printed_is_word (URI most) (Named name) plain of =
+printed_is_word (URI least most) (Named name) plain of =
     let u = printed_uri name plain in
     record {
       some = uri-some u.0 (uri name) u.1;
@@ -99,8 +101,10 @@ printed_is_word kind value plain of = absurd of
 printed_is_text : (kind : Kind) (value : Value) → IsPlainValue value → IsOfKind kind value
     → IsWordText kind value (word_text kind value)
 printed_is_text LABEL (Text label) plain of = refl
+printed_is_text PUBLISHER (Text label) plain of = refl
+printed_is_text PUBLISHER Anyone plain of = refl
 printed_is_text (N least most) (Number n) plain of = (plain, refl)
-printed_is_text (URI most) (Named name) plain of = printed_uri name plain
+printed_is_text (URI least most) (Named name) plain of = printed_uri name plain
 printed_is_text (HEX most) (Octets octets) plain of = decoded_digits (encode_lower octets) octets
     (decode_of-encode_lower octets plain)
 printed_is_text (CONTENT least most) (Octets octets) plain of = digits (encode_lower octets) refl

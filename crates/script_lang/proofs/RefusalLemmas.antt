@@ -3,6 +3,7 @@ use Rattle.std.proofs.Common.{ℕ, Bool, true, false, cond, not, ◌&&◌, List,
 use Rattle.std.proofs.Common.{◌≡◌, Ok, Err, refl}
 use Rattle.std.specs.Prelude.{IfErr, ◌≢◌, nat_le, codes, replicate}
 use Rattle.std.specs.List.{list_all}
+use Rattle.std.specs.Str.{bytes_eq}
 use Rattle.std.specs.Str.Parse.{digits_value}
 use Rattle.hex.specs.Hex.{decode_of}
 use Rattle.hex.specs.declared.error.FromHexError.{FromHexError}
@@ -14,7 +15,8 @@ use Rattle.script_lang.specs.declared.check_fault.CheckFault.{CheckFault}
 use Rattle.script_lang.specs.declared.check_fault.CheckFault.TheVariants as refusal
 use Rattle.script_lang.specs.declared.verb.Verb.{Verb}
 use Rattle.script_lang.specs.declared.verb.Verb.TheVariants.{Group, Member, Client}
-use Rattle.script_lang.specs.Kinds.{Kind, LABEL, N, URI, HEX, CONTENT, Value, Text, Number, Named, Octets, label_of}
+use Rattle.script_lang.specs.Kinds.{Kind, LABEL, PUBLISHER, N, URI, HEX, CONTENT, Value, Text, Anyone, Number, Named}
+use Rattle.script_lang.specs.Kinds.{Octets, label_of, publisher_of}
 use Rattle.script_lang.specs.Kinds.{is_label, is_numeral, numeral_of, octets_within, decoded_within, hex_of, filled}
 use Rattle.script_lang.specs.Kinds.{filled_of, content_by, content_of, name_within, uri_of, mapped, word_of}
 use Rattle.script_lang.specs.Forms.{AreShaped, Stated, form, said}
@@ -59,6 +61,11 @@ label_err : (word : List ℕ) → IfErr (label_of word) IsOfLine
 unfolding label_of
 label_err word = either (is_label word) word Syntax syntax_is
 
+publisher_err : (word : List ℕ) → IfErr (publisher_of word) IsOfLine
+unfolding publisher_of
+publisher_err word =
+    chosen (bytes_eq word (codes "*")) (Ok Anyone) _ tt (mapped_err Text (label_of word) (label_err word))
+
 numeral_err : (least most : ℕ) (word : List ℕ) → IfErr (numeral_of least most word) IsOfLine
 unfolding numeral_of
 numeral_err least most word =
@@ -99,19 +106,20 @@ content_err least most word =
     by_err least most (behind_word (codes "text:") word) (behind_word (codes "hex:") word)
     (behind_word (codes "fill:") word)
 
-named_err : (most : ℕ) (o : Option (List Component)) → IfErr (name_within most o) IsOfLine
-named_err most None = syntax_is
-named_err most (Some name) =
-    either (nat_le 1 (length (encoding name)) && nat_le (length (encoding name)) most) name Limit limit_is
+named_err : (least most : ℕ) (o : Option (List Component)) → IfErr (name_within least most o) IsOfLine
+named_err least most None = syntax_is
+named_err least most (Some name) =
+    either (nat_le least (length (encoding name)) && nat_le (length (encoding name)) most) name Limit limit_is
 
-uri_err : (most : ℕ) (word : List ℕ) → IfErr (uri_of most word) IsOfLine
+uri_err : (least most : ℕ) (word : List ℕ) → IfErr (uri_of least most word) IsOfLine
 unfolding uri_of
-uri_err most word = named_err most (plain_name_of_text word)
+uri_err least most word = named_err least most (plain_name_of_text word)
 
 word_err : (kind : Kind) (word : List ℕ) → IfErr (word_of kind word) IsOfLine
 word_err LABEL word = mapped_err Text (label_of word) (label_err word)
+word_err PUBLISHER word = publisher_err word
 word_err (N least most) word = mapped_err Number (numeral_of least most word) (numeral_err least most word)
-word_err (URI most) word = mapped_err Named (uri_of most word) (uri_err most word)
+word_err (URI least most) word = mapped_err Named (uri_of least most word) (uri_err least most word)
 word_err (HEX most) word = mapped_err Octets (hex_of 1 most word) (hex_err 1 most word)
 word_err (CONTENT least most) word = mapped_err Octets (content_of least most word) (content_err least most word)
 
@@ -206,14 +214,16 @@ record StatesParty (values : List Value) : Type 0 where
   key : Value
   is : values ≡ Text label ∷ Named node ∷ key ∷ []
 
-states_party : (values : List Value) → AreShaped (LABEL ∷ URI 200 ∷ HEX 128 ∷ []) values → StatesParty values
+states_party : (values : List Value) → AreShaped (LABEL ∷ URI 1 200 ∷ HEX 128 ∷ []) values → StatesParty values
 states_party (Text label ∷ Named node ∷ key ∷ []) h = record { label = label; node = node; key = key; is = refl }
 states_party (Text label ∷ Named node ∷ key ∷ other ∷ values) h = absurd h.1.1.1
 states_party (Text label ∷ Named node ∷ []) h = absurd h.1.1
 states_party (Text label ∷ Text other ∷ values) h = absurd h.1.0
+states_party (Text label ∷ Anyone ∷ values) h = absurd h.1.0
 states_party (Text label ∷ Number n ∷ values) h = absurd h.1.0
 states_party (Text label ∷ Octets octets ∷ values) h = absurd h.1.0
 states_party (Text label ∷ []) h = absurd h.1
+states_party (Anyone ∷ values) h = absurd h.0
 states_party (Number n ∷ values) h = absurd h.0
 states_party (Named name ∷ values) h = absurd h.0
 states_party (Octets octets ∷ values) h = absurd h.0

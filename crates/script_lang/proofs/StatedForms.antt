@@ -1,6 +1,7 @@
 -- What a line states has the shape of its form.
-use Rattle.std.proofs.Common.{◌≡◌, ℕ, List, [], ◌∷◌, Some, Ok}
-use Rattle.script_lang.specs.Kinds.{Kind, LABEL, N, URI, HEX, CONTENT, Value, Text, Number, Named, Octets}
+use Rattle.std.proofs.Common.{◌≡◌, ℕ, List, [], ◌∷◌, Some, None, Ok}
+use Rattle.script_lang.specs.Kinds.{Kind, LABEL, PUBLISHER, N, URI, HEX, CONTENT, Value, Text, Anyone, Number}
+use Rattle.script_lang.specs.Kinds.{Named, Octets}
 use Rattle.script_lang.specs.Lines.{line_of}
 use Rattle.script_lang.specs.Texts.{AreOf, IsLineText, IsOfKind}
 use Rattle.script_lang.proofs.LineTexts.{line_texts}
@@ -35,6 +36,9 @@ states_its_form (line.Block _ _ _ _) = (tt, (tt, (tt, (tt, tt))))
 states_its_form (line.Status _ _ _) = (tt, (tt, (tt, tt)))
 states_its_form (line.Delete _ _ _) = (tt, (tt, (tt, tt)))
 states_its_form (line.Insert _ _ _ _ _) = (tt, (tt, (tt, (tt, (tt, tt)))))
+states_its_form (line.Watch _ None _) = (tt, (tt, (tt, tt)))
+states_its_form (line.Watch _ (Some _) _) = (tt, (tt, (tt, tt)))
+states_its_form (line.Told _ _) = (tt, (tt, tt))
 states_its_form line.Summary = tt
 states_its_form line.Traffic = tt
 
@@ -42,8 +46,10 @@ states_its_form line.Traffic = tt
 
 kind_is_shaped : (kind : Kind) (value : Value) → IsOfKind kind value → IsShaped kind value
 kind_is_shaped LABEL (Text label) h = tt
+kind_is_shaped PUBLISHER (Text label) h = tt
+kind_is_shaped PUBLISHER Anyone h = tt
 kind_is_shaped (N least most) (Number n) h = tt
-kind_is_shaped (URI most) (Named name) h = tt
+kind_is_shaped (URI least most) (Named name) h = tt
 kind_is_shaped (HEX most) (Octets octets) h = tt
 kind_is_shaped (CONTENT least most) (Octets octets) h = tt
 kind_is_shaped kind value h = absurd h

@@ -7,7 +7,10 @@ use Rattle.std.specs.Fmt.{decimal}
 use Rattle.std.specs.Char.{is_ascii_digit}
 use Rattle.std.specs.List.{list_all, list_any}
 use Rattle.std.proofs.lemmas.List.{length-replicate}
+use Rattle.std.proofs.lemmas.Bool.{false≢true}
 use Rattle.std.proofs.lemmas.Bool.Decides.{nat_tests}
+use Rattle.std.proofs.lemmas.Slice.Eq.{bytes_eq-Decides}
+use Rattle.std.specs.Str.{bytes_eq}
 use Rattle.std.specs.Str.Parse.{digits_value}
 use Rattle.hex.specs.Hex.{decode_of}
 use Rattle.hex.specs.declared.error.FromHexError.{FromHexError}
@@ -16,7 +19,8 @@ use Rattle.ndn_name.specs.UriText.{behind_word, cut_at, is_digest, name_of_text,
 use Rattle.ndn_name.specs.Uri.{IsDigits}
 use Rattle.script_lang.specs.declared.line_fault.LineFault.{LineFault}
 use Rattle.script_lang.specs.declared.line_fault.LineFault.TheVariants.{Syntax, Limit}
-use Rattle.script_lang.specs.Kinds.{Kind, LABEL, N, URI, HEX, CONTENT, Value, Text, Number, Named, Octets, word_of}
+use Rattle.script_lang.specs.Kinds.{Kind, LABEL, PUBLISHER, N, URI, HEX, CONTENT, Value, Text, Anyone, Number, Named}
+use Rattle.script_lang.specs.Kinds.{Octets, word_of, publisher_of}
 use Rattle.script_lang.specs.Kinds.{mapped, is_label, label_of, is_numeral, numeral_of, octets_within, decoded_within}
 use Rattle.script_lang.specs.Kinds.{hex_of, filled, filled_of, content_by, content_of, name_within, uri_of}
 use Rattle.script_lang.specs.Texts.{IsOfKind, IsWordText, IsContentText, plain, digits, filled as fills}
@@ -44,6 +48,25 @@ read_label word value h =
     let m = mapped_ok Text (label_of word) value h in
     let l = label_ok word m.0 m.1 in
     rw (m.2, l.1) (l.0, refl)
+
+-- ---- publishers
+
+read_publisher : (word : List ℕ) (value : Value) → word_of PUBLISHER word ≡ Ok value
+    → IsOfKind PUBLISHER value × IsWordText PUBLISHER value word
+unfolding publisher_of
+read_publisher word value h =
+    chosen (bytes_eq word (codes "*")) (Ok Anyone) (mapped Text (label_of word)) value h
+    (λ p q. subst (λ v. IsOfKind PUBLISHER v × IsWordText PUBLISHER v word) (same_ok Anyone value q)
+    (tt, (bytes_eq-Decides word (codes "*")).0 p))
+    (λ p q. (let m = mapped_ok Text (label_of word) value q in
+    let l = label_ok word m.0 m.1 in
+    rw (m.2, l.1) (l.0, refl)))
+
+-- `*` is no label.
+is_other : (label : List ℕ) → is_label label ≡ true → (b : Bool) → bytes_eq label (codes "*") ≡ b → b ≡ false
+is_other label of false e = refl
+is_other label of true e =
+    absurd (false≢true (ap is_label (sym ((bytes_eq-Decides label (codes "*")).0 e)) ∙ of))
 
 -- ---- numbers
 
@@ -88,26 +111,27 @@ plain_ok text name h = go (name_of_text text) refl h where
   go None e k = cc
   go (Some n) e k = let p = pass (list_any is_digest n) n refl k in (e ∙ p.0, p.1)
 
-within_ok : (most : ℕ) (o : Option (List Component)) (name : List Component) → name_within most o ≡ Ok name
-    → (o ≡ Some name) × (1 ≤ length (encoding name)) × (length (encoding name) ≤ most)
-within_ok most None name h = never Syntax name h
-within_ok most (Some n) name h =
-    chosen (nat_le 1 (length (encoding n)) && nat_le (length (encoding n)) most) (Ok n) (Err Limit) name h
+within_ok : (least most : ℕ) (o : Option (List Component)) (name : List Component)
+    → name_within least most o ≡ Ok name
+    → (o ≡ Some name) × (least ≤ length (encoding name)) × (length (encoding name) ≤ most)
+within_ok least most None name h = never Syntax name h
+within_ok least most (Some n) name h =
+    chosen (nat_le least (length (encoding n)) && nat_le (length (encoding n)) most) (Ok n) (Err Limit) name h
     (λ r s. (let e : n ≡ name = same_ok n name s in
     rw (← e) (
       refl,
-      le_tested 1 (length (encoding n)) (and_left _ _ r),
+      le_tested least (length (encoding n)) (and_left _ _ r),
       le_tested
           (length (encoding n)) most (and_right _ _ r),
     )))
     (λ r s. never Limit name s)
 
-read_name : (most : ℕ) (word : List ℕ) (value : Value) → word_of (URI most) word ≡ Ok value
-    → IsOfKind (URI most) value × IsWordText (URI most) value word
+read_name : (least most : ℕ) (word : List ℕ) (value : Value) → word_of (URI least most) word ≡ Ok value
+    → IsOfKind (URI least most) value × IsWordText (URI least most) value word
 unfolding uri_of
-read_name most word value h =
-    let m = mapped_ok Named (uri_of most word) value h in
-    let w = within_ok most (plain_name_of_text word) m.0 m.1 in
+read_name least most word value h =
+    let m = mapped_ok Named (uri_of least most word) value h in
+    let w = within_ok least most (plain_name_of_text word) m.0 m.1 in
     let p = plain_ok word m.0 w.0 in
     rw m.2 ((p.1, w.1, w.2), (texts-computed word m.0).0 p.0)
 
@@ -208,8 +232,9 @@ read_content least most word value h =
 pub word_is_text : (kind : Kind) (value : Value) (word : List ℕ) → word_of kind word ≡ Ok value
     → IsOfKind kind value × IsWordText kind value word
 word_is_text LABEL value word h = read_label word value h
+word_is_text PUBLISHER value word h = read_publisher word value h
 word_is_text (N least most) value word h = read_number least most word value h
-word_is_text (URI most) value word h = read_name most word value h
+word_is_text (URI least most) value word h = read_name least most word value h
 word_is_text (HEX most) value word h = read_hex most word value h
 word_is_text (CONTENT least most) value word h = read_content least most word value h
 
@@ -259,14 +284,16 @@ content_is least most octets word (fills count octet small byte is e) low high =
 
 pub text_is_word : (kind : Kind) (value : Value) (word : List ℕ) → IsOfKind kind value → IsWordText kind value word
     → word_of kind word ≡ Ok value
-unfolding label_of numeral_of uri_of hex_of
+unfolding label_of publisher_of numeral_of uri_of hex_of
 text_is_word LABEL (Text label) word of text = rw (text, of) refl
+text_is_word PUBLISHER (Text label) word of text = rw (text, is_other label of _ refl, of) refl
+text_is_word PUBLISHER Anyone word of text = rw text refl
 text_is_word (N least most) (Number n) word of text = rw
     (text.1, decimal_numeral n text.0, decimal_value n text.0, le_test least n of.0, le_test n most of.1) refl
-text_is_word (URI most) (Named name) word of text = rw (
+text_is_word (URI least most) (Named name) word of text = rw (
   (texts-computed word name).1 text,
   of.0,
-  le_test 1 (length (encoding name)) of.1,
+  le_test least (length (encoding name)) of.1,
   le_test
       (length (encoding name)) most of.2,
 ) refl

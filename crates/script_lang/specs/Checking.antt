@@ -14,8 +14,9 @@ use Rattle.script_lang.specs.declared.verb.Verb.{Verb}
 use Rattle.script_lang.specs.declared.verb.Verb.TheVariants.{Group, Member, Client, Publish, Withdraw, Deliver, Sync}
 use Rattle.script_lang.specs.declared.verb.Verb.TheVariants.{Advance, Fire, Restart, Vector, Catalogue, Claim, Lose}
 use Rattle.script_lang.specs.declared.verb.Verb.TheVariants.{Answer, Fetch, Settle, Dump, Hear, Order, Ask, Feed}
-use Rattle.script_lang.specs.declared.verb.Verb.TheVariants.{Insert, Block, Status, Delete, Summary, Traffic}
-use Rattle.script_lang.specs.Kinds.{Value, Text, Number, Named, Octets}
+use Rattle.script_lang.specs.declared.verb.Verb.TheVariants.{Insert, Block, Status, Delete, Watch, Told, Summary}
+use Rattle.script_lang.specs.declared.verb.Verb.TheVariants.{Traffic}
+use Rattle.script_lang.specs.Kinds.{Value, Text, Anyone, Number, Named, Octets}
 use Rattle.script_lang.specs.Forms.{Stated}
 use Rattle.script_lang.specs.Limits.{members_limit, listed_limit, contents_limit, parts_limit, settles_limit}
 
@@ -61,6 +62,7 @@ has_label label parties = list_any (λ (p : Party). bytes_eq p.label label) part
 abbrev pub labels_in : List Value → List (List ℕ)
 labels_in [] = []
 labels_in (Text label ∷ values) = label ∷ labels_in values
+labels_in (Anyone ∷ values) = labels_in values
 labels_in (Number n ∷ values) = labels_in values
 labels_in (Named name ∷ values) = labels_in values
 labels_in (Octets octets ∷ values) = labels_in values
@@ -112,6 +114,8 @@ sort_of Insert = command
 sort_of Block = event
 sort_of Status = command
 sort_of Delete = command
+sort_of Watch = event
+sort_of Told = event
 sort_of Summary = event
 sort_of Traffic = event
 
@@ -186,6 +190,8 @@ adds Block (m ∷ process ∷ index ∷ Octets content ∷ []) =
 adds Block _ = nothing_added
 adds Status values = nothing_added
 adds Delete values = nothing_added
+adds Watch values = nothing_added
+adds Told values = nothing_added
 adds Summary values = nothing_added
 adds Traffic values = nothing_added
 
@@ -270,33 +276,36 @@ nothing_declared = record {
   totals = nothing_added;
 }
 
--- The forms that name a packet's number or a fetcher: these may be refused for what the world lacks.
-abbrev pub names_packet_or_fetcher : Verb → Bool
-names_packet_or_fetcher Group = false
-names_packet_or_fetcher Member = false
-names_packet_or_fetcher Client = false
-names_packet_or_fetcher Publish = false
-names_packet_or_fetcher Withdraw = false
-names_packet_or_fetcher Deliver = true
-names_packet_or_fetcher Sync = true
-names_packet_or_fetcher Advance = false
-names_packet_or_fetcher Fire = false
-names_packet_or_fetcher Restart = false
-names_packet_or_fetcher Vector = false
-names_packet_or_fetcher Catalogue = false
-names_packet_or_fetcher Claim = true
-names_packet_or_fetcher Lose = true
-names_packet_or_fetcher Answer = true
-names_packet_or_fetcher Fetch = false
-names_packet_or_fetcher Settle = false
-names_packet_or_fetcher Dump = false
-names_packet_or_fetcher Hear = false
-names_packet_or_fetcher Order = false
-names_packet_or_fetcher Ask = false
-names_packet_or_fetcher Feed = true
-names_packet_or_fetcher Insert = false
-names_packet_or_fetcher Block = false
-names_packet_or_fetcher Status = false
-names_packet_or_fetcher Delete = false
-names_packet_or_fetcher Summary = false
-names_packet_or_fetcher Traffic = false
+-- The forms that may be refused for what is in the group before a total is tested: they name the number of a sync
+-- Interest, a fetcher, or a member that may have as many watchers as it can.
+abbrev pub asks_the_group_first : Verb → Bool
+asks_the_group_first Group = false
+asks_the_group_first Member = false
+asks_the_group_first Client = false
+asks_the_group_first Publish = false
+asks_the_group_first Withdraw = false
+asks_the_group_first Deliver = true
+asks_the_group_first Sync = true
+asks_the_group_first Advance = false
+asks_the_group_first Fire = false
+asks_the_group_first Restart = false
+asks_the_group_first Vector = false
+asks_the_group_first Catalogue = false
+asks_the_group_first Claim = true
+asks_the_group_first Lose = true
+asks_the_group_first Answer = true
+asks_the_group_first Fetch = false
+asks_the_group_first Settle = false
+asks_the_group_first Dump = false
+asks_the_group_first Hear = false
+asks_the_group_first Order = false
+asks_the_group_first Ask = false
+asks_the_group_first Feed = true
+asks_the_group_first Insert = false
+asks_the_group_first Block = false
+asks_the_group_first Status = false
+asks_the_group_first Delete = false
+asks_the_group_first Watch = true
+asks_the_group_first Told = false
+asks_the_group_first Summary = false
+asks_the_group_first Traffic = false

@@ -1,5 +1,5 @@
 -- The forms of line: the table of their words, and the lines as values of it.
-use Rattle.std.specs.Prelude.{ℕ, List, [], ◌∷◌, codes}
+use Rattle.std.specs.Prelude.{ℕ, List, [], ◌∷◌, codes, Option, Some, None, String}
 use Rattle.std.specs.String.{string_bytes}
 use Rattle.script_lang.specs.declared.line.Line.{Line}
 use Rattle.script_lang.specs.declared.line.Line.TheVariants as line
@@ -7,9 +7,11 @@ use Rattle.script_lang.specs.declared.verb.Verb.{Verb}
 use Rattle.script_lang.specs.declared.verb.Verb.TheVariants.{Group, Member, Client, Publish, Withdraw, Deliver, Sync}
 use Rattle.script_lang.specs.declared.verb.Verb.TheVariants.{Advance, Fire, Restart, Vector, Catalogue, Claim, Lose}
 use Rattle.script_lang.specs.declared.verb.Verb.TheVariants.{Answer, Fetch, Settle, Dump, Hear, Order, Ask, Feed}
-use Rattle.script_lang.specs.declared.verb.Verb.TheVariants.{Insert, Block, Status, Delete, Summary, Traffic}
+use Rattle.script_lang.specs.declared.verb.Verb.TheVariants.{Insert, Block, Status, Delete, Watch, Told, Summary}
+use Rattle.script_lang.specs.declared.verb.Verb.TheVariants.{Traffic}
 use Rattle.script_lang.specs.Limits.{last_part}
-use Rattle.script_lang.specs.Kinds.{Kind, LABEL, N, URI, HEX, CONTENT, Value, Text, Number, Named, Octets}
+use Rattle.script_lang.specs.Kinds.{Kind, LABEL, PUBLISHER, N, URI, HEX, CONTENT, Value, Text, Anyone, Number}
+use Rattle.script_lang.specs.Kinds.{Named, Octets}
 
 -- A form of line: its first word, and the kinds of the others.
 pub record Form : Type 0 where
@@ -25,10 +27,10 @@ abbrev pub any : Kind
 any = N 0 999999999999999999
 
 abbrev pub form : Verb → Form
-form Group = row (codes "group") (URI 200 ∷ [])
-form Member = row (codes "member") (LABEL ∷ URI 200 ∷ HEX 128 ∷ [])
-form Client = row (codes "client") (LABEL ∷ URI 200 ∷ HEX 128 ∷ [])
-form Publish = row (codes "publish") (LABEL ∷ URI 400 ∷ N 1 8000 ∷ CONTENT 0 16000000 ∷ [])
+form Group = row (codes "group") (URI 1 200 ∷ [])
+form Member = row (codes "member") (LABEL ∷ URI 1 200 ∷ HEX 128 ∷ [])
+form Client = row (codes "client") (LABEL ∷ URI 1 200 ∷ HEX 128 ∷ [])
+form Publish = row (codes "publish") (LABEL ∷ URI 1 400 ∷ N 1 8000 ∷ CONTENT 0 16000000 ∷ [])
 form Withdraw = row (codes "withdraw") (LABEL ∷ N 1 65535 ∷ [])
 form Deliver = row (codes "deliver") (N 1 4294967295 ∷ LABEL ∷ [])
 form Sync = row (codes "sync") (N 1 4294967295 ∷ [])
@@ -48,11 +50,13 @@ form Order = row (codes "order") (LABEL ∷ HEX 9000 ∷ [])
 form Ask = row (codes "ask") (LABEL ∷ HEX 9000 ∷ [])
 form Feed = row (codes "feed") (LABEL ∷ N 1 16 ∷ HEX 9000 ∷ [])
 form Insert = row (codes "insert")
-    (LABEL ∷ LABEL ∷ URI 400 ∷ any ∷ any ∷ [])
+    (LABEL ∷ LABEL ∷ URI 1 400 ∷ any ∷ any ∷ [])
 form Block = row (codes "block")
     (LABEL ∷ N 1 4294967295 ∷ any ∷ CONTENT 1 8000 ∷ [])
 form Status = row (codes "status") (LABEL ∷ LABEL ∷ N 1 4294967295 ∷ [])
-form Delete = row (codes "delete") (LABEL ∷ LABEL ∷ URI 400 ∷ [])
+form Delete = row (codes "delete") (LABEL ∷ LABEL ∷ URI 1 400 ∷ [])
+form Watch = row (codes "watch") (LABEL ∷ PUBLISHER ∷ URI 0 400 ∷ [])
+form Told = row (codes "told") (LABEL ∷ N 1 4294967295 ∷ [])
 form Summary = row (codes "summary") []
 form Traffic = row (codes "traffic") []
 
@@ -63,6 +67,11 @@ pub record Stated : Type 0 where
 
 abbrev pub said : Verb → List Value → Stated
 said verb values = record { verb = verb; values = values }
+
+-- The publisher of this label, or every one.
+abbrev pub publisher_value : {Z : Type 0} → Option (String Z) → Value
+publisher_value (Some label) = Text (string_bytes label)
+publisher_value None = Anyone
 
 abbrev pub stated : Line → Stated
 stated (line.Group name) =
@@ -118,6 +127,10 @@ stated (line.Status m client process) =
     said Status (Text (string_bytes m) ∷ Text (string_bytes client) ∷ Number process ∷ [])
 stated (line.Delete m client name) =
     said Delete (Text (string_bytes m) ∷ Text (string_bytes client) ∷ Named name ∷ [])
+stated (line.Watch m p name) =
+    said Watch (Text (string_bytes m) ∷ publisher_value p ∷ Named name ∷ [])
+stated (line.Told m w) =
+    said Told (Text (string_bytes m) ∷ Number w ∷ [])
 stated line.Summary = said Summary []
 stated line.Traffic = said Traffic []
 
@@ -126,8 +139,10 @@ stated line.Traffic = said Traffic []
 -- A value is one of this kind, whatever its range.
 abbrev pub IsShaped : Kind → Value → Type 0
 IsShaped LABEL (Text label) = Unit {0}
+IsShaped PUBLISHER (Text label) = Unit {0}
+IsShaped PUBLISHER Anyone = Unit {0}
 IsShaped (N least most) (Number n) = Unit {0}
-IsShaped (URI most) (Named name) = Unit {0}
+IsShaped (URI least most) (Named name) = Unit {0}
 IsShaped (HEX most) (Octets octets) = Unit {0}
 IsShaped (CONTENT least most) (Octets octets) = Unit {0}
 IsShaped kind value = ⊥

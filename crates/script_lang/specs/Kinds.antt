@@ -3,6 +3,7 @@ use Rattle.std.specs.Prelude.{ℕ, Bool, false, not, ◌&&◌, ◌||◌, List, [
 use Rattle.std.specs.Prelude.{Err, nat_le, ◌==◌, codes, if◌then◌else◌, replicate}
 use Rattle.std.specs.Char.{is_ascii_digit, is_ascii_lowercase}
 use Rattle.std.specs.List.{list_all}
+use Rattle.std.specs.Str.{bytes_eq}
 use Rattle.std.specs.Str.Parse.{digits_value}
 use Rattle.hex.specs.Hex.{decode_of}
 use Rattle.hex.specs.declared.error.FromHexError.{FromHexError}
@@ -11,18 +12,20 @@ use Rattle.ndn_name.specs.UriText.{behind_word, cut_at, plain_name_of_text}
 use Rattle.script_lang.specs.declared.line_fault.LineFault.{LineFault}
 use Rattle.script_lang.specs.declared.line_fault.LineFault.TheVariants.{Syntax, Limit}
 
--- The kinds of word, each with its range: a number's least and most, the most octets of a name's
--- value and of hexadecimal text, the least and the most octets of a content.
+-- The kinds of word, each with its range: a number's least and most, the least and the most octets of a name's value
+-- and of a content, the most octets of hexadecimal text. A publisher is a label, or `*` for every one.
 pub data Kind : Type 0 where
   LABEL : Kind
+  PUBLISHER : Kind
   N : (least most : ℕ) → Kind
-  URI : (most : ℕ) → Kind
+  URI : (least most : ℕ) → Kind
   HEX : (most : ℕ) → Kind
   CONTENT : (least most : ℕ) → Kind
 
 -- What a word stands for.
 pub data Value : Type 0 where
   Text : List ℕ → Value
+  Anyone : Value
   Number : ℕ → Value
   Named : List Component → Value
   Octets : List ℕ → Value
@@ -38,6 +41,14 @@ is_label (first ∷ others) =
 
 unfoldable pub label_of : List ℕ → Result (List ℕ) LineFault
 label_of word = if is_label word then Ok word else Err Syntax
+
+abbrev pub mapped : {A B : Type 0} → (A → B) → Result A LineFault → Result B LineFault
+mapped f (Ok x) = Ok (f x)
+mapped f (Err fault) = Err fault
+
+-- A publisher is `*` or a label.
+unfoldable pub publisher_of : List ℕ → Result Value LineFault
+publisher_of word = if bytes_eq word (codes "*") then Ok Anyone else mapped Text (label_of word)
 
 -- A number is at most 18 decimal digits, without a zero in front of others.
 abbrev pub is_numeral : List ℕ → Bool
@@ -92,26 +103,23 @@ content_of least most word =
     (behind_word (codes "fill:") word)
 
 -- A URI is the text of a name without components of type 1 or 2 (`plain_name_of_text`), whose value has
--- 1 to so many octets.
-abbrev pub name_within : ℕ → Option (List Component) → Result (List Component) LineFault
-name_within most None = Err Syntax
-name_within most (Some name) =
-    if nat_le 1 (length (encoding name)) && nat_le (length (encoding name)) most
+-- so many octets.
+abbrev pub name_within : ℕ → ℕ → Option (List Component) → Result (List Component) LineFault
+name_within least most None = Err Syntax
+name_within least most (Some name) =
+    if nat_le least (length (encoding name)) && nat_le (length (encoding name)) most
     then Ok name else Err Limit
 
-unfoldable pub uri_of : ℕ → List ℕ → Result (List Component) LineFault
-uri_of most word = name_within most (plain_name_of_text word)
+unfoldable pub uri_of : ℕ → ℕ → List ℕ → Result (List Component) LineFault
+uri_of least most word = name_within least most (plain_name_of_text word)
 
 -- ---- a word
-
-abbrev pub mapped : {A B : Type 0} → (A → B) → Result A LineFault → Result B LineFault
-mapped f (Ok x) = Ok (f x)
-mapped f (Err fault) = Err fault
 
 -- What a word is as one of this kind.
 abbrev pub word_of : Kind → List ℕ → Result Value LineFault
 word_of LABEL word = mapped Text (label_of word)
+word_of PUBLISHER word = publisher_of word
 word_of (N least most) word = mapped Number (numeral_of least most word)
-word_of (URI most) word = mapped Named (uri_of most word)
+word_of (URI least most) word = mapped Named (uri_of least most word)
 word_of (HEX most) word = mapped Octets (hex_of 1 most word)
 word_of (CONTENT least most) word = mapped Octets (content_of least most word)

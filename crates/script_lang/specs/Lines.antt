@@ -9,7 +9,8 @@ use Rattle.script_lang.specs.declared.verb.Verb.{Verb}
 use Rattle.script_lang.specs.declared.verb.Verb.TheVariants.{Group, Member, Client, Publish, Withdraw, Deliver, Sync}
 use Rattle.script_lang.specs.declared.verb.Verb.TheVariants.{Advance, Fire, Restart, Vector, Catalogue, Claim, Lose}
 use Rattle.script_lang.specs.declared.verb.Verb.TheVariants.{Answer, Fetch, Settle, Dump, Hear, Order, Ask, Feed}
-use Rattle.script_lang.specs.declared.verb.Verb.TheVariants.{Insert, Block, Status, Delete, Summary, Traffic}
+use Rattle.script_lang.specs.declared.verb.Verb.TheVariants.{Insert, Block, Status, Delete, Watch, Told, Summary}
+use Rattle.script_lang.specs.declared.verb.Verb.TheVariants.{Traffic}
 use Rattle.script_lang.specs.declared.line_fault.LineFault.{LineFault}
 use Rattle.script_lang.specs.declared.line_fault.LineFault.TheVariants.{Syntax, Limit, NoMemory}
 use Rattle.script_lang.specs.Limits.{line_octets, segments_limit, blocks_limit}
@@ -76,6 +77,8 @@ are_within Insert _ = false
 are_within Block values = true
 are_within Status values = true
 are_within Delete values = true
+are_within Watch values = true
+are_within Told values = true
 are_within Summary values = true
 are_within Traffic values = true
 
@@ -93,7 +96,7 @@ abbrev pub verbs : List Verb
 verbs =
     Group ∷ Member ∷ Client ∷ Publish ∷ Withdraw ∷ Deliver ∷ Sync ∷ Advance ∷ Fire ∷ Restart ∷ Vector
     ∷ Catalogue ∷ Claim ∷ Lose ∷ Answer ∷ Fetch ∷ Settle ∷ Dump ∷ Hear ∷ Order ∷ Ask ∷ Feed
-    ∷ Insert ∷ Block ∷ Status ∷ Delete ∷ Summary ∷ Traffic ∷ []
+    ∷ Insert ∷ Block ∷ Status ∷ Delete ∷ Watch ∷ Told ∷ Summary ∷ Traffic ∷ []
 
 abbrev pub first_words : List (List ℕ × Verb)
 first_words = map (λ verb. ((form verb).word, verb)) verbs

@@ -10,7 +10,8 @@ use Rattle.ndn_name.specs.Uri.{IsDigits, uri}
 use Rattle.ndn_name.specs.UriText.{is_digest}
 use Rattle.ndn_name.specs.UriVerdict.{HasUri}
 use Rattle.script_lang.specs.Limits.{line_octets}
-use Rattle.script_lang.specs.Kinds.{Kind, LABEL, N, URI, HEX, CONTENT, Value, Text, Number, Named, Octets, is_label}
+use Rattle.script_lang.specs.Kinds.{Kind, LABEL, PUBLISHER, N, URI, HEX, CONTENT, Value, Text, Anyone, Number, Named}
+use Rattle.script_lang.specs.Kinds.{Octets, is_label}
 use Rattle.script_lang.specs.Forms.{Stated, form}
 use Rattle.script_lang.specs.Lines.{are_within}
 
@@ -26,8 +27,10 @@ pub data IsContentText (octets text : List ℕ) : Type 0 where
 -- The texts of a value as a word of a kind. Digits are of either case, and a name has all texts of its URI.
 abbrev pub IsWordText : Kind → Value → List ℕ → Type 0
 IsWordText LABEL (Text label) text = text ≡ label
+IsWordText PUBLISHER (Text label) text = text ≡ label
+IsWordText PUBLISHER Anyone text = text ≡ codes "*"
 IsWordText (N least most) (Number n) text = (n < 10 ^ 18) × (text ≡ decimal n)
-IsWordText (URI most) (Named name) text = HasUri name text
+IsWordText (URI least most) (Named name) text = HasUri name text
 IsWordText (HEX most) (Octets octets) text = IsDigits octets text
 IsWordText (CONTENT least most) (Octets octets) text = IsContentText octets text
 IsWordText kind value text = ⊥
@@ -41,9 +44,11 @@ AreWordTexts kinds values texts = ⊥
 -- A value is one of this kind, in its range.
 abbrev pub IsOfKind : Kind → Value → Type 0
 IsOfKind LABEL (Text label) = is_label label ≡ true
+IsOfKind PUBLISHER (Text label) = is_label label ≡ true
+IsOfKind PUBLISHER Anyone = Unit {0}
 IsOfKind (N least most) (Number n) = (least ≤ n) × (n ≤ most)
-IsOfKind (URI most) (Named name) =
-    (list_any is_digest name ≡ false) × (1 ≤ length (encoding name)) × (length (encoding name) ≤ most)
+IsOfKind (URI least most) (Named name) =
+    (list_any is_digest name ≡ false) × (least ≤ length (encoding name)) × (length (encoding name) ≤ most)
 IsOfKind (HEX most) (Octets octets) = (1 ≤ length octets) × (length octets ≤ most)
 IsOfKind (CONTENT least most) (Octets octets) = (least ≤ length octets) × (length octets ≤ most)
 IsOfKind kind value = ⊥
@@ -92,8 +97,10 @@ pub record IsLineText (s : Stated) (octets : List ℕ) : Type 0 where
 -- A value of another kind than the word's has no text.
 abbrev pub word_text : Kind → Value → List ℕ
 word_text LABEL (Text text) = text
+word_text PUBLISHER (Text text) = text
+word_text PUBLISHER Anyone = codes "*"
 word_text (N least most) (Number n) = decimal n
-word_text (URI most) (Named name) = uri name
+word_text (URI least most) (Named name) = uri name
 word_text (HEX most) (Octets octets) = encode_lower octets
 word_text (CONTENT least most) (Octets octets) = codes "hex:" ++ encode_lower octets
 word_text kind value = []
@@ -109,6 +116,7 @@ printed_line s = (form s.verb).word ++ words_text (form s.verb).kinds s.values
 -- Values that can be printed: numbers of at most 18 digits, names, and octets.
 abbrev pub IsPlainValue : Value → Type 0
 IsPlainValue (Text text) = Unit {0}
+IsPlainValue Anyone = Unit {0}
 IsPlainValue (Number n) = n < 10 ^ 18
 IsPlainValue (Named name) = IsName name
 IsPlainValue (Octets octets) = IsBytes octets

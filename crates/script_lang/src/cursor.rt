@@ -1,10 +1,11 @@
 ghost use Rattle.std.specs.Prelude.{◌≡◌, ◌≤◌, List, ◌∷◌, [], map, false, IfOk, IfErr, Ok};
 ghost use Rattle.std.specs.String.{string_bytes};
-ghost use Rattle.script_lang.specs.Kinds.{URI, CONTENT, Named, Kind, LABEL, N, HEX, Text, Number, Octets};
+ghost use Rattle.script_lang.specs.Forms.{publisher_value};
+ghost use Rattle.script_lang.specs.Kinds.{URI, CONTENT, Named, Kind, LABEL, N, HEX, PUBLISHER, Text, Number, Octets};
 ghost use Rattle.script_lang.specs.Reading.{left_of, KeepsValue, ReadsWord, FaultTells};
 
 use crate::line_fault::LineFault;
-use crate::word::{content_in, hex_in, label_in, name_in, number_in, small_in};
+use crate::word::{content_in, hex_in, label_in, name_in, number_in, publisher_in, small_in};
 use ndn_name::Name;
 use std::alloc::Global;
 use std::marker::Model;
@@ -74,6 +75,14 @@ impl<'a> Cursor<'a> {
         self.kept(label_in(alloc, word), String::new(alloc))
     }
 
+    // The next word as a publisher.
+    pub(crate) fn publisher(&mut self, alloc: Global) -> Result<Option<String>, LineFault>
+        ensures { ReadsWord publisher_value (PUBLISHER) self.old self.new result }
+    {
+        let word = self.next()?;
+        self.kept(publisher_in(alloc, word), None)
+    }
+
     // The next word as a number in this range.
     pub(crate) fn number(&mut self, least: u64, most: u64) -> Result<u64, LineFault>
         ensures { ReadsWord (λ value. Number value) (N least most) self.old self.new result }
@@ -98,13 +107,13 @@ impl<'a> Cursor<'a> {
         self.kept(hex_in(alloc, 1, most, word), Vec::new(alloc))
     }
 
-    // The next word as the text of a name with 1 to so many octets of value.
-    pub(crate) fn name(&mut self, alloc: Global, most: u64) -> Result<Name, LineFault>
+    // The next word as the text of a name with so many octets of value.
+    pub(crate) fn name(&mut self, alloc: Global, least: u64, most: u64) -> Result<Name, LineFault>
         requires { most ≤ 1000 }
-        ensures { ReadsWord (λ value. Named value) (URI most) self.old self.new result }
+        ensures { ReadsWord (λ value. Named value) (URI least most) self.old self.new result }
     {
         let word = self.next()?;
-        self.kept(name_in(alloc, most, word), Name::new(alloc))
+        self.kept(name_in(alloc, least, most, word), Name::new(alloc))
     }
 
     // The next word as a content of so many octets.

@@ -34,16 +34,16 @@ fn values_in(alloc: Global, verb: Verb, words: &mut Cursor<'_>) -> Result<Line, 
 {
     match verb {
         Verb::Group => Ok(Line::Group {
-            name: words.name(alloc, NODE_NAME)?,
+            name: words.name(alloc, 1, NODE_NAME)?,
         }),
         Verb::Member => Ok(Line::Member {
             label: words.label(alloc)?,
-            name: words.name(alloc, NODE_NAME)?,
+            name: words.name(alloc, 1, NODE_NAME)?,
             key: words.hex(alloc, KEY)?,
         }),
         Verb::Client => Ok(Line::Client {
             label: words.label(alloc)?,
-            name: words.name(alloc, NODE_NAME)?,
+            name: words.name(alloc, 1, NODE_NAME)?,
             key: words.hex(alloc, KEY)?,
         }),
         Verb::Publish => publication(alloc, words),
@@ -118,7 +118,16 @@ fn values_in(alloc: Global, verb: Verb, words: &mut Cursor<'_>) -> Result<Line, 
         Verb::Delete => Ok(Line::Delete {
             m: words.label(alloc)?,
             client: words.label(alloc)?,
-            name: words.name(alloc, OBJECT_NAME)?,
+            name: words.name(alloc, 1, OBJECT_NAME)?,
+        }),
+        Verb::Watch => Ok(Line::Watch {
+            m: words.label(alloc)?,
+            p: words.publisher(alloc)?,
+            name: words.name(alloc, 0, OBJECT_NAME)?,
+        }),
+        Verb::Told => Ok(Line::Told {
+            m: words.label(alloc)?,
+            w: words.small(1, u32::MAX)?,
         }),
         Verb::Summary => Ok(Line::Summary),
         Verb::Traffic => Ok(Line::Traffic),
@@ -131,7 +140,7 @@ fn publication(alloc: Global, words: &mut Cursor<'_>) -> Result<Line, LineFault>
 {
     Ok(Line::Publish {
         m: words.label(alloc)?,
-        name: words.name(alloc, OBJECT_NAME)?,
+        name: words.name(alloc, 1, OBJECT_NAME)?,
         size: words.small(1, BLOCK as u32)?,
         content: words.content(alloc, 0, CONTENT)?,
     })
@@ -168,7 +177,7 @@ fn insertion(alloc: Global, words: &mut Cursor<'_>) -> Result<Line, LineFault>
     Ok(Line::Insert {
         m: words.label(alloc)?,
         client: words.label(alloc)?,
-        name: words.name(alloc, OBJECT_NAME)?,
+        name: words.name(alloc, 1, OBJECT_NAME)?,
         first: words.number(0, ANY)?,
         last: words.number(0, ANY)?,
     })

@@ -17,9 +17,13 @@ pub(crate) fn are_known(members: &[Declaration], clients: &[Declaration], line: 
         Line::Insert { m, client, .. }
         | Line::Status { m, client, .. }
         | Line::Delete { m, client, .. } => has_label(m, members) && has_label(client, clients),
-        Line::Answer { m, q: other, .. } | Line::Dump { m, p: other, .. } => {
-            has_label(m, members) && has_label(other, members)
-        }
+        Line::Answer { m, q: other, .. }
+        | Line::Dump { m, p: other, .. }
+        | Line::Watch {
+            m,
+            p: Some(other),
+            ..
+        } => has_label(m, members) && has_label(other, members),
         Line::Publish { m, .. }
         | Line::Withdraw { m, .. }
         | Line::Deliver { m, .. }
@@ -34,7 +38,9 @@ pub(crate) fn are_known(members: &[Declaration], clients: &[Declaration], line: 
         | Line::Order { m, .. }
         | Line::Ask { m, .. }
         | Line::Feed { m, .. }
-        | Line::Block { m, .. } => has_label(m, members),
+        | Line::Block { m, .. }
+        | Line::Watch { m, p: None, .. }
+        | Line::Told { m, .. } => has_label(m, members),
         Line::Sync { .. }
         | Line::Advance { .. }
         | Line::Settle { .. }

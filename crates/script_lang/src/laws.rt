@@ -5,14 +5,14 @@ ghost use Rattle.script_lang.specs.declared.line_fault.LineFault.TheVariants.{Li
 ghost use Rattle.script_lang.specs.declared.check_fault.CheckFault.TheVariants as refusal;
 ghost use Rattle.script_lang.specs.declared.check_fault.CheckFault.TheVariants.{TooLarge};
 ghost use Rattle.script_lang.specs.declared.verb.Verb.{Verb};
-ghost use Rattle.script_lang.specs.declared.verb.Verb.TheVariants.{Claim, Group, Publish, Withdraw};
+ghost use Rattle.script_lang.specs.declared.verb.Verb.TheVariants.{Claim, Group, Publish, Watch, Withdraw};
 ghost use Rattle.script_lang.specs.Limits.{contents_limit, last_part, line_octets, members_limit, parts_limit};
 ghost use Rattle.script_lang.specs.Limits.{script_lines, script_octets, segments_limit, settles_limit};
-ghost use Rattle.script_lang.specs.Kinds.{Kind, Named, Number, Octets, Text, Value, word_of};
+ghost use Rattle.script_lang.specs.Kinds.{Anyone, Kind, Named, Number, Octets, Text, Value, word_of};
 ghost use Rattle.script_lang.specs.declared.line.Line.{Line};
 ghost use Rattle.script_lang.specs.Forms.{AreShaped, Stated, form, said, stated};
 ghost use Rattle.script_lang.specs.Lines.{are_within, line_of};
-ghost use Rattle.script_lang.specs.Checking.{Declared, after_line, are_within_limits, names_packet_or_fetcher};
+ghost use Rattle.script_lang.specs.Checking.{Declared, after_line, are_within_limits, asks_the_group_first};
 ghost use Rattle.script_lang.specs.Checking.{publication_parts};
 ghost use Rattle.script_lang.specs.Texts.{AreOf, ArePlainValues, IsLineText, IsOfKind, IsWordText, printed_line};
 
@@ -66,11 +66,12 @@ pub fn lines_state_their_forms()
         → AreShaped (form s.verb).kinds s.values }
 {}
 
-/// A line that names a packet's number or a fetcher passes no total, so it is all the same whether a
-/// total is tested before the world is asked for the packet or the fetcher, or after that.
-pub fn packets_and_fetchers_add_nothing()
+/// A line that names a packet's number or a fetcher, or sets up a watcher, passes no total. So it is all the same
+/// whether a total is tested before the group is asked for the packet, the fetcher or the number of watchers, or after
+/// that.
+pub fn what_asks_the_group_first_adds_nothing()
     ensures { (d : Declared) (s : Stated) → are_within_limits d.totals ≡ true
-        → names_packet_or_fetcher s.verb ≡ true → after_line d s ≢ Err TooLarge }
+        → asks_the_group_first s.verb ≡ true → after_line d s ≢ Err TooLarge }
 {}
 
 /// Worked lines, as the definition computes them.
@@ -86,6 +87,8 @@ pub fn worked_lines()
     ensures filled { line_of (codes "publish a /x 4 fill:3:65")
         ≡ Ok (Some (said Publish (Text (codes "a") ∷ Named ((8, codes "x") ∷ []) ∷ Number 4
         ∷ Octets (codes "AAA") ∷ []))) }
+    ensures every_object { line_of (codes "watch bob * /")
+        ≡ Ok (Some (said Watch (Text (codes "bob") ∷ Anyone ∷ Named [] ∷ []))) }
     ensures blocks { line_of (codes "insert a c /in 5 205") ≡ Err Limit }
     ensures comment { line_of (codes " # g") ≡ Ok None }
 {}

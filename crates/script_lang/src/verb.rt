@@ -30,11 +30,13 @@ pub enum Verb {
     Block,
     Status,
     Delete,
+    Watch,
+    Told,
     Summary,
     Traffic,
 }
 
-const VERBS: [(&str, Verb); 28] = [
+const VERBS: [(&str, Verb); 30] = [
     ("group", Verb::Group),
     ("member", Verb::Member),
     ("client", Verb::Client),
@@ -61,6 +63,8 @@ const VERBS: [(&str, Verb); 28] = [
     ("block", Verb::Block),
     ("status", Verb::Status),
     ("delete", Verb::Delete),
+    ("watch", Verb::Watch),
+    ("told", Verb::Told),
     ("summary", Verb::Summary),
     ("traffic", Verb::Traffic),
 ];

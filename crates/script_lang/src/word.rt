@@ -4,7 +4,9 @@ ghost use Rattle.std.specs.Option.{option_copied, option_map};
 ghost use Rattle.std.specs.Char.{is_ascii_digit};
 ghost use Rattle.std.specs.String.{string_bytes};
 ghost use Rattle.ndn_name.specs.UriText.{behind_word, cut_at};
-ghost use Rattle.script_lang.specs.Kinds.{CONTENT, LABEL, N, Named, Number, Octets, Text, URI, filled_of, hex_of};
+ghost use Rattle.script_lang.specs.Forms.{publisher_value};
+ghost use Rattle.script_lang.specs.Kinds.{CONTENT, LABEL, N, Named, Number, Octets, PUBLISHER, Text, URI, filled_of};
+ghost use Rattle.script_lang.specs.Kinds.{hex_of};
 ghost use Rattle.script_lang.specs.Kinds.{is_label, is_label_octet, is_numeral, mapped, octets_within, word_of};
 ghost use Rattle.script_lang.specs.Reading.{Gives};
 
@@ -36,6 +38,17 @@ pub(crate) fn label_in(alloc: Global, word: &str) -> Result<String, LineFault>
         return Err(LineFault::Syntax);
     }
     Ok(String::from_str(alloc, word)?)
+}
+
+// The publisher that a word names: the one of a label, or none, which stands for every one.
+#[tactic(auto, unfolding(crate::specs::Kinds::publisher_of))]
+pub(crate) fn publisher_in(alloc: Global, word: &str) -> Result<Option<String>, LineFault>
+    ensures { Gives publisher_value result (word_of PUBLISHER word.now) }
+{
+    if word == "*" {
+        return Ok(None);
+    }
+    Ok(Some(label_in(alloc, word)?))
 }
 
 fn is_numeral(word: &str) -> bool
@@ -167,16 +180,16 @@ pub(crate) fn content_in(
     }
 }
 
-// The name whose URI a word is, of 1 to so many octets of value.
+// The name whose URI a word is, of so many octets of value.
 #[tactic(auto, unfolding(crate::specs::Kinds::uri_of))]
-pub(crate) fn name_in(alloc: Global, most: u64, word: &str) -> Result<Name, LineFault>
+pub(crate) fn name_in(alloc: Global, least: u64, most: u64, word: &str) -> Result<Name, LineFault>
     requires { most ≤ 1000 }
-    ensures { Gives (λ name. Named name) result (word_of (URI most) word.now) }
+    ensures { Gives (λ name. Named name) result (word_of (URI least most) word.now) }
 {
     let Some(len) = plain_uri_len(word) else {
         return Err(LineFault::Syntax);
     };
-    if len == 0 || most < len as u64 {
+    if !is_within(least, most, len) {
         return Err(LineFault::Limit);
     }
     match Name::from_uri(alloc, word) {

@@ -159,6 +159,18 @@ abbrev pub catalogue_text : List ℕ → ℕ → List (List ℕ) → List Entry 
 catalogue_text m count labels entries =
     line (codes "catalogue") (m ∷ decimal count ∷ []) ++ entries_text labels entries
 
+-- ---- watchers
+
+abbrev pub watch_text : List ℕ → ℕ → List ℕ
+watch_text m w = line (codes "watch") (m ∷ decimal w ∷ [])
+
+-- What a watcher is told: how many entries, and these.
+abbrev pub told_text : List ℕ → ℕ → ℕ → List (List ℕ) → List Entry → List ℕ
+told_text m w count labels entries =
+    line (codes "told") (m ∷ decimal w ∷ decimal count ∷ []) ++ entries_text labels entries
+
+-- ---- totals
+
 -- What a member holds.
 abbrev pub totals_text : List ℕ → ℕ → ℕ → ℕ → List ℕ
 totals_text label entries segments octets = line (codes "summary")

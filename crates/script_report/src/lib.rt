@@ -13,6 +13,7 @@ mod parts;
 mod piece;
 mod readings;
 mod telling;
+mod watchers;
 
 pub use commands::{
     put_block_200, put_block_300, put_block_404, put_block_published, put_delete, put_insert,
@@ -33,3 +34,4 @@ pub use telling::{
     put_ask_found, put_ask_none, put_ask_refused, put_dump_hex, put_dump_none, put_hear_refused,
     put_hear_steady, put_hear_suppressed,
 };
+pub use watchers::{put_told, put_watch};

@@ -1,9 +1,10 @@
 ghost use Rattle.std.specs.Prelude.{◌≡◌, ◌++◌, map, length, string_bytes, OnOk};
-ghost use Rattle.script_report.specs.Texts.{catalogue_text, entries_text, entry_text, summary_text, totals_text};
+ghost use Rattle.script_report.specs.Texts.{catalogue_text, entries_text, entry_text, line, summary_text, totals_text};
 ghost use Rattle.script_report.specs.Texts.{traffic_text, vector_text};
-ghost use Rattle.script_report.specs.Pieces.{Appends, KeepsFront};
+ghost use Rattle.script_report.specs.Pieces.{Appends, KeepsFront, words_in};
 
 use crate::line::{put_line, whole, write_line};
+use crate::piece::Piece;
 use crate::piece::Piece::{Counts, Hex, Number, Uri, Word};
 use repo_catalog::Entry;
 use std::alloc::AllocError;
@@ -34,23 +35,37 @@ pub fn put_catalogue(
     ensures { Appends (catalogue_text m.now count (map string_bytes labels.now) entries.now)
         out.old.items out.new.items result }
 {
+    put_listing(out, "catalogue", &[Word(m), Number(count)], labels, entries)
+}
+
+// A line, and the entries that it counts.
+pub(crate) fn put_listing(
+    out: &mut Vec<u8>,
+    first: &str,
+    pieces: &[Piece<'_>],
+    labels: &[String],
+    entries: &[Entry],
+) -> Result<(), AllocError>
+    ensures { Appends (line first.now (words_in pieces.now) ++ entries_text (map string_bytes labels.now) entries.now)
+        out.old.items out.new.items result }
+{
     let before = out.len();
-    let written = write_catalogue(out, m, count, labels, entries);
+    let written = write_listing(out, first, pieces, labels, entries);
     whole(out, before, written)
 }
 
-fn write_catalogue(
+fn write_listing(
     out: &mut Vec<u8>,
-    m: &str,
-    count: u64,
+    first: &str,
+    pieces: &[Piece<'_>],
     labels: &[String],
     entries: &[Entry],
 ) -> Result<(), AllocError>
     ensures ok { OnOk result (out.new.items ≡ out.old.items
-        ++ catalogue_text m.now count (map string_bytes labels.now) entries.now) }
+        ++ (line first.now (words_in pieces.now) ++ entries_text (map string_bytes labels.now) entries.now)) }
     ensures kept { KeepsFront out.old.items out.new.items }
 {
-    write_line(out, "catalogue", &[Word(m), Number(count)])?;
+    write_line(out, first, pieces)?;
     write_entries(out, labels, entries)
 }
 

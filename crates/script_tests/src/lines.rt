@@ -44,6 +44,7 @@ fn spelled(alloc: Global, line: &Line) -> Result<String, AllocError> {
             size,
             content,
         } => publication(alloc, m, name, *size, content),
+        Line::Watch { m, p, name } => watch(alloc, m, p, name),
         Line::Hear { m, octets } => given(alloc, "hear", m, octets),
         Line::Order { m, octets } => given(alloc, "order", m, octets),
         Line::Ask { m, octets } => given(alloc, "ask", m, octets),
@@ -88,6 +89,7 @@ fn plain(alloc: Global, line: &Line) -> Result<String, AllocError> {
         Line::Settle { workers } => format!(in alloc; "settle {workers}"),
         Line::Dump { m, p, s, x } => format!(in alloc; "dump {m} {p} {s} {x}"),
         Line::Status { m, client, process } => format!(in alloc; "status {m} {client} {process}"),
+        Line::Told { m, w } => labelled(alloc, "told", m, &[*w]),
         Line::Summary => String::from_str(alloc, "summary"),
         Line::Traffic => String::from_str(alloc, "traffic"),
         _ => String::from_str(alloc, "no plain line"),
@@ -173,6 +175,19 @@ fn party(
     )
 }
 
+fn watch(
+    alloc: Global,
+    label: &str,
+    publisher: &Option<String>,
+    name: &Name,
+) -> Result<String, AllocError> {
+    let publisher = match publisher {
+        Some(publisher) => publisher.as_str(),
+        None => "*",
+    };
+    format!(in alloc; "watch {label} {publisher} {}", name.to_uri(alloc)?)
+}
+
 fn content_text(alloc: Global, content: &[u8]) -> Result<String, AllocError> {
     if content.len() <= 16 {
         return format!(in alloc; "hex:{}", hex::encode(alloc, content)?);
@@ -214,7 +229,7 @@ const ENDS: [(&str, &str); 9] = [
 ];
 
 // Lines in which one word is so long: the last length in its range, and the next.
-const LENGTHS_OF_WORDS: [(&str, usize, usize, u8, &str); 15] = [
+const LENGTHS_OF_WORDS: [(&str, usize, usize, u8, &str); 16] = [
     ("group /", 198, 199, b'g', ""),
     ("member a /", 198, 199, b'a', " 61"),
     ("client c /", 198, 199, b'c', " 61"),
@@ -230,6 +245,7 @@ const LENGTHS_OF_WORDS: [(&str, usize, usize, u8, &str); 15] = [
     ("block a 1 1 text:", 8_000, 8_001, b'x', ""),
     ("block a 1 1 hex:", 16_000, 16_002, b'0', ""),
     ("delete a c /", 396, 397, b'i', ""),
+    ("watch a a /", 396, 397, b'i', ""),
 ];
 
 #[test]
@@ -295,6 +311,11 @@ group /g;member a /a 61;client c /c 61;status a c 1 => taken
 group /g;member a /a 61;client c /c 61;insert a c /i 1 2;delete a c /i;order a 00 => taken
 group /g;member a /a 61;withdraw b 1 => UnknownLabel
 group /g;member a /a 61;withdraw a 65535;withdraw a 65535 => taken
+group /g;member a /a 61;watch b * / => UnknownLabel
+group /g;member a /a 61;watch a b / => UnknownLabel
+group /g;member a /a 61;told b 1 => UnknownLabel
+group /g;member a /a 61;client c /c 61;watch a c / => UnknownLabel
+group /g;member a /a 61;watch a * /;watch a a /x;told a 1 => taken
 group /g;deliver 1 a => UnknownLabel
 group /g;sync 9;advance 1;settle 1;summary;traffic => taken";
 

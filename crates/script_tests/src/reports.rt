@@ -1,3 +1,5 @@
+ghost use Rattle.std.specs.Prelude.{◌≡◌, length};
+
 use ndn_name::Name;
 use repo_catalog::Entry;
 use script_report::*;
@@ -43,6 +45,11 @@ block alice 300
 block alice 404
 block alice 200
 block alice 200 published 1 sync 18446744073709551615
+watch bob 1
+told bob 16 0
+told bob 1 7
+entry alice 1 /doc segments 1 octets 3 sha256 ba7816bf8f01cfea414140de5dae2223b00361a396177a9cb410ff61f20015ad
+entry bob 65535 /... segments 0 octets 0 sha256 e3b0c44298fc1c149afbf4c8996fb92427ae41e4649b934ca495991b7852b855
 vector bob
 vector bob alice=2 bob=0
 catalogue bob 0
@@ -142,6 +149,7 @@ fn put_readings(alloc: Global, out: &mut Vec<u8>) -> Result<(), Fail> {
             "e3b0c44298fc1c149afbf4c8996fb92427ae41e4649b934ca495991b7852b855",
         )?,
     ];
+    put_watchers(out, &labels, &entries)?;
     put_vector(out, "bob", &[], &[])?;
     put_vector(out, "bob", &labels, &[2, 0])?;
     put_catalogue(out, "bob", 0, &[], &[])?;
@@ -150,6 +158,15 @@ fn put_readings(alloc: Global, out: &mut Vec<u8>) -> Result<(), Fail> {
     put_summary(out, &labels, &[1, 0], &[2, 0], &[3, 0])?;
     put_traffic(out, 3, 2, 0, 2, 197)?;
     Ok(())
+}
+
+// What watchers are told.
+fn put_watchers(out: &mut Vec<u8>, labels: &[String], entries: &[Entry]) -> Result<(), AllocError>
+    requires { length labels.now ≡ length entries.now }
+{
+    put_watch(out, "bob", 1)?;
+    put_told(out, "bob", 16, 0, &[], &[])?;
+    put_told(out, "bob", 1, 7, labels, entries)
 }
 
 fn entry(

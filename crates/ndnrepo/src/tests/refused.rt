@@ -4,7 +4,7 @@ use std::test::*;
 
 // Behind what stands in front of all: lines, each with what it prints behind it, and the status. Where several reasons
 // hold, the first of their order is told.
-const REFUSED: [(&str, &str, Status); 23] = [
+const REFUSED: [(&str, &str, Status); 27] = [
     (
         PRE,
         "publish alice /doc 10 text:abc\n\
@@ -52,6 +52,49 @@ const REFUSED: [(&str, &str, Status); 23] = [
         "vector dora\n\
          > refused 4 2 UnknownLabel\n",
         Status::Refused { line: 4, number: 2 },
+    ),
+    (
+        PRE,
+        "told bob 1\n\
+         > refused 4 15 NoSuchWatch\n",
+        Status::Refused {
+            line: 4,
+            number: 15,
+        },
+    ),
+    // Another member's watcher is none.
+    (
+        PRE,
+        "watch alice bob /\n\
+         > watch alice 1\n\
+         told bob 1\n\
+         > refused 5 15 NoSuchWatch\n",
+        Status::Refused {
+            line: 5,
+            number: 15,
+        },
+    ),
+    (
+        PRE,
+        "watch bob dora /\n\
+         > refused 4 2 UnknownLabel\n",
+        Status::Refused { line: 4, number: 2 },
+    ),
+    // A member has 16 watchers at most.
+    (
+        PRE,
+        "watch bob * /1\n> watch bob 1\nwatch bob * /2\n> watch bob 2\nwatch bob * /3\n> watch bob 3\n\
+         watch bob * /4\n> watch bob 4\nwatch bob * /5\n> watch bob 5\nwatch bob * /6\n> watch bob 6\n\
+         watch bob * /7\n> watch bob 7\nwatch bob * /8\n> watch bob 8\nwatch bob * /9\n> watch bob 9\n\
+         watch bob * /10\n> watch bob 10\nwatch bob * /11\n> watch bob 11\nwatch bob * /12\n> watch bob 12\n\
+         watch bob * /13\n> watch bob 13\nwatch bob * /14\n> watch bob 14\nwatch bob * /15\n> watch bob 15\n\
+         watch bob * /16\n> watch bob 16\nwatch alice * /\n> watch alice 1\n\
+         watch bob * /17\n\
+         > refused 21 4 Limit\n",
+        Status::Refused {
+            line: 21,
+            number: 4,
+        },
     ),
     (
         PRE,

@@ -3,7 +3,7 @@ use repo_top::*;
 use std::test::*;
 
 // Behind what stands in front of all: lines, each with what it prints behind it, and the status.
-const ROWS: [(&str, &str, Status); 22] = [
+const ROWS: [(&str, &str, Status); 25] = [
     // A publication reaches both catalogues.
     (
         PRE,
@@ -343,6 +343,86 @@ const ROWS: [(&str, &str, Status); 22] = [
          bf7a99bce7770bcec3ee5fbacf4562\n\
          > foreign 7\n",
         Status::Foreign { line: 7 },
+    ),
+    // A watcher is told of an object under its prefix once.
+    (
+        PRE,
+        "watch bob * /doc\n\
+         > watch bob 1\n\
+         publish alice /doc/a 10 text:abc\n\
+         > publish alice 1 segments 1 sync 1\n\
+         publish alice /x 10 text:abc\n\
+         > publish alice 2 segments 1 sync 2\n\
+         settle 1\n\
+         > settle syncs 2 kept 4\n\
+         told bob 1\n\
+         > told bob 1 1\n\
+         > entry alice 1 /doc/a segments 1 octets 3 sha256 \
+         ba7816bf8f01cfea414140de5dae2223b00361a396177a9cb410ff61f20015ad\n\
+         told bob 1\n\
+         > told bob 1 0\n",
+        Status::Done,
+    ),
+    // It is not told of what was listed before it, nor of another publisher's; a restart and a deletion leave it told.
+    (
+        PRE,
+        "client carl /carl 6b34\n\
+         publish bob /doc 10 text:abc\n\
+         > publish bob 1 segments 1 sync 1\n\
+         watch bob bob /\n\
+         > watch bob 1\n\
+         watch alice * /do\n\
+         > watch alice 1\n\
+         watch bob * /\n\
+         > watch bob 2\n\
+         publish bob /doc 10 text:abc\n\
+         > publish bob 2 segments 1 sync 2\n\
+         publish alice /x 10 text:abc\n\
+         > publish alice 1 segments 1 sync 3\n\
+         settle 1\n\
+         > settle syncs 2 kept 6\n\
+         told bob 1\n\
+         > told bob 1 1\n\
+         > entry bob 2 /doc segments 1 octets 3 sha256 \
+         ba7816bf8f01cfea414140de5dae2223b00361a396177a9cb410ff61f20015ad\n\
+         restart bob\n\
+         > restart bob\n\
+         delete bob carl /doc\n\
+         > delete bob 200 packets 4\n\
+         told bob 1\n\
+         > told bob 1 0\n\
+         told alice 1\n\
+         > told alice 1 0\n\
+         told bob 2\n\
+         > told bob 2 1\n\
+         > entry alice 1 /x segments 1 octets 3 sha256 \
+         ba7816bf8f01cfea414140de5dae2223b00361a396177a9cb410ff61f20015ad\n",
+        Status::Done,
+    ),
+    // The entries that a watcher is told of come in order of publisher and number, with those that came late.
+    (
+        PRE,
+        "watch alice * /\n\
+         > watch alice 1\n\
+         publish bob /b 10 text:abc\n\
+         > publish bob 1 segments 1 sync 1\n\
+         publish alice /a 10 text:\n\
+         > publish alice 1 segments 0 sync 2\n\
+         told alice 1\n\
+         > told alice 1 1\n\
+         > entry alice 1 /a segments 0 octets 0 sha256 \
+         e3b0c44298fc1c149afbf4c8996fb92427ae41e4649b934ca495991b7852b855\n\
+         publish alice /c 10 text:\n\
+         > publish alice 2 segments 0 sync 3\n\
+         settle 1\n\
+         > settle syncs 2 kept 4\n\
+         told alice 1\n\
+         > told alice 1 2\n\
+         > entry alice 2 /c segments 0 octets 0 sha256 \
+         e3b0c44298fc1c149afbf4c8996fb92427ae41e4649b934ca495991b7852b855\n\
+         > entry bob 1 /b segments 1 octets 3 sha256 \
+         ba7816bf8f01cfea414140de5dae2223b00361a396177a9cb410ff61f20015ad\n",
+        Status::Done,
     ),
     // Nobody holds the wanted record.
     (

@@ -8,7 +8,7 @@ use Rattle.ndn_name.specs.UriText.{octets_of_digits, unescaped}
 use Rattle.svs_vector.specs.Vectors.{covers, join, join_all}
 use Rattle.svs_sync.specs.KeptVector.{after_all_kept, after_kept}
 use Rattle.svs_sync.specs.Suppression.{after_sync_event, after_sync_events}
-use Rattle.script_lang.specs.Kinds.{content_of, filled_of, hex_of, label_of, uri_of, numeral_of}
+use Rattle.script_lang.specs.Kinds.{content_of, filled_of, hex_of, label_of, publisher_of, uri_of, numeral_of}
 use Rattle.script_lang.specs.Lines.{verb_named, values_of}
 use Rattle.script_report.specs.Texts.{entries_text, line, labelled_numbers, summary_text}
 use Rattle.repo_top.specs.Lines.{lines}
@@ -54,3 +54,10 @@ unfolding decode_pairs digits number encoding behind_word component_of_text comp
     content_of filled_of hex_of label_of uri_of numeral_of verb_named values_of entries_text line labelled_numbers
     summary_text lines acted acted_by line_taken judged_line judged story_from
 returns-clause-withdrawn c = λ given. record { text_is = refl; ending_is = refl }
+
+pub returns-clause-watched : goal.returns-clause-watched
+unfolding decode_pairs digits number encoding behind_word component_of_text components_of_texts cut_at name_of_text
+    octets_of_digits unescaped covers join join_all after_all_kept after_kept after_sync_event after_sync_events
+    content_of filled_of hex_of label_of publisher_of uri_of numeral_of verb_named values_of entries_text line
+    labelled_numbers summary_text lines acted acted_by line_taken judged_line judged story_from
+returns-clause-watched c = λ given. record { text_is = refl; ending_is = refl }

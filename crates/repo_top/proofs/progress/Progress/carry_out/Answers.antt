@@ -24,13 +24,13 @@ returns-in_err-step-clause-stopped g c =
     c.args.self.now.words (event_value c.args.event.now)))
     c.in_err-step.field-0.0 c.from_residual-in_err-step.ensures.1
     (carried_stops (given_by (g.D.Draws.draw c.args.draws.now) (g.N.Net.passes c.args.net.now)) c.args.self.now.standing
-    c.replace-standing.result c.args.self.now.words (event_value c.args.event.now)
+    c.replace-standing.result c.args.self.now.watchers.items c.args.self.now.words (event_value c.args.event.now)
     c.in_ok-world.world.keys (world_of c.in_ok-world.world) c.replace-standing.ensures.value c.in_ok-world.ensures.keys
     c.in_ok-world.ensures.world c.in_err-step.field-0.0 c.in_err-step.ensures.stopped)
 
 pub returns-clause-taken : goal.returns-clause-taken
 returns-clause-taken g c = carried_says (given_by (g.D.Draws.draw c.args.draws.now) (g.N.Net.passes c.args.net.now))
-    c.args.self.now.standing c.replace-standing.result c.args.self.now.words
+    c.args.self.now.standing c.replace-standing.result c.args.self.now.watchers.items c.args.self.now.words
     (event_value c.args.event.now) c.in_ok-world.world.keys (world_of c.in_ok-world.world)
     c.replace-standing.ensures.value
     c.in_ok-world.ensures.keys c.in_ok-world.ensures.world _ c.step.new.report.items c.step.new.world.keys

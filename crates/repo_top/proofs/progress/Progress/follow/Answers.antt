@@ -1,23 +1,27 @@
-use Rattle.std.proofs.Common.{◌≡◌, map, sym, ap, subst}
+use Rattle.std.proofs.Common.{◌≡◌, ◌∙◌, [], ◌∷◌, length-append, map, sym, ap, subst}
 use Rattle.std.specs.Prelude.{OnOk, IfErr}
 use Rattle.std.specs.String.{string_bytes}
-use Rattle.script_lang.specs.Forms.{stated}
+use Rattle.script_lang.specs.Kinds.{Named, Number, Text}
+use Rattle.script_lang.specs.Forms.{publisher_value, stated}
 use Rattle.repo_top.specs.Judging.{Verdict, given_by, says}
-use Rattle.repo_top.specs.Progressing.{IsStop, progress_state}
+use Rattle.repo_top.specs.Progressing.{IsStop, LineIsChecked, progress_state}
 use Rattle.repo_top.proofs.Progressings.{grouped, member_declared, client_declared, declared_says, event_acts, is_event}
+use Rattle.repo_top.proofs.WatchLines.{told_taken, watch_taken}
 use Rattle.repo_top.proofs.progress.Progress.follow.Goals as goal
 
 pub declare_group-requires : goal.declare_group-requires
 declare_group-requires g c =
     let one = grouped (given_by (g.D.Draws.draw c.args.draws.now) (g.N.Net.passes c.args.net.now))
-    (map string_bytes c.args.self.now.labels.items) c.args.self.now.standing c.args.self.now.words
+    (map string_bytes c.args.self.now.labels.items) c.args.self.now.standing c.args.self.now.watchers.items
+    c.args.self.now.words
     (stated c.args.line) c.in-Group.name (ap stated c.in-Group.is) c.requires.checked in
-    record { name = one.plain; group = one.group; early = one.early; named = one.named }
+    record { name = one.plain; group = one.group; early = one.early; named = one.named; watched = one.watched }
 
 pub returns-in-Group-clause-taken : goal.returns-in-Group-clause-taken
 returns-in-Group-clause-taken g c =
     let one = grouped (given_by (g.D.Draws.draw c.args.draws.now) (g.N.Net.passes c.args.net.now))
-    (map string_bytes c.args.self.now.labels.items) c.args.self.now.standing c.args.self.now.words
+    (map string_bytes c.args.self.now.labels.items) c.args.self.now.standing c.args.self.now.watchers.items
+    c.args.self.now.words
     (stated c.args.line) c.in-Group.name (ap stated c.in-Group.is) c.requires.checked in
     declared_says c.declare_group.result _ c.args.report.now.items _ _ one.says c.requires.empty
     c.declare_group.ensures.state
@@ -25,7 +29,8 @@ returns-in-Group-clause-taken g c =
 pub declare_member-requires : goal.declare_member-requires
 declare_member-requires g c =
     let one = member_declared (given_by (g.D.Draws.draw c.args.draws.now) (g.N.Net.passes c.args.net.now))
-    (map string_bytes c.args.self.now.labels.items) c.args.self.now.standing c.args.self.now.words
+    (map string_bytes c.args.self.now.labels.items) c.args.self.now.standing c.args.self.now.watchers.items
+    c.args.self.now.words
     (stated c.args.line) (string_bytes c.in-Member.label) c.in-Member.name c.in-Member.key.items c.deref.result.now
     (ap stated c.in-Member.is) c.deref.ensures.value c.requires.checked in
     record {
@@ -38,12 +43,14 @@ declare_member-requires g c =
       apart = one.0.apart;
       few = one.1;
       named = one.0.named;
+      watched = sym (length-append c.args.self.now.watchers.items ([] ∷ [])) ∙ one.0.watched;
     }
 
 pub returns-in-Member-clause-taken : goal.returns-in-Member-clause-taken
 returns-in-Member-clause-taken g c =
     let one = member_declared (given_by (g.D.Draws.draw c.args.draws.now) (g.N.Net.passes c.args.net.now))
-    (map string_bytes c.args.self.now.labels.items) c.args.self.now.standing c.args.self.now.words
+    (map string_bytes c.args.self.now.labels.items) c.args.self.now.standing c.args.self.now.watchers.items
+    c.args.self.now.words
     (stated c.args.line) (string_bytes c.in-Member.label) c.in-Member.name c.in-Member.key.items c.deref.result.now
     (ap stated c.in-Member.is) c.deref.ensures.value c.requires.checked in
     declared_says c.declare_member.result _ c.args.report.now.items _ _ one.0.says c.requires.empty
@@ -52,7 +59,8 @@ returns-in-Member-clause-taken g c =
 pub declare_client-requires : goal.declare_client-requires
 declare_client-requires g c =
     let one = client_declared (given_by (g.D.Draws.draw c.args.draws.now) (g.N.Net.passes c.args.net.now))
-    (map string_bytes c.args.self.now.labels.items) c.args.self.now.standing c.args.self.now.words
+    (map string_bytes c.args.self.now.labels.items) c.args.self.now.standing c.args.self.now.watchers.items
+    c.args.self.now.words
     (stated c.args.line) (string_bytes c.in-Client._label) c.in-Client.name c.in-Client.key.items
     c.deref-in-Client.result.now (ap stated c.in-Client.is) c.deref-in-Client.ensures.value c.requires.checked in
     record {
@@ -65,12 +73,14 @@ declare_client-requires g c =
       apart = one.0.apart;
       few = one.1;
       named = one.0.named;
+      watched = one.0.watched;
     }
 
 pub returns-in-Client-clause-taken : goal.returns-in-Client-clause-taken
 returns-in-Client-clause-taken g c =
     let one = client_declared (given_by (g.D.Draws.draw c.args.draws.now) (g.N.Net.passes c.args.net.now))
-    (map string_bytes c.args.self.now.labels.items) c.args.self.now.standing c.args.self.now.words
+    (map string_bytes c.args.self.now.labels.items) c.args.self.now.standing c.args.self.now.watchers.items
+    c.args.self.now.words
     (stated c.args.line) (string_bytes c.in-Client._label) c.in-Client.name c.in-Client.key.items
     c.deref-in-Client.result.now (ap stated c.in-Client.is) c.deref-in-Client.ensures.value c.requires.checked in
     declared_says c.declare_client.result _ c.args.report.now.items _ _ one.0.says c.requires.empty
@@ -79,40 +89,60 @@ returns-in-Client-clause-taken g c =
 pub act-requires-clause-event : goal.act-requires-clause-event
 act-requires-clause-event g c κs within =
     is_event c.args.line c.in_default.not-Group c.in_default.not-Member c.in_default.not-Client
+    c.in_default.not-Watch c.in_default.not-Told
 
 pub act-requires-clause-fit : goal.act-requires-clause-fit
 act-requires-clause-fit g c κs within =
     (event_acts (given_by (g.D.Draws.draw c.args.draws.now) (g.N.Net.passes c.args.net.now))
-    (map string_bytes c.args.self.now.labels.items) c.args.self.now.standing c.args.self.now.words c.args.line
-    (is_event c.args.line c.in_default.not-Group c.in_default.not-Member c.in_default.not-Client)
+    (map string_bytes c.args.self.now.labels.items) c.args.self.now.standing c.args.self.now.watchers.items
+    c.args.self.now.words c.args.line
+    (is_event c.args.line c.in_default.not-Group c.in_default.not-Member c.in_default.not-Client
+    c.in_default.not-Watch c.in_default.not-Told)
     c.requires.checked).fit
 
 pub act-requires-clause-named : goal.act-requires-clause-named
 act-requires-clause-named g c κs within =
     (event_acts (given_by (g.D.Draws.draw c.args.draws.now) (g.N.Net.passes c.args.net.now))
-    (map string_bytes c.args.self.now.labels.items) c.args.self.now.standing c.args.self.now.words c.args.line
-    (is_event c.args.line c.in_default.not-Group c.in_default.not-Member c.in_default.not-Client)
+    (map string_bytes c.args.self.now.labels.items) c.args.self.now.standing c.args.self.now.watchers.items
+    c.args.self.now.words c.args.line
+    (is_event c.args.line c.in_default.not-Group c.in_default.not-Member c.in_default.not-Client
+    c.in_default.not-Watch c.in_default.not-Told)
     c.requires.checked).named
 
 pub act-requires-clause-group : goal.act-requires-clause-group
 act-requires-clause-group g c κs within =
     (event_acts (given_by (g.D.Draws.draw c.args.draws.now) (g.N.Net.passes c.args.net.now))
-    (map string_bytes c.args.self.now.labels.items) c.args.self.now.standing c.args.self.now.words c.args.line
-    (is_event c.args.line c.in_default.not-Group c.in_default.not-Member c.in_default.not-Client)
+    (map string_bytes c.args.self.now.labels.items) c.args.self.now.standing c.args.self.now.watchers.items
+    c.args.self.now.words c.args.line
+    (is_event c.args.line c.in_default.not-Group c.in_default.not-Member c.in_default.not-Client
+    c.in_default.not-Watch c.in_default.not-Told)
     c.requires.checked).group
 
 pub act-requires-clause-events : goal.act-requires-clause-events
 act-requires-clause-events g c κs within =
     (event_acts (given_by (g.D.Draws.draw c.args.draws.now) (g.N.Net.passes c.args.net.now))
-    (map string_bytes c.args.self.now.labels.items) c.args.self.now.standing c.args.self.now.words c.args.line
-    (is_event c.args.line c.in_default.not-Group c.in_default.not-Member c.in_default.not-Client)
+    (map string_bytes c.args.self.now.labels.items) c.args.self.now.standing c.args.self.now.watchers.items
+    c.args.self.now.words c.args.line
+    (is_event c.args.line c.in_default.not-Group c.in_default.not-Member c.in_default.not-Client
+    c.in_default.not-Watch c.in_default.not-Told)
     c.requires.checked).events
+
+pub act-requires-clause-watched : goal.act-requires-clause-watched
+act-requires-clause-watched g c κs within =
+    (event_acts (given_by (g.D.Draws.draw c.args.draws.now) (g.N.Net.passes c.args.net.now))
+    (map string_bytes c.args.self.now.labels.items) c.args.self.now.standing c.args.self.now.watchers.items
+    c.args.self.now.words c.args.line
+    (is_event c.args.line c.in_default.not-Group c.in_default.not-Member c.in_default.not-Client
+    c.in_default.not-Watch c.in_default.not-Told)
+    c.requires.checked).watched
 
 pub returns-in_default-clause-taken : goal.returns-in_default-clause-taken
 returns-in_default-clause-taken g c =
     let one = event_acts (given_by (g.D.Draws.draw c.args.draws.now) (g.N.Net.passes c.args.net.now))
-    (map string_bytes c.args.self.now.labels.items) c.args.self.now.standing c.args.self.now.words c.args.line
-    (is_event c.args.line c.in_default.not-Group c.in_default.not-Member c.in_default.not-Client) c.requires.checked in
+    (map string_bytes c.args.self.now.labels.items) c.args.self.now.standing c.args.self.now.watchers.items
+    c.args.self.now.words c.args.line
+    (is_event c.args.line c.in_default.not-Group c.in_default.not-Member c.in_default.not-Client
+    c.in_default.not-Watch c.in_default.not-Told) c.requires.checked in
     subst (λ (v : Verdict). OnOk c.act.result (v ≡ says c.act.new.report.items (progress_state c.act.new.self)))
     (sym one.acts)
     c.act.ensures.taken
@@ -120,6 +150,50 @@ returns-in_default-clause-taken g c =
 pub returns-in_default-clause-stopped : goal.returns-in_default-clause-stopped
 returns-in_default-clause-stopped g c =
     let one = event_acts (given_by (g.D.Draws.draw c.args.draws.now) (g.N.Net.passes c.args.net.now))
-    (map string_bytes c.args.self.now.labels.items) c.args.self.now.standing c.args.self.now.words c.args.line
-    (is_event c.args.line c.in_default.not-Group c.in_default.not-Member c.in_default.not-Client) c.requires.checked in
+    (map string_bytes c.args.self.now.labels.items) c.args.self.now.standing c.args.self.now.watchers.items
+    c.args.self.now.words c.args.line
+    (is_event c.args.line c.in_default.not-Group c.in_default.not-Member c.in_default.not-Client
+    c.in_default.not-Watch c.in_default.not-Told) c.requires.checked in
     subst (λ (v : Verdict). IfErr c.act.result (IsStop v)) (sym one.acts) c.act.ensures.stopped
+
+pub watch-requires-clause-checked : goal.watch-requires-clause-checked
+watch-requires-clause-checked g c =
+    subst (LineIsChecked (map string_bytes c.args.self.now.labels.items) c.args.self.now.standing
+    c.args.self.now.watchers.items c.args.self.now.words) (ap stated c.in-Watch.is) c.requires.checked
+
+pub returns-in-Watch-clause-taken : goal.returns-in-Watch-clause-taken
+returns-in-Watch-clause-taken g c =
+    subst (λ (v : Verdict). OnOk c.watch.result (v ≡ says c.watch.new.report.items (progress_state c.watch.new.self)))
+    (sym (watch_taken (given_by (g.D.Draws.draw c.args.draws.now) (g.N.Net.passes c.args.net.now))
+    (progress_state c.args.self.now) c.args.self.now.words (stated c.args.line)
+    (Text (string_bytes c.in-Watch.m) ∷ publisher_value c.in-Watch.p ∷ Named c.in-Watch.name ∷ [])
+    (ap stated c.in-Watch.is))) c.watch.ensures.taken
+
+pub returns-in-Watch-clause-stopped : goal.returns-in-Watch-clause-stopped
+returns-in-Watch-clause-stopped g c =
+    subst (λ (v : Verdict). IfErr c.watch.result (IsStop v))
+    (sym (watch_taken (given_by (g.D.Draws.draw c.args.draws.now) (g.N.Net.passes c.args.net.now))
+    (progress_state c.args.self.now) c.args.self.now.words (stated c.args.line)
+    (Text (string_bytes c.in-Watch.m) ∷ publisher_value c.in-Watch.p ∷ Named c.in-Watch.name ∷ [])
+    (ap stated c.in-Watch.is))) c.watch.ensures.stopped
+
+pub tell-requires-clause-checked : goal.tell-requires-clause-checked
+tell-requires-clause-checked g c =
+    subst (LineIsChecked (map string_bytes c.args.self.now.labels.items) c.args.self.now.standing
+    c.args.self.now.watchers.items c.args.self.now.words) (ap stated c.in-Told.is) c.requires.checked
+
+pub returns-in-Told-clause-taken : goal.returns-in-Told-clause-taken
+returns-in-Told-clause-taken g c =
+    subst (λ (v : Verdict). OnOk c.tell.result (v ≡ says c.tell.new.report.items (progress_state c.tell.new.self)))
+    (sym (told_taken (given_by (g.D.Draws.draw c.args.draws.now) (g.N.Net.passes c.args.net.now))
+    (progress_state c.args.self.now) c.args.self.now.words (stated c.args.line)
+    (Text (string_bytes c.in-Told.m) ∷ Number c.in-Told.w ∷ [])
+    (ap stated c.in-Told.is))) c.tell.ensures.taken
+
+pub returns-in-Told-clause-stopped : goal.returns-in-Told-clause-stopped
+returns-in-Told-clause-stopped g c =
+    subst (λ (v : Verdict). IfErr c.tell.result (IsStop v))
+    (sym (told_taken (given_by (g.D.Draws.draw c.args.draws.now) (g.N.Net.passes c.args.net.now))
+    (progress_state c.args.self.now) c.args.self.now.words (stated c.args.line)
+    (Text (string_bytes c.in-Told.m) ∷ Number c.in-Told.w ∷ [])
+    (ap stated c.in-Told.is))) c.tell.ensures.stopped

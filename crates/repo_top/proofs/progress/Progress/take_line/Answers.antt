@@ -23,12 +23,12 @@ returns-clause-taken g c =
     subst (λ (v : Verdict). OnOk c.follow.result (v ≡ says c.follow.new.report.items
     (progress_state c.follow.new.self)))
     (sym (line_is_taken (given_by (g.D.Draws.draw c.args.draws.now) (g.N.Net.passes c.args.net.now))
-    c.args.self.now.standing
+    c.args.self.now.standing c.args.self.now.watchers.items
     c.args.self.now.words c.check.new.self (stated c.args.line) c.in_ok-check.ensures.ok)) c.follow.ensures.taken
 
 pub returns-clause-stopped : goal.returns-clause-stopped
 returns-clause-stopped g c =
     subst (λ (v : Verdict). IfErr c.follow.result (IsStop v))
     (sym (line_is_taken (given_by (g.D.Draws.draw c.args.draws.now) (g.N.Net.passes c.args.net.now))
-    c.args.self.now.standing
+    c.args.self.now.standing c.args.self.now.watchers.items
     c.args.self.now.words c.check.new.self (stated c.args.line) c.in_ok-check.ensures.ok)) c.follow.ensures.stopped

@@ -1,0 +1,331 @@
+-- What lines of watchers come to, as the run keeps it.
+use Rattle.std.proofs.Common.{◌≡◌, ◌∙◌, inl, inr, ℕ, ◌+◌, ◌<◌, Bool, true, false, not, nat_le, List, [], ◌∷◌}
+use Rattle.std.proofs.Common.{length, map, get_or, set, Option, Some, None, String, Global, refl, sym, ap, subst}
+use Rattle.std.proofs.Common.{arith, if◌then◌else◌, suc, unwrap_or, zero}
+use Rattle.std.specs.Prelude.{is_some}
+use Rattle.std.specs.List.{All}
+use Rattle.std.specs.Ordering.{is_eq}
+use Rattle.std.proofs.lemmas.List.{length-map}
+use Rattle.std.proofs.lemmas.List.Elements.{All-cons, All-nil}
+use Rattle.ndn_name.specs.Names.{Component}
+use Rattle.repo_plan.specs.Parts.{Pair}
+use Rattle.repo_plan.proofs.Orders.{exact_pairs}
+use Rattle.sorted_lists.proofs.Orders.{less_back}
+use Rattle.sorted_lists.proofs.Sets.{In, eq_itself}
+use Rattle.repo_catalog.specs.declared.entry.Entry.{Entry}
+use Rattle.repo_catalog.specs.Entries.{IsCatalogue, entry_of, is_of, lists, publication_of}
+use Rattle.repo_catalog.proofs.NamedLemmas.{find_first}
+use Rattle.repo_watch.specs.declared.pattern.Pattern.{Pattern}
+use Rattle.repo_watch.specs.Watching.{Watching, after_add, after_take, is_news, news_of, watch_of}
+use Rattle.group_model.specs.World.{World, catalogue_at, logs, member, opening_world}
+use Rattle.group_model.specs.Sound.{IsSoundGroup}
+use Rattle.group_model.proofs.PublicLaws.{lists_in_order}
+use Rattle.group_model.proofs.Lists.{from_filter}
+use Rattle.repo_member.specs.Groups.{GroupKeys}
+use Rattle.repo_member.specs.InGroup.{in_group}
+use Rattle.bench_world.specs.EventValues.{EventValue}
+use Rattle.bench_world.specs.Worlds.{GroupState, drawing, world_of}
+use Rattle.bench_world.proofs.Names.{names_all}
+use Rattle.script_lang.specs.declared.verb.Verb.TheVariants as verb
+use Rattle.script_lang.specs.Kinds.{Value, Text, Number, Named}
+use Rattle.script_lang.specs.Forms.{Stated, publisher_value, said}
+use Rattle.script_lang.specs.Checking.{Declared, Party, are_members, has_label, labels_in, party_label}
+use Rattle.script_lang.proofs.Conditions.{and_left, and_right}
+use Rattle.script_report.specs.Texts.{watch_text}
+use Rattle.repo_top.specs.declared.progress.Standing.{Standing}
+use Rattle.repo_top.specs.declared.refusal.Refusal.TheVariants as refusal
+use Rattle.repo_top.specs.declared.stop.Stop.{Stop}
+use Rattle.repo_top.specs.declared.stop.Stop.TheVariants as stop
+use Rattle.repo_top.specs.Labels.{label_at}
+use Rattle.repo_top.specs.SaidEvents.{party_number}
+use Rattle.repo_top.specs.ToldTexts.{news_in, news_text}
+use Rattle.repo_top.specs.Judging.{Given, State, begun_world, found_world, line_taken, refused, says, told_at, told_by}
+use Rattle.repo_top.specs.Judging.{watched, watched_by, watchers_at, watchers_of, with_watchers}
+use Rattle.repo_top.specs.Progressing.{IsStop, IsStopWhere, LineIsChecked, NamesAreDeclared, Stands, has_group}
+use Rattle.repo_top.specs.Progressing.{node_of, standing_keys, state_of, world_in}
+use Rattle.repo_top.proofs.Fitting.{number_within}
+use Rattle.repo_top.proofs.Judgings.{IsEvent, event_after}
+use Rattle.repo_top.proofs.HeadlineNames.{news_among}
+
+-- ---- what is known of the line
+
+-- The line names a member, and what is kept is there.
+pub record OfMember (labels : List (List ℕ)) (standing : Standing) (ws : List (List Watching)) (e : Declared)
+    (label : List ℕ) : Type 0 where
+  pub known : has_label label e.members ≡ true
+  pub there : party_number label e.members < length e.members
+  pub named : NamesAreDeclared labels (standing_keys standing) e
+  pub group : e.group ≡ true
+  pub events : e.events ≡ true
+  pub begun : has_group standing ≡ true
+  pub watched : length ws ≡ length e.members
+
+module _ (labels : List (List ℕ)) (standing : Standing) (ws : List (List Watching)) (e : Declared) (s : Stated) where
+  of_member : (label : List ℕ) (before : Declared) → Stands labels standing ws before → IsEvent before e s
+      → has_label label e.members ≡ true → OfMember labels standing ws e label
+  of_member label before stands event known = record {
+    known = known;
+    there = number_within label e.members e.members refl known;
+    named = record {
+      labels = stands.named.labels ∙ ap (map party_label) (sym event.members);
+      members = ap (map node_of) event.members ∙ stands.named.members;
+      clients = ap (map node_of) event.clients ∙ stands.named.clients;
+    };
+    group = event.group;
+    events = event.events;
+    begun = sym stands.group ∙ event.there;
+    watched = stands.watched ∙ ap (λ (ps : List Party). length ps) (sym event.members);
+  }
+
+pub told_checked : (labels : List (List ℕ)) (standing : Standing) (ws : List (List Watching)) (e : Declared)
+    (label : List ℕ) (number : ℕ)
+    → LineIsChecked labels standing ws e (said verb.Told (Text label ∷ Number number ∷ []))
+    → OfMember labels standing ws e label
+told_checked labels standing ws e label number checked =
+    let line : Stated = said verb.Told (Text label ∷ Number number ∷ []) in
+    let event = event_after checked.before e line checked.after in
+    of_member labels standing ws e line label checked.before checked.stands event
+    (and_left (has_label label e.members) _ event.known)
+
+-- Each member has a label.
+pub label_there : {X : Type 0} (f : X → List ℕ) (xs : List X) (keys : GroupKeys) (d : Declared)
+    → NamesAreDeclared (map f xs) keys d → (m : ℕ) → m < length d.members → m < length xs
+label_there f xs keys d named m there =
+    let labels : length (map f xs) ≡ length (map party_label d.members) =
+    ap (λ (ls : List (List ℕ)). length ls) named.labels in
+    omega (arith, there, labels, length-map xs f, length-map d.members party_label)
+
+-- A watcher is of a publisher that is declared, or of every one.
+pub record OfWatch (labels : List (List ℕ)) (standing : Standing) (ws : List (List Watching)) (e : Declared)
+    (label : List ℕ) (publisher : Value) : Type 0 where
+  pub of : OfMember labels standing ws e label
+  pub asked : are_members e (labels_in (publisher ∷ [])) ≡ true
+
+publisher_known : (e : Declared) (p : Option (String Global)) (prefix : List Component)
+    → are_members e (labels_in (publisher_value p ∷ Named prefix ∷ [])) ≡ true
+    → are_members e (labels_in (publisher_value p ∷ [])) ≡ true
+publisher_known e None prefix known = refl
+publisher_known e (Some label) prefix known = known
+
+pub watch_checked : (labels : List (List ℕ)) (standing : Standing) (ws : List (List Watching)) (e : Declared)
+    (label : List ℕ) (p : Option (String Global)) (prefix : List Component)
+    → LineIsChecked labels standing ws e (said verb.Watch (Text label ∷ publisher_value p ∷ Named prefix ∷ []))
+    → OfWatch labels standing ws e label (publisher_value p)
+watch_checked labels standing ws e label p prefix checked =
+    let line : Stated = said verb.Watch (Text label ∷ publisher_value p ∷ Named prefix ∷ []) in
+    let event = event_after checked.before e line checked.after in
+    record {
+      of = of_member labels standing ws e line label checked.before checked.stands event
+          (and_left (has_label label e.members) _ event.known);
+      asked = publisher_known e p prefix (and_right (has_label label e.members) _ event.known);
+    }
+
+-- ---- what it comes to
+
+watch_says : (given : Given) (s : State) (d : Declared) (values : List Value)
+    → line_taken given s d (said verb.Watch values) ≡ watched_by (found_world given s) s d values
+unfolding line_taken
+watch_says given s d values = refl
+
+told_says : (given : Given) (s : State) (d : Declared) (values : List Value)
+    → line_taken given s d (said verb.Told values) ≡ told_by (found_world given s) s d values
+unfolding line_taken
+told_says given s d values = refl
+
+pub watch_taken : (given : Given) (s : State) (d : Declared) (line : Stated) (values : List Value)
+    → line ≡ said verb.Watch values → line_taken given s d line ≡ watched_by (found_world given s) s d values
+watch_taken given s d line values is = ap (line_taken given s d) is ∙ watch_says given s d values
+
+pub told_taken : (given : Given) (s : State) (d : Declared) (line : Stated) (values : List Value)
+    → line ≡ said verb.Told values → line_taken given s d line ≡ told_by (found_world given s) s d values
+told_taken given s d line values is = ap (line_taken given s d) is ∙ told_says given s d values
+
+-- A member and a pattern are the same by their names.
+pub watched_same : (w : World) (s : State) (d : Declared) (m n : ℕ) (pattern asked : Pattern) → m ≡ n
+    → pattern ≡ asked → watched w s d m pattern ≡ watched w s d n asked
+watched_same w s d m n pattern asked p q = λ i. watched w s d (p i) (q i)
+
+pub told_same : (w : World) (s : State) (d : Declared) (m n number : ℕ) → m ≡ n
+    → told_at w s d m number ≡ told_at w s d n number
+told_same w s d m n number p = λ i. told_at w s d (p i) number
+
+-- ---- stops
+
+pub watched_stops : (w : World) (s : State) (d : Declared) (m : ℕ) (pattern : Pattern) (stop : Stop)
+    → IsStopWhere (nat_le 16 (length (watchers_at s m))) refusal.Limit stop → IsStop (watched w s d m pattern) stop
+watched_stops w s d m pattern stop.NoMemory h = tt
+watched_stops w s d m pattern (stop.Refused why) h =
+    ap (λ (full : Bool). if full then refused refusal.Limit
+    else says (watch_text (label_at (map party_label d.members) m) (length (watchers_at s m) + 1))
+    (with_watchers w s d m (after_add pattern (catalogue_at w m) (watchers_at s m)))) h.0 ∙ ap refused (sym h.1)
+watched_stops w s d m pattern stop.Foreign h = absurd h
+
+not_true : (b : Bool) → not b ≡ true → b ≡ false
+not_true true h = cc
+not_true false h = refl
+
+pub told_stops : (w : World) (s : State) (d : Declared) (m number : ℕ) (stop : Stop)
+    → IsStopWhere (not (is_some (watch_of number (watchers_at s m)))) refusal.NoSuchWatch stop
+    → IsStop (told_at w s d m number) stop
+told_stops w s d m number stop.NoMemory h = tt
+told_stops w s d m number (stop.Refused why) h =
+    ap (λ (found : Bool). if found
+    then says (news_text (map party_label d.members) m number
+    (news_in (watch_of number (watchers_at s m)) (catalogue_at w m)))
+    (with_watchers w s d m (after_take number (catalogue_at w m) (watchers_at s m)))
+    else refused refusal.NoSuchWatch) (not_true (is_some (watch_of number (watchers_at s m))) h.0)
+    ∙ ap refused (sym h.1)
+told_stops w s d m number stop.Foreign h = absurd h
+
+-- ---- what is kept behind it
+
+watched_here : (w : World) (s : State) (d : Declared) (m : ℕ) (pattern : Pattern) (label report : List ℕ)
+    (after : List (List Watching)) → nat_le 16 (length (watchers_at s m)) ≡ false
+    → after ≡ set s.watchers m (after_add pattern (catalogue_at w m) (watchers_at s m))
+    → report ≡ watch_text label (length (watchers_at s m) + 1) → label ≡ label_at (map party_label d.members) m
+    → watched w s d m pattern ≡ says report (record { declared = d; keys = s.keys; world = Some w; watchers = after })
+watched_here w s d m pattern label report after room new text named =
+    let number : ℕ = length (watchers_at s m) + 1 in
+    let said_it : report ≡ watch_text (label_at (map party_label d.members) m) number =
+    text ∙ ap (λ (l : List ℕ). watch_text l number) named in
+    ap (λ (full : Bool). if full then refused refusal.Limit
+    else says (watch_text (label_at (map party_label d.members) m) number)
+    (with_watchers w s d m (after_add pattern (catalogue_at w m) (watchers_at s m)))) room
+    ∙ (λ i. says (sym said_it i) (record { declared = d; keys = s.keys; world = Some w; watchers = sym new i }))
+
+told_here : (w : World) (s : State) (d : Declared) (m number : ℕ) (labels : List (List ℕ)) (report : List ℕ)
+    (after : List (List Watching)) → is_some (watch_of number (watchers_at s m)) ≡ true
+    → after ≡ set s.watchers m (after_take number (catalogue_at w m) (watchers_at s m))
+    → report ≡ news_text labels m number (news_in (watch_of number (watchers_at s m)) (catalogue_at w m))
+    → labels ≡ map party_label d.members
+    → told_at w s d m number ≡ says report (record { declared = d; keys = s.keys; world = Some w; watchers = after })
+told_here w s d m number labels report after found new text named =
+    let news : List Entry = news_in (watch_of number (watchers_at s m)) (catalogue_at w m) in
+    let said_it : report ≡ news_text (map party_label d.members) m number news =
+    text ∙ ap (λ (ls : List (List ℕ)). news_text ls m number news) named in
+    ap (λ (there : Bool). if there then says (news_text (map party_label d.members) m number news)
+    (with_watchers w s d m (after_take number (catalogue_at w m) (watchers_at s m)))
+    else refused refusal.NoSuchWatch) found
+    ∙ (λ i. says (sym said_it i) (record { declared = d; keys = s.keys; world = Some w; watchers = sym new i }))
+
+module _ (draw : ℕ → ℕ → ℕ) (standing found : Standing) (ws : List (List Watching)) (d : Declared) (keys : GroupKeys)
+    (w : World) (is : found ≡ standing) (k : keys ≡ standing_keys found)
+    (v : w ≡ unwrap_or (world_in found)
+    (opening_world (drawing draw) (length (standing_keys found).members.names))) where
+  keys_are : keys ≡ standing_keys standing
+  keys_are = k ∙ ap standing_keys is
+
+  world_is : w ≡ begun_world draw (state_of standing ws d)
+  world_is = v ∙ ap (λ (x : Standing). begun_world draw (state_of x ws d)) is
+
+  pub watch_said : (m : ℕ) (pattern : Pattern) (label report : List ℕ) (after : List (List Watching))
+      → nat_le 16 (length (watchers_of ws m)) ≡ false
+      → after ≡ set ws m (after_add pattern (catalogue_at w m) (watchers_of ws m))
+      → report ≡ watch_text label (length (watchers_of ws m) + 1) → label ≡ label_at (map party_label d.members) m
+      → watched (begun_world draw (state_of standing ws d)) (state_of standing ws d) d m pattern
+      ≡ says report (record { declared = d; keys = keys; world = Some w; watchers = after })
+  watch_said m pattern label report after room new text named =
+      ap (λ (x : World). watched x (state_of standing ws d) d m pattern) (sym world_is)
+      ∙ watched_here w (state_of standing ws d) d m pattern label report after room new text named
+      ∙ ap (λ (x : GroupKeys). says report (record { declared = d; keys = x; world = Some w; watchers = after }))
+      (sym keys_are)
+
+  pub news_said : (m number : ℕ) (labels : List (List ℕ)) (report : List ℕ) (after : List (List Watching))
+      → is_some (watch_of number (watchers_of ws m)) ≡ true
+      → after ≡ set ws m (after_take number (catalogue_at w m) (watchers_of ws m))
+      → report ≡ news_text labels m number (news_in (watch_of number (watchers_of ws m)) (catalogue_at w m))
+      → labels ≡ map party_label d.members
+      → told_at (begun_world draw (state_of standing ws d)) (state_of standing ws d) d m number
+      ≡ says report (record { declared = d; keys = keys; world = Some w; watchers = after })
+  news_said m number labels report after there new text named =
+      ap (λ (x : World). told_at x (state_of standing ws d) d m number) (sym world_is)
+      ∙ told_here w (state_of standing ws d) d m number labels report after there new text named
+      ∙ ap (λ (x : GroupKeys). says report (record { declared = d; keys = x; world = Some w; watchers = after }))
+      (sym keys_are)
+
+-- ---- the entries of the news
+
+listed_in : (entries : List Entry) (e : Entry) → IsCatalogue entries → In e entries
+    → entry_of (publication_of e) entries ≡ Some e
+listed_in entries e r among =
+    find_first (is_of (publication_of e)) entries e r among (eq_itself exact_pairs (publication_of e))
+    (λ f j l. ap is_eq (less_back exact_pairs.total (publication_of f) (publication_of e) l))
+
+found_again : (entries : List Entry) → IsCatalogue entries → (es : List Entry) → ((e : Entry) → In e es → In e entries)
+    → map (λ pair. entry_of pair entries) (map publication_of es) ≡ map Some es
+found_again entries r [] among = refl
+found_again entries r (e ∷ es) among = λ i.
+    listed_in entries e r (among e (inl refl)) i ∷ found_again entries r es (λ f j. among f (inr j)) i
+
+all_listed : (entries : List Entry) → IsCatalogue entries → (es : List Entry) → ((e : Entry) → In e es → In e entries)
+    → All (λ pair. lists pair entries ≡ true) (map publication_of es)
+all_listed entries r [] among = All-nil (λ pair. lists pair entries ≡ true)
+all_listed entries r (e ∷ es) among =
+    All-cons (λ pair. lists pair entries ≡ true) (publication_of e) (map publication_of es)
+    (ap is_some (listed_in entries e r (among e (inl refl)))) (all_listed entries r es (λ f j. among f (inr j)))
+
+same_each : (xs ys : List Entry) → map Some xs ≡ map Some ys → xs ≡ ys
+same_each [] [] h = refl
+same_each [] (y ∷ ys) h = cc
+same_each (x ∷ xs) [] h = cc
+same_each (x ∷ xs) (y ∷ ys) h =
+    let first : x ≡ y = cc in
+    let others : map Some xs ≡ map Some ys = cc in
+    λ i. first i ∷ same_each xs ys others i
+
+among_all : (o : Option Watching) (entries : List Entry) (e : Entry) → In e (news_in o entries) → In e entries
+among_all None entries e i = absurd i
+among_all (Some watching) entries e i = (from_filter (is_news watching) entries e i).0
+
+pub news_pairs : (o : Option Watching) (entries : List Entry)
+    → news_of o entries ≡ map publication_of (news_in o entries)
+news_pairs None entries = refl
+news_pairs (Some watching) entries = refl
+
+pub news_listed : (o : Option Watching) (entries : List Entry) (pairs : List Pair) → IsCatalogue entries
+    → pairs ≡ news_of o entries → All (λ pair. lists pair entries ≡ true) pairs
+news_listed o entries pairs r are =
+    subst (λ ps. All (λ pair. lists pair entries ≡ true) ps) (sym (are ∙ news_pairs o entries))
+    (all_listed entries r (news_in o entries) (among_all o entries))
+
+pub news_copied : (o : Option Watching) (entries copies : List Entry) (pairs : List Pair) → IsCatalogue entries
+    → pairs ≡ news_of o entries → map Some copies ≡ map (λ pair. entry_of pair entries) pairs
+    → copies ≡ news_in o entries
+news_copied o entries copies pairs r are copied =
+    same_each copies (news_in o entries)
+    (copied ∙ ap (map (λ pair. entry_of pair entries)) (are ∙ news_pairs o entries)
+    ∙ found_again entries r (news_in o entries) (among_all o entries))
+
+-- ---- of a world
+
+module _ (state : GroupState) (m : ℕ) (entries : List Entry)
+    (are : entries ≡ catalogue_at (world_of state) m) where
+  in_order : IsCatalogue entries
+  in_order = subst IsCatalogue (sym are) (lists_in_order (logs (world_of state)) (member (world_of state) m))
+
+  pub all_there : (o : Option Watching) (pairs : List Pair) → pairs ≡ news_of o entries
+      → All (λ pair. lists pair entries ≡ true) pairs
+  all_there o pairs told = news_listed o entries pairs in_order told
+
+  pub copies_are : (o : Option Watching) (copies : List Entry) (pairs : List Pair) → pairs ≡ news_of o entries
+      → map Some copies ≡ map (λ pair. entry_of pair entries) pairs
+      → copies ≡ news_in o (catalogue_at (world_of state) m)
+  copies_are o copies pairs told copied =
+      news_copied o entries copies pairs in_order told copied ∙ ap (news_in o) are
+
+  pub publishers_are : (n : ℕ) (o : Option Watching) (copies : List Entry)
+      → length state.members ≡ length state.keys.members.names → IsSoundGroup (world_of state)
+      → n ≡ length state.keys.members.names → m < length state.keys.members.names
+      → copies ≡ news_in o (catalogue_at (world_of state) m) → All (λ (e : Entry). e.publisher < n) copies
+  publishers_are n o copies many sound count there copied =
+      subst (λ (es : List Entry). All (λ (e : Entry). e.publisher < n) es) (sym copied)
+      (subst (λ (k : ℕ). All (λ (e : Entry). e.publisher < k) (news_in o (catalogue_at (world_of state) m))) (sym count)
+      (news_among (λ (e : Entry). e.publisher < length state.keys.members.names) o (catalogue_at (world_of state) m)
+      (names_all (length state.keys.members.names) state.keys (drawing (λ _ _. 0)) (world_of state) refl
+      (length-map state.members in_group ∙ many) sound (EventValue.Catalogue m) there).1))
+
+-- A member that is there has the same watchers, whatever stands for nobody's.
+pub same_at : (ws : List (List Watching)) (m : ℕ) (d : List Watching) → m < length ws → get_or ws m d ≡ watchers_of ws m
+same_at [] m d there = absurd (omega (arith, there))
+same_at (w ∷ ws) zero d there = refl
+same_at (w ∷ ws) (suc m) d there = same_at ws m d (omega (arith, there))
