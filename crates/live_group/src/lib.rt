@@ -1,5 +1,7 @@
 //! A live group: members under locks, each with three actors in threads of their own that publish, hear and fetch; and
 //! after them a settle, which makes every member's catalogue the join of what all published.
+//!
+//! What is promised of it: `docs/promises/live_group.md`.
 #![tactic(auto)]
 
 mod actors;
