@@ -1,5 +1,5 @@
 -- The members' places, made in order.
-use Rattle.std.proofs.Common.{◌≡◌, ℕ, zero, suc, ◌<◌, ◌≤◌, List, [], ◌∷◌, ◌++◌, length, get_or, refl, sym, ap}
+use Rattle.std.proofs.Common.{◌≡◌, ℕ, suc, ◌<◌, ◌≤◌, List, [], ◌∷◌, ◌++◌, length, get_or, sym, ap}
 use Rattle.std.proofs.Common.{◌∙◌, arith}
 use Rattle.std.proofs.Common.{append_assoc, length-append}
 use Rattle.std.specs.Prelude.{slice_index}
@@ -16,11 +16,6 @@ pub record IsSeating (t : Meaning) (seats : List ℕ) (rest : List (List NamedCo
   pub front : List (List NamedContents)
   pub long : length front ≡ length seats
   pub whole : front ++ rest ≡ t.lists
-
-pub count_below : (n : ℕ) → length (numbers_below n) ≡ n
-count_below zero = refl
-count_below (suc n) =
-    let long = length-append (numbers_below n) (n ∷ []) in let less = count_below n in omega arith
 
 pub few_lists : (t : Meaning) → IsWithinLimits t → length t.lists ≤ 16
 few_lists t within = omega (arith, within.logs.width, width_whole t, within.logs.group.members.roster.few)

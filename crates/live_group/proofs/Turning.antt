@@ -1,14 +1,12 @@
 -- A part that a fetcher claims is of a member, and what comes for it ends the claim.
-use Rattle.std.proofs.Common.{◌≡◌, ℕ, ◌-◌, ◌<◌, ◌≤◌, Bool, true, false, inl, inr}
-use Rattle.std.proofs.Common.{List, [], map, length, get_or, set}
+use Rattle.std.proofs.Common.{◌≡◌, ℕ, ◌-◌, ◌<◌, Bool, true, false, inl, inr}
+use Rattle.std.proofs.Common.{map, length, get_or, set}
 use Rattle.std.proofs.Common.{refl, sym, ap, ◌∙◌, subst, arith, Option, Some, None}
 use Rattle.std.specs.Prelude.{Result, Ok, Err, IfOk, is_some, is_none, if◌then◌else◌}
 use Rattle.std.proofs.lemmas.Bool.{cases_lt}
-use Rattle.std.proofs.lemmas.List.{get_or-set_same, get_or_past, length-set, length-map}
-use Rattle.repo_object.specs.Objects.{Post}
+use Rattle.std.proofs.lemmas.List.{get_or-set_same, length-set, length-map}
 use Rattle.repo_plan.specs.declared.part.Part.{Part}
 use Rattle.repo_plan.specs.Calls.{IsFetcher}
-use Rattle.group_model.specs.Publications.{Logs, last_of}
 use Rattle.group_model.specs.Member.{Member}
 use Rattle.group_model.specs.World.{World, member, no_member}
 use Rattle.group_model.specs.Replies.{Reply}
@@ -23,6 +21,7 @@ use Rattle.live_member.specs.Meanings.{Meaning, logs_at, whole_logs, world_at, w
 use Rattle.live_member.specs.Replay.{live_reply, after, fed}
 use Rattle.live_member.specs.Lives.{Living}
 use Rattle.live_member.specs.LockedCalls.{IsEntered, StepsBy, Steps}
+use Rattle.live_settle.proofs.Turning.{in_range}
 use Rattle.live_group.specs.Turns.{EndsTurn}
 
 -- ---- what ends a claim
@@ -70,14 +69,6 @@ told_part : (c d : Option Part) (part : Part)
 told_part (Some p) d part is = absurd cc
 told_part None None part is = absurd cc
 told_part None (Some p) part is = (refl, cc)
-
-in_lists : (ls : Logs) (p n : ℕ) → 1 ≤ n → n ≤ last_of ls p → p < length ls
-in_lists ls p n from_one to_last = elim (cases_lt p (length ls)) [
-  | inl less ↦ less
-  | inr past ↦
-      let none : last_of ls p ≡ 0 = ap (λ (log : List Post). length log) (get_or_past ls p [] past) in
-      absurd (omega (arith, none, from_one, to_last))
-]
 
 module _ (t : Meaning) (most : ℕ) (old new : Living) (r : LiveReply) (f : ℕ) (part : Part) (fetcher : IsFetcher f)
     (steps : StepsBy t most (event.Claim f) old new r) (its : r ≡ reply.Claimed part) where
@@ -148,5 +139,5 @@ module _ (t : Meaning) (most : ℕ) (old new : Living) (r : LiveReply) (f : ℕ)
       let sound = is.2.truly.sound in
       let known = (wanted_parts ls (in_group new.state) part (sound.claimed (f - 1) part its_claim)).known in
       let most_told = sound.known part.publisher in
-      let less = in_lists ls part.publisher part.seq known.from_one (omega (arith, known.to_known, most_told)) in
+      let less = in_range ls part.publisher part.seq known.from_one (omega (arith, known.to_known, most_told)) in
       omega (arith, less, wide_logs)

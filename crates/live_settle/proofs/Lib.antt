@@ -1,7 +1,7 @@
-mod Places
+pub mod Places
 mod Missing
 mod States
-mod Turning
+pub mod Turning
 mod Publishing
 mod Passes
 mod Ending

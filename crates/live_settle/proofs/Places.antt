@@ -95,7 +95,7 @@ module _ (j : ℕ) (old new : List Living) (only : Only j old new) where
 
 -- ---- numbers
 
-length-below : (n : ℕ) → length (numbers_below n) ≡ n
+pub length-below : (n : ℕ) → length (numbers_below n) ≡ n
 length-below zero = refl
 length-below (suc n) = length-append (numbers_below n) (n ∷ []) ∙ (let h = length-below n in omega (arith, h))
 

@@ -58,7 +58,7 @@ module _ (p : PlanState) (claims : p.claims ≡ no_claims) where
   nothing_wanted : first (unclaimed p) ≡ None → wanted p ≡ []
   nothing_wanted e = (λ i. filter (λ t. sym (all_open t) i) (known_parts p)) ∙ none_first (unclaimed p) e
 
-in_range : (ls : Logs) (p n : ℕ) → 1 ≤ n → n ≤ last_of ls p → p < length ls
+pub in_range : (ls : Logs) (p n : ℕ) → 1 ≤ n → n ≤ last_of ls p → p < length ls
 in_range ls p n a b = elim (cases_lt p (length ls)) [
   | inl h ↦ h
   | inr h ↦

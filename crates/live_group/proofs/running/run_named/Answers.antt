@@ -3,7 +3,8 @@ use Rattle.std.specs.List.{All}
 use Rattle.std.proofs.lemmas.List.{length-map}
 use Rattle.live_member.specs.Meanings.{Meaning}
 use Rattle.live_group.specs.Jobs.{IsActorBelow}
-use Rattle.live_group.proofs.Seating.{count_below, few_lists}
+use Rattle.live_settle.proofs.Places.{length-below}
+use Rattle.live_group.proofs.Seating.{few_lists}
 use Rattle.live_group.proofs.Wiring.{actors_there}
 use Rattle.live_group.proofs.running.run_named.Goals as goal
 
@@ -17,13 +18,13 @@ all_jobs-requires g c =
 pub act_all-requires-clause-members : goal.act_all-requires-clause-members
 act_all-requires-clause-members g c κs within =
     ap length c.as_slice-2.ensures.value ∙ ap length c.in_ok-seats.ensures
-    ∙ count_below (length g.L.Lists.meaning.lists)
+    ∙ length-below (length g.L.Lists.meaning.lists)
 
 pub act_all-requires-clause-jobs : goal.act_all-requires-clause-jobs
 act_all-requires-clause-jobs g c κs within =
     let n = length g.L.Lists.meaning.lists in
     let seats : length c.as_slice-2.result.now ≡ n =
-    ap length c.as_slice-2.ensures.value ∙ ap length c.in_ok-seats.ensures ∙ count_below n in
+    ap length c.as_slice-2.ensures.value ∙ ap length c.in_ok-seats.ensures ∙ length-below n in
     let lists = ap (λ (t : Meaning). length t.lists) c.requires.meaning in
     let wide = length-map c.args.lists.items (λ v. v.items) in
     let same : c.len.result ≡ length c.as_slice-2.result.now = omega (arith, seats, lists, wide) in
