@@ -15,8 +15,7 @@ use Rattle.repo_plan.specs.Parts.{Pair, pair_cmp, part_cmp, parts_behind}
 use Rattle.repo_plan.proofs.Orders.{exact_pairs}
 use Rattle.sorted_lists.proofs.Sets.{eq_same, eq_itself, rises_with_value, value_of-with_value, rises_keys_filter}
 use Rattle.sorted_lists.proofs.Sets.{value_of-filter}
-use Rattle.repo_object.specs.Publication.{Listed, RecordSays, shape_said}
-use Rattle.repo_object.specs.Publication.RecordSays.{Lists, WithdrawsNumber}
+use Rattle.repo_object.specs.Publication.{Listed, shape_said}
 use Rattle.repo_object.specs.Verdict.{said_in}
 use Rattle.repo_catalog.specs.declared.entry.Entry.{Entry}
 use Rattle.repo_catalog.specs.Entries.{publication_of, entry_of, with_entry, without, IsCatalogue}
@@ -24,8 +23,7 @@ use Rattle.repo_holdings.specs.KeptValues.{with_kept, kept_values}
 use Rattle.repo_holdings.specs.Records.{Packet, records_in}
 use Rattle.repo_holdings.specs.Listed.{listing_in, listing_at, stored_at, said_at, listed_shape, shapes_in}
 use Rattle.repo_holdings.specs.Listed.{packet_content, entry_listed, are_stored, entry_of_listing, whole_at, entry_at}
-use Rattle.repo_holdings.specs.Listed.{object_said, withdrawn_by, is_withdrawn, is_withdrawal, entries_in}
-use Rattle.repo_holdings.specs.Listed.{alone_catalogue}
+use Rattle.repo_holdings.specs.Listed.{is_withdrawn, entries_in, alone_catalogue}
 use Rattle.repo_holdings.specs.Gaining.{with_listed}
 use Rattle.repo_holdings.proofs.SortedMaps.{same_map, rises_kept, value_of-kept}
 use Rattle.repo_holdings.proofs.RecordLemmas.{rises_records, value_of-records}
@@ -332,26 +330,3 @@ module _ (old new : List Packet) (pair : Pair) (old_order : Rises part_cmp (keys
           ap (value_of pair_cmp (entries_in old)) is ∙ entries_value old pair old_order ∙ before in
           ap (map (λ x. x.1)) (one_more e p ∙ ap (λ (k : Pair). with_value pair_cmp k e (entries_in old)) (sym is))
           ∙ with_entry-map e (entries_in old) (entries_keyed old) absent
-
--- ---- what is listed is no withdrawal
-
-whole_no_withdrawal : (packets : List Packet) (pair : Pair) (e : Entry) → whole_at packets pair ≡ Some e
-    → is_withdrawal packets pair ≡ false
-whole_no_withdrawal packets pair e h = go (stored_at packets pair 0) h where
-  go : (o : Option (List ℕ)) → option_and_then (entry_listed packets pair) (option_and_then listing_in o) ≡ Some e
-      → is_some (option_and_then (withdrawn_by pair) (option_and_then said_in o)) ≡ false
-  go None p = refl
-  go (Some octets) p = says (said_in octets) p where
-    says : (o : Option RecordSays)
-        → option_and_then (entry_listed packets pair) (option_and_then object_said o) ≡ Some e
-        → is_some (option_and_then (withdrawn_by pair) o) ≡ false
-    says None q = refl
-    says (Some (Lists l)) q = refl
-    says (Some (WithdrawsNumber seq)) q = absurd (none_is_some e q)
-
-pub entry_no_withdrawal : (packets : List Packet) (pair : Pair) (e : Entry) → entry_at packets pair ≡ Some e
-    → is_withdrawal packets pair ≡ false
-entry_no_withdrawal packets pair e h = go (is_withdrawn packets pair) h where
-  go : (b : Bool) → cond b None (whole_at packets pair) ≡ Some e → is_withdrawal packets pair ≡ false
-  go true p = absurd (none_is_some e p)
-  go false p = whole_no_withdrawal packets pair e p
