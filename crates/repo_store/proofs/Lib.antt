@@ -1,6 +1,6 @@
 pub mod ReadNames
 pub mod IndexLemmas
-pub mod WalkLemmas
+pub mod AskedLemmas
 pub mod NameLayerLemmas
 pub mod FrontLemmas
 pub mod SlotLemmas

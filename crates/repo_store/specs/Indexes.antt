@@ -1,5 +1,5 @@
 -- Indexes of packets: what is held, in order of names and then of parts.
-use Rattle.std.specs.Prelude.{◌≡◌, ℕ, ◌<◌, Bool, true, false, List, [], ◌∷◌, ◌++◌, length, Option, Some, None}
+use Rattle.std.specs.Prelude.{◌≡◌, ℕ, Bool, true, false, List, [], ◌∷◌, ◌++◌, Option, Some, None}
 use Rattle.std.specs.List.{starts_with}
 use Rattle.std.specs.Bool.{nat_eq}
 use Rattle.std.specs.Ordering.{nat_cmp, ordering_then, is_le}
@@ -9,7 +9,7 @@ use Rattle.std.specs.declared.cmp.Ordering.TheVariants.{Less}
 use Rattle.ndn_name.specs.Names.{Component}
 use Rattle.sorted_lists.specs.Members.{In, HaveSame}
 use Rattle.sorted_lists.specs.Climbing.{Climbs, IsPlaceOf}
-use Rattle.sorted_lists.specs.Least.{IsFirstThat, lesser_by}
+use Rattle.sorted_lists.specs.Least.{Passes, IsFirstThat, lesser_by}
 use Rattle.repo_plan.specs.declared.part.Part.{Part}
 use Rattle.repo_plan.specs.Parts.{part_cmp}
 use Rattle.repo_store.specs.declared.index.Index.{Index}
@@ -83,13 +83,12 @@ asks asked false name = pointwise nat_eq name asked
 abbrev pub is_asked : Slots → List ℕ → Bool → Held → Bool
 is_asked slots asked can_be_prefix h = asks asked can_be_prefix (name_at slots h)
 
--- Of what is held, this is behind the name: what stands in front has it, and there is some.
-pub record IsBehind (slots : Slots) (held : List Held) (name : List ℕ) (rest : List Held) : Type 0 where
-  pub front : List Held
-  pub whole : front ++ rest ≡ held
-  pub in_order : AreInOrder slots rest
-  pub named : (h : Held) → In h front → name_at slots h ≡ name
-  pub fewer : 0 < length held → length rest < length held
+-- Of what is held, these are all that is asked for, in order.
+pub record AreAsked (slots : Slots) (held : List Held) (asked : List ℕ) (can_be_prefix : Bool)
+    (found : List Held) : Type 0 where
+  pub in_order : AreInOrder slots found
+  pub there : (h : Held) → In h found → Passes held (is_asked slots asked can_be_prefix) h
+  pub back : (h : Held) → Passes held (is_asked slots asked can_be_prefix) h → In h found
 
 -- One more is among these.
 abbrev pub GainsOne : Held → List Held → List Held → Type 0

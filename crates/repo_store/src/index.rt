@@ -1,6 +1,6 @@
-ghost use Rattle.std.specs.Prelude.{◌≡◌, ◌+◌, ◌<◌, ◌≤◌, IfSome, slice_get, vec_len, vec_capacity};
+ghost use Rattle.std.specs.Prelude.{◌≡◌, ◌+◌, ◌<◌, ◌≤◌, true, vec_len, vec_capacity};
 ghost use Rattle.repo_store.specs.Indexes.{name_at, key_cmp, key_in, is_asked, first_part, AreInOrder};
-ghost use Rattle.repo_store.specs.Indexes.{IndexIsInOrder, IsPlace, IsFrom, IsBehind, IsFirstOf, GainsOne};
+ghost use Rattle.repo_store.specs.Indexes.{IndexIsInOrder, IsPlace, IsFrom, AreAsked, IsFirstOf, GainsOne};
 
 use crate::kept::{FIRST, Held, Kept, lesser};
 use repo_plan::Part;
@@ -84,38 +84,43 @@ impl Index<'_> {
         rest
     }
 
-    // What has this name, or begins with it where that is asked for, of the least part. Of each name the first is
-    // looked at, since it is of the least part.
+    // What has this name, or begins with it where that is asked for, of the least part. Of one name the first is of
+    // the least part; of several names the parts are compared, and no name is read.
     pub(crate) fn first(&self, asked: &[u8], can_be_prefix: bool) -> Option<Held>
         requires { IndexIsInOrder self.now }
         ensures { IsFirstOf self.now.held.now (is_asked self.now.kept.now.slots asked.now can_be_prefix) result }
     {
-        let mut rest = self.from(asked);
-        let mut least = None;
-        while let Some(first) = rest.first() {
-            if !is_asked(self.kept, asked, can_be_prefix, first) {
-                return least;
-            }
-            least = lesser(least, Some(*first));
-            if !can_be_prefix {
-                return least;
-            }
-            rest = self.behind(rest, self.name(first));
+        let named = self.asked(asked, can_be_prefix);
+        if can_be_prefix {
+            least_of(named)
+        } else {
+            named.first().copied()
         }
-        least
     }
 
-    // What is held behind this name, of what begins with it.
-    fn behind<'h>(&self, held: &'h [Held], name: &[u8]) -> &'h [Held]
-        requires in_order { AreInOrder self.now.kept.now.slots held.now }
-        requires first { IfSome (slice_get held.now 0)
-            (λ h. name_at self.now.kept.now.slots h ≡ name.now) }
-        ensures { IsBehind self.now.kept.now.slots held.now name.now result.now }
+    // What has this name, or begins with it where that is asked for. It stands side by side.
+    fn asked(&self, asked: &[u8], can_be_prefix: bool) -> &[Held]
+        requires { IndexIsInOrder self.now }
+        ensures { AreAsked self.now.kept.now.slots self.now.held.now asked.now can_be_prefix result.now }
     {
-        let place = held.partition_point(|held| self.name(held) == name);
-        let (_, rest) = held.split_at(place);
-        rest
+        let rest = self.from(asked);
+        let end = rest.partition_point(|held| is_asked(self.kept, asked, can_be_prefix, held));
+        let (named, _) = rest.split_at(end);
+        named
     }
+}
+
+// Of all of these, what is of the least part.
+fn least_of(held: &[Held]) -> Option<Held>
+    ensures { IsFirstOf held.now (λ h. true) result }
+{
+    let mut least = *held.first()?;
+    for next in held {
+        if next.0.cmp(&least.0).is_lt() {
+            least = *next;
+        }
+    }
+    Some(least)
 }
 
 // Whether its packet's name is this, or begins with it where that is asked for.
