@@ -3,6 +3,7 @@ use Rattle.std.proofs.Common.{◌≡◌, ◌≢◌, ◌⊎◌, inl, inr, ℕ, �
 use Rattle.std.proofs.Common.{ap, ◌∙◌, subst, arith}
 use Rattle.std.specs.Prelude.{IfOk, IfErr, OnOk, OnErr, Result, Ok, Err}
 use Rattle.std.specs.List.{remove, insert}
+use Rattle.std.proofs.lemmas.Result.{on_ok_weaker, on_err_weaker}
 use Rattle.repo_plan.specs.declared.part.Part.{Part}
 use Rattle.sorted_lists.specs.SortedList.{keys}
 use Rattle.repo_plan.specs.Plan.{claim_of}
@@ -19,7 +20,7 @@ use Rattle.repo_member.specs.TrueMembers.{IsTrueMember, true_want, true_packets}
 use Rattle.repo_member.proofs.PublicLaws.{stores_those}
 use Rattle.bench_world.specs.declared.event.StepFault.{StepFault}
 use Rattle.bench_world.specs.declared.answering.Fed.{Fed}
-use Rattle.bench_world.specs.Worlds.{alone_at}
+use Rattle.bench_world.specs.Worlds.{nobody, alone_at}
 use Rattle.bench_world.specs.Conditions.{CanTake, CanGetAt}
 use Rattle.bench_world.specs.Serving.{octets_as, judged_packet, found}
 use Rattle.bench_world.specs.Answering.{answered, claim_in, came_in, came_for, fed_as, kept_of, accepts_claimed}
@@ -28,14 +29,6 @@ use Rattle.bench_world.proofs.Coming.{claim_published, claim_of_another, publish
 use Rattle.bench_world.proofs.TakenOut.{put_in, put_back}
 
 -- ---- parts of answers
-
-on_ok : {T E : Type 0} {A B : Type 0} (r : Result T E) → OnOk r A → (A → B) → OnOk r B
-on_ok (Ok x) a f = f a
-on_ok (Err e) a f = tt
-
-on_err : {T E : Type 0} {A B : Type 0} (r : Result T E) → OnErr r A → (A → B) → OnErr r B
-on_err (Ok x) a f = tt
-on_err (Err e) a f = f a
 
 if_err : {T E : Type 0} {P Q : E → Type 0} (r : Result T E) → IfErr r P → ((e : E) → P e → Q e) → IfErr r Q
 if_err (Ok x) p f = tt
@@ -114,14 +107,14 @@ module _ (g : GroupKeys) (logs : Logs) (f m : ℕ) (ms : List Alone) (can : CanG
         (new_is : new ≡ insert mid m y) where
       pub members_so : {T E : Type 0} (r : Result T E) → OnOk r (y ≡ accepts_claimed g logs f want.part k x)
           → OnOk r (new ≡ set ms m (after_claimed g logs f (claim_in ms m f) came (alone_at ms m)))
-      members_so r h = on_ok r h (λ e.
+      members_so r = on_ok_weaker r (λ e.
           put_in ms mid new m y can.there mid_is new_is
           ∙ ap (set ms m) (e ∙ ap (accepts_claimed g logs f want.part k) x_is
           ∙ ap (λ (c : Came). accepts_claimed g logs f want.part c (alone_at ms m)) same
           ∙ ap (λ (o : Option Part). after_claimed g logs f o came (alone_at ms m)) (sym claim)))
 
       pub still_so : {T E : Type 0} (r : Result T E) → OnErr r (y ≡ x) → OnErr r (new ≡ ms)
-      still_so r h = on_err r h (λ e. put_back ms mid new m y can.there mid_is new_is (e ∙ x_is))
+      still_so r = on_err_weaker r (λ e. put_back nobody ms mid new m y can.there mid_is new_is (e ∙ x_is))
 
   -- It isn't refused for want of a claim.
   pub busy_so : {T : Type 0} (k : Came) (r : Result T StepFault)

@@ -124,7 +124,7 @@ module _ (s : GroupState) (is : IsTrueState s) (m : ℕ) (there : m < length s.m
     keeping_state : IsTrueState keeping
     keeping_state =
         changed_state s is keeping.members s.sent s.moment s.tally s.steps (length-set s.members m kept) kept_numbers
-        kept_truly is.sent is.steps keeping_within
+        kept_truly is.sent (omega arith) is.steps keeping_within
 
 -- ---- a block
 

@@ -104,7 +104,7 @@ module _ (s : GroupState) (is : IsTrueState s) (k : ℕ) (one : 1 ≤ k) (last :
   pub sync : IsTrueSync s.keys (logs_around s.members) (get_or s.sent (k - 1) no_packet)
   sync = is.sent (k - 1) no_packet (omega (arith, one, last))
 
-  sent_is : sent_at (world_of s) k ≡ sync_in (get_or s.sent (k - 1) no_packet)
+  pub sent_is : sent_at (world_of s) k ≡ sync_in (get_or s.sent (k - 1) no_packet)
   sent_is = get_or-map sync_in s.sent (k - 1) no_packet no_sync (omega (arith, one, last))
 
   -- Its octets are those of the sync Interest.

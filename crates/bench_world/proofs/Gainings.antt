@@ -187,7 +187,8 @@ module _ (s : GroupState) (is : IsTrueState s) where
         → ArePartlySettled (only_members s.members) (in_groups mid)
         → IsTrueState (record s { members = mid; steps = s.steps + 1 })
     failed_state mid len numbers truly counts p =
-        changed_state s is mid s.sent s.moment s.tally (s.steps + 1) len numbers truly is.sent (omega (arith, few))
+        changed_state s is mid s.sent s.moment s.tally (s.steps + 1) len numbers truly is.sent (omega arith)
+        (omega (arith, few))
         (more_within s.steps (s.steps + 1) (world_of (record s { members = mid; steps = s.steps + 1 })) (omega arith)
         (still_within mid (s.steps + 1) (omega arith) len numbers truly counts p))
 
@@ -304,8 +305,8 @@ module _ (s : GroupState) (is : IsTrueState s) where
           → AreTrueMembers s.keys (logs_around s.members) mid
           → IsTrueState (record s { members = mid; sent = sent; tally = settled; steps = s.steps + 1 })
       settle_state len numbers truly =
-          changed_state s is mid sent s.moment settled (s.steps + 1) len numbers truly all_true (omega (arith, few))
-          settle_within
+          changed_state s is mid sent s.moment settled (s.steps + 1) len numbers truly all_true (omega arith)
+          (omega (arith, few)) settle_within
 
       pub settle_fits : (count * less < 2 ^ 64)
           × (s.tally.delivered + count * less < 2 ^ 64)

@@ -5,6 +5,7 @@ use Rattle.std.specs.Prelude.{is_some, unwrap_or, find, filter, sum, sum_by, IfS
 use Rattle.std.specs.List.{All}
 use Rattle.std.proofs.lemmas.Bool.{cases_eq}
 use Rattle.std.proofs.lemmas.List.{get_or-set_same, get_or-set_other, length-set, length-map, map-set}
+use Rattle.std.proofs.lemmas.List.Elements.{filter_agree}
 use Rattle.std.proofs.lemmas.List.Sums.{sum_by-cons}
 use Rattle.repo_plan.specs.declared.part.Part.{Part}
 use Rattle.sorted_lists.specs.SortedList.{value_of}
@@ -40,11 +41,11 @@ use Rattle.bench_world.proofs.NextParts.{all_from_in, next_unclaimed}
 use Rattle.bench_world.proofs.PutBack.{others_true}
 
 module _ (passes : Part → ℕ → Bool) (others : List Alone) (tries : ℕ) (held : HoldingsState) where
-  asked_same : (ts : List Part) → asked_for (fetched_all passes others tries held ts) ≡ ts
+  pub asked_same : (ts : List Part) → asked_for (fetched_all passes others tries held ts) ≡ ts
   asked_same [] = refl
   asked_same (t ∷ ts) = ap (λ (us : List Part). t ∷ us) (asked_same ts)
 
-  came_some : (t : Part)
+  pub came_some : (t : Part)
       → is_some (fetched_one passes others tries held t).packet ≡ is_some (attempt_at passes others tries held t)
   came_some t =
       go (lent others t) (find (λ n. passes t (attempts_of (held_plan held) t + n)) (numbers_from 1 tries)) where
@@ -54,7 +55,7 @@ module _ (passes : Part → ℕ → Bool) (others : List Alone) (tries : ℕ) (h
         go (Some o) None = refl
         go (Some o) (Some n) = refl
 
-  came_same : (ts : List Part)
+  pub came_same : (ts : List Part)
       → that_came (fetched_all passes others tries held ts)
       ≡ filter (λ t. is_some (attempt_at passes others tries held t)) ts
   came_same [] = refl
@@ -90,6 +91,14 @@ module _ (passes : Part → ℕ → Bool) (others : List Alone) (tries : ℕ) (h
             same true h = ap (λ (us : List Part). t ∷ us) h
             same false h = h
 
+  -- However attempts are counted part by part.
+  pub tried_same : (f : Part → ℕ) → ((t : Part) → (fetched_one passes others tries held t).attempts ≡ f t)
+      → (ts : List Part) → AreTries f (fetched_all passes others tries held ts)
+  tried_same f each ts =
+      all_from_in (λ (x : Fetched). x.attempts ≡ f x.part) (fetched_all passes others tries held ts) (λ x i.
+      let r = from_map (fetched_one passes others tries held) ts x i in
+      subst (λ (y : Fetched). y.attempts ≡ f y.part) (sym r.2) (each r.0))
+
 -- ---- all but one member
 
 -- Someone holds a part among all but one as where that one is nobody.
@@ -100,12 +109,8 @@ removed [] (suc j) t = refl
 removed (a ∷ members) zero t = refl
 removed (a ∷ members) (suc j) t = ap (λ (b : Bool). stores a t || b) (removed members j t)
 
-filter_same : {A : Type 0} (p q : A → Bool) (xs : List A) → ((x : A) → p x ≡ q x) → filter p xs ≡ filter q xs
-filter_same p q [] e = refl
-filter_same p q (x ∷ xs) e = (λ i. cond (e x i) (x ∷ filter_same p q xs e i) (filter_same p q xs e i))
-
 -- Sums of attempts that were counted part by part.
-tried_sum : (f : Part → ℕ) (xs : List Fetched) → All (λ x. x.attempts ≡ f x.part) xs
+pub tried_sum : (f : Part → ℕ) (xs : List Fetched) → All (λ x. x.attempts ≡ f x.part) xs
     → sum (map (λ (x : Fetched). x.attempts) xs) ≡ sum_by f (asked_for xs)
 tried_sum f [] all = refl
 tried_sum f (x ∷ xs) all =
@@ -178,15 +183,14 @@ module _ (passes : ℕ → ℕ → ℕ → ℕ → ℕ → ℕ → Bool) (draw :
   pub came_are : that_came fetched ≡ fetched_parts out w j tries loss
   came_are =
       came_same way others tries holdings (next_parts None holdings)
-      ∙ filter_same (λ t. is_some (attempt_at way others tries holdings t))
-      (λ t. is_some (attempt out w j tries loss t)) (next_parts None holdings) (λ t. ap is_some (attempt_same t))
+      ∙ filter_agree (λ t. is_some (attempt_at way others tries holdings t))
+      (λ t. is_some (attempt out w j tries loss t)) (λ t. ap is_some (attempt_same t)) (next_parts None holdings)
       ∙ ap (filter (λ t. is_some (attempt out w j tries loss t))) planned_same
 
   tried_are : AreTries (attempts_for out w j tries loss) fetched
-  tried_are = all_from_in (λ (x : Fetched). x.attempts ≡ attempts_for out w j tries loss x.part) fetched (λ x i.
-      let r = from_map (fetched_one way others tries holdings) (next_parts None holdings) x i in
-      subst (λ (y : Fetched). y.attempts ≡ attempts_for out w j tries loss y.part) (sym r.2)
-      (ap (λ (o : Option ℕ). unwrap_or o tries) (attempt_same r.0)))
+  tried_are =
+      tried_same way others tries holdings (attempts_for out w j tries loss)
+      (λ t. ap (λ (o : Option ℕ). unwrap_or o tries) (attempt_same t)) (next_parts None holdings)
 
   outcome : IsOutcomeIn out w j tries loss fetched
   outcome = record {

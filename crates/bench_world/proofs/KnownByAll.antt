@@ -67,6 +67,10 @@ all_ends members i all l h =
     ∙ ap (λ (ms : List Alone). join all (join_all (knowns ms))) (sym (drop_all i members l))
     ∙ h
 
+pub nobody_knows : (members : List Alone) → length members ≤ 0 → join_all (knowns members) ≡ []
+nobody_knows [] none = nothing_told
+nobody_knows (m ∷ ms) none = absurd (omega (arith, none))
+
 pub joined_short : (members : List Alone)
     → ((j : ℕ) → j < length members → length (alone_at members j).known ≡ length members)
     → length (join_all (knowns members)) ≤ length members

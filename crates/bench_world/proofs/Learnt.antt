@@ -35,7 +35,7 @@ module _ (g : GroupKeys) (w : World) (are : AreLogs g (logs w)) (group : IsSound
   many : length w.members ≡ length members
   many = sym (ap length begun) ∙ length-map members in_group
 
-  long : length (logs w) ≡ length members
+  pub long : length (logs w) ≡ length members
   long = length-map w.members (λ (m : Member). m.log) ∙ many
 
   pub few_members : length members ≤ 16
@@ -64,7 +64,7 @@ module _ (g : GroupKeys) (w : World) (are : AreLogs g (logs w)) (group : IsSound
     pub all_width : (j : ℕ) → j < length members → length all ≡ length members
     all_width j l = ap length all_is ∙ joined_width members (length members) (omega (arith, l)) widths
 
-    true_vector : (j : ℕ) → j < length members → IsTrueVector (logs w) all
+    pub true_vector : (j : ℕ) → j < length members → IsTrueVector (logs w) all
     true_vector j l = record {
       width = all_width j l ∙ sym long;
       no_more =

@@ -5,6 +5,7 @@ pub mod Attempts
 pub mod Brought
 pub mod OneByOne
 pub mod KnownByAll
+mod CheckedSizes
 pub mod Phases
 pub mod Gathers
 pub mod Gathered
@@ -13,6 +14,12 @@ pub mod GatheredAll
 pub mod Learnt
 pub mod GroupFetches
 mod States
+mod MirrorFetches
+mod MirrorCounts
+mod MirrorAsks
+mod MirrorSettling
+mod MirrorGathers
+mod MirrorStates
 mod Openings
 mod Claims
 mod Deliveries
@@ -24,6 +31,7 @@ mod Answered
 mod Hearings
 mod Summaries
 mod Gainings
+mod MirrorWorlds
 mod Resets
 mod RefusedMembers
 pub mod Names

@@ -1,6 +1,6 @@
 -- The parts of a phase, which come in order behind a place.
-use Rattle.std.proofs.Common.{◌≡◌, ◌⊎◌, inl, inr, ℕ, suc, zero, ◌<◌, Bool, true, false, List, [], ◌∷◌, length, get_or}
-use Rattle.std.proofs.Common.{take, Option, Some, None, refl, sym, ap, ◌∙◌, arith}
+use Rattle.std.proofs.Common.{◌≡◌, ◌⊎◌, inl, inr, ℕ, suc, zero, ◌≤◌, ◌<◌, Bool, true, false, List, [], ◌∷◌, length}
+use Rattle.std.proofs.Common.{get_or, take, Option, Some, None, refl, sym, ap, ◌∙◌, arith}
 use Rattle.std.specs.Prelude.{filter, slice_get}
 use Rattle.std.specs.List.{All}
 use Rattle.std.specs.Ordering.{is_lt}
@@ -15,7 +15,7 @@ use Rattle.repo_plan.proofs.Orders.{exact_parts}
 use Rattle.sorted_lists.proofs.Sets.{In, in_filter, contains_in, in_contains, rises_filter}
 use Rattle.repo_plan.proofs.Known.{unclaimed_rises, contains-unclaimed}
 use Rattle.group_model.proofs.Lists.{from_filter, in_at, in_take}
-use Rattle.group_model.proofs.Tries.{rises_take}
+use Rattle.group_model.proofs.Tries.{rises_take, take_short}
 use Rattle.repo_holdings.specs.HoldingsState.{HoldingsState, held_plan}
 use Rattle.bench_world.specs.Gathering.{next_parts}
 use Rattle.bench_world.proofs.SetSums.{filter_fewer, take_covers}
@@ -62,6 +62,9 @@ module _ (h : HoldingsState) (after : Option Part) where
 
   pub next_rise : Rises part_cmp (next_parts after h)
   next_rise = rises_take 4096 (filter (is_after after) (unclaimed (held_plan h))) behind_rises
+
+  pub few_next : length (next_parts after h) ≤ 4096
+  few_next = take_short 4096 (filter (is_after after) (unclaimed (held_plan h)))
 
   from_next : (t : Part) → In t (next_parts after h) → In t (unclaimed (held_plan h)) × (is_after after t ≡ true)
   from_next t i =

@@ -29,11 +29,14 @@ use Rattle.repo_member.specs.TrueMembers.{IsTrueMember}
 use Rattle.repo_member.specs.Verdicts.{sync_of}
 use Rattle.repo_member.proofs.PublicLaws.{publishes_alike, true_stores, logs_grow, publishes_true, others_publish}
 use Rattle.repo_member.proofs.PublicLaws.{logs_have_grown}
+use Rattle.repo_mirror.specs.TrueMirrors.{IsTrueMirror}
+use Rattle.repo_mirror.proofs.PublicLaws.{mirrors_grow_true}
 use Rattle.bench_world.specs.declared.event.StepFault.TheVariants as fault
 use Rattle.bench_world.specs.Steps.{IsFaultOf}
 use Rattle.bench_world.specs.Withdrawing.{withdraw_fault}
 use Rattle.bench_world.specs.Worlds.{GroupState, IsTrueState, IsTrueSync, nobody, alone_at, in_groups, logs_around}
 use Rattle.bench_world.specs.Worlds.{sync_in, world_of, drawing}
+use Rattle.bench_world.proofs.States.{mirrors_still}
 use Rattle.bench_world.proofs.States.{truly, number_is, member_is, among, among_logs, set_numbers, within_more}
 use Rattle.bench_world.proofs.Timers.{all_one}
 
@@ -344,4 +347,10 @@ module _ (s : GroupState) (is : IsTrueState s) (m : ℕ) (there : m < length s.m
             (within_more s is few (drawing draw) (λ t. omega arith) (event_of m post)
             (in_range m (next_seq old) post is_post));
         steps = omega (arith, few);
+        mirrors =
+            subst (λ (ls : Logs). All (IsTrueMirror s.keys ls) s.mirrors) (sym logs_after)
+            (λ k d l. mirrors_grow_true s.keys (logs_around s.members) later (get_or s.mirrors k d) grown as_many
+            (is.mirrors k d l));
+        mirrors_tried = mirrors_still s is (s.steps + 1) (omega arith);
+        mirrors_few = is.mirrors_few;
       }

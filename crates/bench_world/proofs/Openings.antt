@@ -96,6 +96,7 @@ module _ (g : GroupKeys) (is : IsGroup g) (draw : ℕ → ℕ → ℕ) where
         issued = [];
         tally = record { delivered = 0; attempts = 0; parts = 0; octets = 0 };
         steps = 0;
+        mirrors = [];
       })
       ≡ opening_world (drawing draw) (length g.members.names)
   opening_is ms sent ms_are sent_is =
@@ -125,6 +126,7 @@ module _ (g : GroupKeys) (is : IsGroup g) (draw : ℕ → ℕ → ℕ) where
     issued = [];
     tally = no_tally;
     steps = 0;
+    mirrors = [];
   })
   begun_state = record {
     are = subst (AreLogs g) (sym logs_begun) (logs_begin g is);
@@ -140,6 +142,9 @@ module _ (g : GroupKeys) (is : IsGroup g) (draw : ℕ → ℕ → ℕ) where
         subst (IsWithinSteps 0) (sym (opening_is (begun_all (length g.members.names) draw) [] refl refl))
         (within_opening (drawing draw) (length g.members.names));
     steps = omega arith;
+    mirrors = λ k d l. absurd (omega (arith, l));
+    mirrors_tried = λ k d l. absurd (omega (arith, l));
+    mirrors_few = omega arith;
   }
 
   pub opening_state : (ms : List Alone) (sent : List SentPacket) → ms ≡ begun_all (length g.members.names) draw
@@ -151,6 +156,7 @@ module _ (g : GroupKeys) (is : IsGroup g) (draw : ℕ → ℕ → ℕ) where
         issued = [];
         tally = record { delivered = 0; attempts = 0; parts = 0; octets = 0 };
         steps = 0;
+        mirrors = [];
       })
   opening_state ms sent ms_are sent_is =
       subst (λ (as_ : List Alone). IsTrueState (record {
@@ -161,6 +167,7 @@ module _ (g : GroupKeys) (is : IsGroup g) (draw : ℕ → ℕ → ℕ) where
         issued = [];
         tally = record { delivered = 0; attempts = 0; parts = 0; octets = 0 };
         steps = 0;
+        mirrors = [];
       })) (sym ms_are)
       (subst (λ (ps : List SentPacket). IsTrueState (record {
         keys = g;
@@ -170,4 +177,5 @@ module _ (g : GroupKeys) (is : IsGroup g) (draw : ℕ → ℕ → ℕ) where
         issued = [];
         tally = record { delivered = 0; attempts = 0; parts = 0; octets = 0 };
         steps = 0;
+        mirrors = [];
       })) (sym sent_is) begun_state)

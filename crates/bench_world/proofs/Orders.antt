@@ -125,6 +125,9 @@ issued_state s made is = record {
     tally = is.within.tally;
   };
   steps = is.steps;
+  mirrors = is.mirrors;
+  mirrors_tried = is.mirrors_tried;
+  mirrors_few = is.mirrors_few;
 }
 
 module _ (s : GroupState) (is : IsTrueState s) (m : ℕ) (there : m < length s.members) (old : Alone)

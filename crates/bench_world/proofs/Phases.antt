@@ -11,7 +11,7 @@ use Rattle.ndn_sign.specs.Ring.{NamedKey}
 use Rattle.repo_plan.specs.declared.part.Part.{Part}
 use Rattle.sorted_lists.specs.SortedList.{contains}
 use Rattle.repo_plan.specs.Parts.{part_cmp}
-use Rattle.repo_plan.specs.Plan.{is_wanted, is_after, unclaimed}
+use Rattle.repo_plan.specs.Plan.{is_wanted}
 use Rattle.repo_plan.proofs.Orders.{exact_parts}
 use Rattle.sorted_lists.proofs.Sets.{In, from_map, contains_in}
 use Rattle.repo_object.specs.declared.job.Job.{Job}
@@ -19,7 +19,6 @@ use Rattle.repo_object.specs.Verdict.{CheckedPart}
 use Rattle.fetch_work.specs.Attempts.{CanBeTried}
 use Rattle.fetch_work.specs.Phases.{AreFirst}
 use Rattle.group_model.specs.Publications.{Logs, all_parts}
-use Rattle.group_model.proofs.Tries.{take_short}
 use Rattle.group_model.proofs.Among.{in_all_parts}
 use Rattle.repo_member.specs.Groups.{GroupKeys}
 use Rattle.repo_holdings.specs.HoldingsState.{HoldingsState, held_plan}
@@ -36,7 +35,7 @@ use Rattle.bench_world.specs.Sizes.{size_of}
 use Rattle.bench_world.specs.Lending.{lent, lends, attempt_comes, lent_answer}
 use Rattle.bench_world.specs.Gathering.{next_parts, lent_one, lent_all}
 use Rattle.bench_world.specs.Fetching.{attempt_at, fetched_one, fetched_all}
-use Rattle.bench_world.proofs.NextParts.{next_unclaimed, from_slice_get}
+use Rattle.bench_world.proofs.NextParts.{few_next, next_unclaimed, from_slice_get}
 use Rattle.bench_world.proofs.Brought.{lends_true, were_tried, none_counted, first_lengths, counted, octets_sum}
 use Rattle.bench_world.proofs.Brought.{fetched_is, lent_is, came_lent, want_part}
 
@@ -57,8 +56,7 @@ module _ (passes : ℕ → ℕ → ℕ → ℕ → ℕ → ℕ → Bool) (g : Gr
   few_jobs =
       let e : length jobs ≡ length (next_parts after h) =
       ap length jobs_are ∙ length-map (next_parts after h) (job_at g.members.names g.name h) in
-      let b : length (next_parts after h) ≤ 4096 =
-      take_short 4096 (filter (is_after after) (unclaimed (held_plan h))) in
+      let b : length (next_parts after h) ≤ 4096 = few_next h after in
       omega (arith, e, b)
 
   pub count_jobs : length jobs ≡ length (next_parts after h)

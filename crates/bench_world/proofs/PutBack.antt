@@ -1,23 +1,10 @@
--- A member that is taken out and put back, changed or not.
-use Rattle.std.proofs.Common.{◌≡◌, ℕ, suc, zero, ◌<◌, List, [], ◌∷◌, length, set, sym, ap, ◌∙◌, subst, arith}
-use Rattle.std.specs.List.{remove, insert}
-use Rattle.std.proofs.lemmas.List.{get_or-set_same}
+-- All members but one.
+use Rattle.std.proofs.Common.{◌≡◌, ℕ, suc, zero, List, [], ◌∷◌, sym, subst, arith}
+use Rattle.std.specs.List.{remove}
 use Rattle.repo_member.specs.Groups.{GroupKeys}
 use Rattle.repo_member.specs.Alone.{Alone}
 use Rattle.group_model.specs.Publications.{Logs}
-use Rattle.bench_world.specs.Worlds.{nobody, alone_at, AreTrueMembers}
-use Rattle.bench_world.proofs.TakenOut.{put_in}
-
--- It stands where it stood, and the others as they did.
-pub put_at : (ms mid new : List Alone) (j : ℕ) (x : Alone) → j < length ms → mid ≡ remove ms j
-    → new ≡ insert mid j x → alone_at new j ≡ x
-put_at ms mid new j x l a b =
-    ap (λ (xs : List Alone). alone_at xs j) (put_in ms mid new j x l a b) ∙ get_or-set_same ms j x nobody l
-
-pub put_changed : (ms mid new : List Alone) (j : ℕ) (x : Alone) → j < length ms → mid ≡ remove ms j
-    → new ≡ insert mid j x → new ≡ set ms j (alone_at new j)
-put_changed ms mid new j x l a b =
-    put_in ms mid new j x l a b ∙ ap (set ms j) (sym (put_at ms mid new j x l a b))
+use Rattle.bench_world.specs.Worlds.{AreTrueMembers}
 
 -- All but one are as they were.
 without : (g : GroupKeys) (logs : Logs) (xs : List Alone) (k : ℕ) → AreTrueMembers g logs xs

@@ -76,6 +76,6 @@ module _ (s : GroupState) (is : IsTrueState s) (few : s.steps < 100000) (draw : 
       (λ j l. subst (IsTrueMember mid.keys (logs_around mid.members)) (sym (each j (omega (arith, l, len))))
       (resets_true mid.keys (logs_around mid.members) mid.moment (draw j (alone_at mid.members j).machine.draws)
       (alone_at mid.members j) (truly.members j (omega (arith, l, len)))))
-      truly.sent truly.steps
+      truly.sent (omega arith) truly.steps
       (subst (λ (k : ℕ). IsWithinSteps k (world_of (record mid { members = new }))) (sym steps_are)
       (subst (IsWithinSteps (s.steps + 1)) (sym reset_world) within))

@@ -20,9 +20,10 @@ use Rattle.repo_member.specs.InGroup.{in_group, AreLogs}
 use Rattle.repo_member.specs.InEvents.{IsMemberOf, IsTrueIn}
 use Rattle.repo_member.specs.TrueMembers.{IsTrueMember}
 use Rattle.repo_member.proofs.PublicLaws.{true_stores}
+use Rattle.repo_mirror.specs.TrueMirrors.{IsTrueMirror}
 use Rattle.bench_world.specs.Truth.{AllTriedFew, AreFewLogs}
 use Rattle.bench_world.specs.Worlds.{GroupState, IsTrueState, IsTrueSync, nobody, alone_at, in_groups, logs_around}
-use Rattle.bench_world.specs.Worlds.{MembersAreNumbered, AreTrueMembers, sync_in, world_of, no_packet}
+use Rattle.bench_world.specs.Worlds.{MembersAreNumbered, AreTrueMembers, MirrorTriedFew, sync_in, world_of, no_packet}
 
 -- ---- members
 
@@ -167,15 +168,21 @@ module _ (s : GroupState) (is : IsTrueState s) where
 
   -- ---- other worlds
 
+  -- More steps were made.
+  pub mirrors_still : (steps : ℕ) → s.steps ≤ steps → All (MirrorTriedFew steps) s.mirrors
+  mirrors_still steps more k d l t =
+      let few : tries_of (get_or s.mirrors k d).attempts t ≤ s.steps * 16 = is.mirrors_tried k d l t in
+      omega (arith, few, more)
+
   -- Other members of the same logs, and other packets that were sent.
   pub changed_state : (members : List Alone) (sent : List SentPacket) (moment : ℕ) (tally : Tally) (steps : ℕ)
       → length members ≡ length s.members → MembersAreNumbered members
       → AreTrueMembers s.keys (logs_around s.members) members
-      → All (IsTrueSync s.keys (logs_around s.members)) sent → steps ≤ 100000
+      → All (IsTrueSync s.keys (logs_around s.members)) sent → s.steps ≤ steps → steps ≤ 100000
       → IsWithinSteps steps
       (world_of (record s { members = members; sent = sent; moment = moment; tally = tally; steps = steps }))
       → IsTrueState (record s { members = members; sent = sent; moment = moment; tally = tally; steps = steps })
-  changed_state members sent moment tally steps len numbers all syncs few within =
+  changed_state members sent moment tally steps len numbers all syncs more few within =
       let same : logs_around members ≡ logs_around s.members =
       logs_are s.keys (logs_around s.members) members (len ∙ many) numbers all in
       record {
@@ -185,6 +192,9 @@ module _ (s : GroupState) (is : IsTrueState s) where
         sent = subst (λ (ls : Logs). All (IsTrueSync s.keys ls) sent) (sym same) syncs;
         within = within;
         steps = few;
+        mirrors = subst (λ (ls : Logs). All (IsTrueMirror s.keys ls) s.mirrors) (sym same) is.mirrors;
+        mirrors_tried = mirrors_still steps more;
+        mirrors_few = is.mirrors_few;
       }
 
   module _ (few : s.steps < 100000) (out : Outside) (small : HasSmallPackets out (world_of s)) (e : Event)
@@ -201,7 +211,7 @@ module _ (s : GroupState) (is : IsTrueState s) where
         ≡ after_event out (world_of s) e
         → IsTrueState (record s { members = members; sent = sent; moment = moment; tally = tally; steps = s.steps + 1 })
     stepped members sent moment tally len numbers all syncs world_is =
-        changed_state members sent moment tally (s.steps + 1) len numbers all syncs (omega (arith, few))
+        changed_state members sent moment tally (s.steps + 1) len numbers all syncs (omega arith) (omega (arith, few))
         (subst (IsWithinSteps (s.steps + 1)) (sym world_is) within_more)
 
     -- The same where one member has changed.

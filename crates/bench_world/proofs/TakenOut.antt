@@ -1,30 +1,41 @@
--- A member that is taken out of a group, and the others.
+-- A member or a mirror that is taken out of a group and put back, changed or not, and the others.
 use Rattle.std.proofs.Common.{◌≡◌, ◌≢◌, inl, inr, ℕ, suc, zero, ◌+◌, ◌-◌, ◌<◌, ◌==◌, Bool, false, cond, List, [], ◌∷◌}
-use Rattle.std.proofs.Common.{length, set, Some, None, refl, sym, ap, ◌∙◌, arith}
+use Rattle.std.proofs.Common.{length, get_or, set, Some, None, refl, sym, ap, ◌∙◌, arith}
 use Rattle.std.specs.Prelude.{nat_lt}
 use Rattle.std.specs.List.{remove, insert}
 use Rattle.std.proofs.lemmas.Bool.{cases_eq, cases_lt, eq-eqb, lt-ltb, eqb-true, false_from_ne_true, ltb-true}
-use Rattle.std.proofs.lemmas.List.{set-get_or}
+use Rattle.std.proofs.lemmas.List.{set-get_or, get_or-set_same}
 use Rattle.std.proofs.lemmas.List.Edits.{get_or-remove_below, get_or-remove_above}
 use Rattle.repo_member.specs.Alone.{Alone}
 use Rattle.bench_world.specs.Worlds.{nobody, alone_at}
 use Rattle.bench_world.specs.Others.{place_among_others, other_at}
 use Rattle.bench_world.specs.Answering.{lender_of}
 
-same_place : (ms : List Alone) (j : ℕ) (x : Alone) → j < length ms → insert (remove ms j) j x ≡ set ms j x
-same_place [] j x l = absurd (omega (arith, l))
-same_place (m ∷ ms) zero x l = refl
-same_place (m ∷ ms) (suc j) x l = ap (λ (xs : List Alone). m ∷ xs) (same_place ms j x (omega (arith, l)))
+module _ {A : Type 0} where
+  same_place : (ms : List A) (j : ℕ) (x : A) → j < length ms → insert (remove ms j) j x ≡ set ms j x
+  same_place [] j x l = absurd (omega (arith, l))
+  same_place (m ∷ ms) zero x l = refl
+  same_place (m ∷ ms) (suc j) x l = ap (λ (xs : List A). m ∷ xs) (same_place ms j x (omega (arith, l)))
 
--- It is put back.
-pub put_in : (ms mid new : List Alone) (j : ℕ) (x : Alone) → j < length ms → mid ≡ remove ms j → new ≡ insert mid j x
-    → new ≡ set ms j x
-put_in ms mid new j x l a b = b ∙ ap (λ (xs : List Alone). insert xs j x) a ∙ same_place ms j x l
+  -- It is put back.
+  pub put_in : (ms mid new : List A) (j : ℕ) (x : A) → j < length ms → mid ≡ remove ms j → new ≡ insert mid j x
+      → new ≡ set ms j x
+  put_in ms mid new j x l a b = b ∙ ap (λ (xs : List A). insert xs j x) a ∙ same_place ms j x l
 
--- As it was.
-pub put_back : (ms mid new : List Alone) (j : ℕ) (x : Alone) → j < length ms → mid ≡ remove ms j → new ≡ insert mid j x
-    → x ≡ alone_at ms j → new ≡ ms
-put_back ms mid new j x l a b same = put_in ms mid new j x l a b ∙ ap (set ms j) same ∙ set-get_or ms j nobody
+  module _ (none : A) (ms mid new : List A) (j : ℕ) (x : A) (there : j < length ms) (taken : mid ≡ remove ms j)
+      (put : new ≡ insert mid j x) where
+    -- It stands where it stood, and the others as they did.
+    pub put_at : get_or new j none ≡ x
+    put_at =
+        ap (λ (xs : List A). get_or xs j none) (put_in ms mid new j x there taken put)
+        ∙ get_or-set_same ms j x none there
+
+    pub put_changed : new ≡ set ms j (get_or new j none)
+    put_changed = put_in ms mid new j x there taken put ∙ ap (set ms j) (sym put_at)
+
+    -- As it was.
+    pub put_back : x ≡ get_or ms j none → new ≡ ms
+    put_back same = put_in ms mid new j x there taken put ∙ ap (set ms j) same ∙ set-get_or ms j none
 
 module _ (ms others : List Alone) (j : ℕ) (there : j < length ms) (are : others ≡ remove ms j) where
   -- The others stand where they stood, or one place before.

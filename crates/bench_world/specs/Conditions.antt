@@ -9,13 +9,17 @@ use Rattle.group_model.specs.World.{World}
 use Rattle.group_model.specs.World as group
 use Rattle.group_model.specs.Sound.{IsSoundGroup, IsPublishedPart}
 use Rattle.group_model.specs.Settles.{learnt_member}
+use Rattle.group_model.specs.Steps.{settled_vector}
 use Rattle.repo_member.specs.Groups.{GroupKeys}
 use Rattle.repo_member.specs.Alone.{Alone, alone_plan}
 use Rattle.repo_member.specs.InGroup.{AreLogs}
 use Rattle.repo_member.specs.TrueMembers.{IsTrueMember, true_want}
+use Rattle.repo_mirror.specs.MirrorState.{MirrorState, mirror_holdings}
+use Rattle.repo_mirror.specs.TrueMirrors.{IsTrueMirror}
 use Rattle.bench_world.specs.Holders.{HolderWords}
+use Rattle.bench_world.specs.MirrorSteps.{mirror_at}
 use Rattle.bench_world.specs.Truth.{AreFewLogs, TriedFew, AllTriedFew}
-use Rattle.bench_world.specs.Worlds.{in_groups, AreTrueMembers, MembersAreNumbered}
+use Rattle.bench_world.specs.Worlds.{in_groups, logs_around, only_members, AreTrueMembers, MembersAreNumbered}
 
 -- ---- a fetcher's claim
 
@@ -77,6 +81,44 @@ module _ {H : Type 0} (words : HolderWords H) where
     pub others : AreTrueMembers g ls lenders
     pub truly : words.is_true g ls s
     pub tried : TriedFew (words.holdings s)
+
+-- ---- one mirror and all members
+
+-- The mirror of this number fetches of members, so often at most.
+pub record CanFetchFor (g : GroupKeys) (n most i : ℕ) (lenders : List Alone) (ms : List MirrorState) : Type 0 where
+  pub workers : (1 ≤ n) × (n ≤ 16)
+  pub tries : (1 ≤ most) × (most ≤ 16)
+  pub there : i < length ms
+  pub few : i < 4
+  pub logs : AreFewLogs g (logs_around lenders)
+  pub others : AreTrueMembers g (logs_around lenders) lenders
+  pub truly : IsTrueMirror g (logs_around lenders) (mirror_at ms i)
+  pub tried : TriedFew (mirror_holdings (mirror_at ms i))
+
+-- It has learnt nothing yet of a settle, in which members lend what they store. They know this vector together.
+pub record CanGatherFor (g : GroupKeys) (n i : ℕ) (lenders : List Alone) (told : List ℕ) (ms : List MirrorState)
+    : Type 0 where
+  pub workers : (1 ≤ n) × (n ≤ 16)
+  pub there : i < length ms
+  pub few : i < 4
+  pub logs : AreFewLogs g (logs_around lenders)
+  pub sound : IsSoundGroup (only_members lenders)
+  pub others : AreTrueMembers g (logs_around lenders) lenders
+  pub known : told ≡ settled_vector (only_members lenders)
+  pub truly : IsTrueMirror g (logs_around lenders) (mirror_at ms i)
+  pub tried : TriedFew (mirror_holdings (mirror_at ms i))
+
+-- The same of all mirrors.
+pub record CanGatherForAll (g : GroupKeys) (n : ℕ) (lenders : List Alone) (told : List ℕ) (ms : List MirrorState)
+    : Type 0 where
+  pub workers : (1 ≤ n) × (n ≤ 16)
+  pub few : length ms ≤ 4
+  pub logs : AreFewLogs g (logs_around lenders)
+  pub sound : IsSoundGroup (only_members lenders)
+  pub others : AreTrueMembers g (logs_around lenders) lenders
+  pub known : told ≡ settled_vector (only_members lenders)
+  pub truly : (i : ℕ) → i < length ms → IsTrueMirror g (logs_around lenders) (mirror_at ms i)
+  pub tried : (i : ℕ) → i < length ms → TriedFew (mirror_holdings (mirror_at ms i))
 
 -- ---- all members
 

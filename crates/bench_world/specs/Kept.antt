@@ -11,6 +11,7 @@ world_state w = record {
   issued = w.issued.commands;
   tally = record { delivered = w.delivered; attempts = w.attempts; parts = w.parts; octets = w.octets };
   steps = w.steps;
+  mirrors = w.mirrors.items;
 }
 
 abbrev pub IsWorld : Inside → Type 0

@@ -7,6 +7,8 @@ pub mod Lending
 pub mod Holders
 pub mod MemberWords
 pub mod MembersHold
+pub mod MirrorWords
+pub mod MirrorsHold
 pub mod Gathering
 pub mod Fetching
 pub mod Settling
@@ -23,6 +25,9 @@ pub mod Answerable
 pub mod Replying
 pub mod Sums
 pub mod Runs
+pub mod MirrorSteps
+pub mod MirrorFetching
+pub mod MirrorSettles
 pub mod Conditions
 pub mod Workers
 pub mod Commanding

@@ -59,6 +59,7 @@ pub record ComesTo (why : Option Refusal) (then : World) (what : Told) (e : Even
   pub joined : OnOk result (JoinsAfter e (world_of new))
   pub steps : OnOk result (new.steps ≡ old.steps + 1)
   pub keys : new.keys ≡ old.keys
+  pub mirrors : new.mirrors ≡ old.mirrors
   pub refused : IfErr result (IsFaultOf why)
   pub err : OnErr result (StandsAsBefore e old new)
 

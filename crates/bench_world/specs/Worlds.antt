@@ -1,11 +1,12 @@
 -- A group with the packets of its members, and the group's world that it is.
-use Rattle.std.specs.Prelude.{ℕ, ◌≡◌, ◌≤◌, ◌<◌, true, List, [], map, length, slice_index_or, None}
+use Rattle.std.specs.Prelude.{ℕ, ◌≡◌, ◌*◌, ◌≤◌, ◌<◌, true, List, [], map, length, slice_index_or, None}
 use Rattle.std.specs.List.{All, remove}
 use Rattle.sorted_lists.specs.Range.{numbers_from}
+use Rattle.repo_plan.specs.declared.part.Part.{Part}
 use Rattle.repo_plan.specs.Plan.{no_claims}
 use Rattle.bench_net.specs.SentList.{SentPacket, sent_packet}
 use Rattle.group_model.specs.Publications.{Logs}
-use Rattle.group_model.specs.Member.{Member}
+use Rattle.group_model.specs.Member.{Member, tries_of}
 use Rattle.group_model.specs.Events.{SyncInterest}
 use Rattle.group_model.specs.Events.Came.{Nothing}
 use Rattle.group_model.specs.Sound.{IsTrueVector}
@@ -16,9 +17,11 @@ use Rattle.repo_member.specs.Alone.{Alone, no_insertions, alone_opening}
 use Rattle.repo_member.specs.Verdicts.{sync_of}
 use Rattle.repo_member.specs.InGroup.{in_group, AreLogs}
 use Rattle.repo_member.specs.TrueMembers.{IsTrueMember}
+use Rattle.repo_mirror.specs.MirrorState.{MirrorState}
+use Rattle.repo_mirror.specs.TrueMirrors.{IsTrueMirror}
 
 -- A group: its names and keys, its members with their packets, what was sent, the moment, the commands that
--- clients made for members, the tally, and how many steps were made.
+-- clients made for members, the tally, how many steps were made, and its mirrors.
 pub record GroupState : Type 0 where
   pub keys : GroupKeys
   pub members : List Alone
@@ -27,6 +30,7 @@ pub record GroupState : Type 0 where
   pub issued : List Issued
   pub tally : Tally
   pub steps : ℕ
+  pub mirrors : List MirrorState
 
 abbrev pub nobody : Alone
 nobody = record {
@@ -96,8 +100,12 @@ pub record IsTrueSync (g : GroupKeys) (logs : Logs) (p : SentPacket) : Type 0 wh
 abbrev pub tells : GroupKeys → Alone → SentPacket
 tells g a = sent_packet a.number a.known (sync_of g a.number a.known)
 
+-- In so many steps a mirror tried no part more often.
+abbrev pub MirrorTriedFew : ℕ → MirrorState → Type 0
+MirrorTriedFew steps m = (t : Part) → tries_of m.attempts t ≤ steps * 16
+
 -- A sound world: what was published is within the limits, each member stores the packets of the parts that it holds,
--- what was sent is what members told, and counts are within those of so many steps.
+-- what was sent is what members told, counts are within those of so many steps, and mirrors hold what was published.
 pub record IsTrueState (s : GroupState) : Type 0 where
   pub are : AreLogs s.keys (logs_around s.members)
   pub numbers : MembersAreNumbered s.members
@@ -105,6 +113,9 @@ pub record IsTrueState (s : GroupState) : Type 0 where
   pub sent : All (IsTrueSync s.keys (logs_around s.members)) s.sent
   pub within : IsWithinSteps s.steps (world_of s)
   pub steps : s.steps ≤ 100000
+  pub mirrors : All (IsTrueMirror s.keys (logs_around s.members)) s.mirrors
+  pub mirrors_tried : All (MirrorTriedFew s.steps) s.mirrors
+  pub mirrors_few : length s.mirrors ≤ 4
 
 -- ---- draws
 

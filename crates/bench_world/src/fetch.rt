@@ -8,6 +8,7 @@ ghost use Rattle.bench_world.specs.Sizes.{size_of};
 ghost use Rattle.bench_world.specs.Conditions.{CanFetch};
 ghost use Rattle.bench_world.specs.Gathering.{next_parts};
 ghost use Rattle.bench_world.specs.Fetching.{fetched_all};
+ghost use Rattle.bench_world.specs.Worlds.{logs_around};
 
 use crate::gather::PHASE_LIMIT;
 use crate::holder::Holder;
@@ -69,6 +70,32 @@ pub(crate) fn fetch<N: Net + Sync, R: Threads + Sync, H: Holder>(
         kept,
         attempts: total(&outcome.attempts),
     })
+}
+
+/// The same of all members, by who publishes nothing.
+pub(crate) fn fetch_of_all<N: Net + Sync, R: Threads + Sync, H: Holder>(
+    rt: &R,
+    alloc: Global,
+    g: &Group,
+    link: &MemberLink<'_, N>,
+    workers: u32,
+    tries: u32,
+    holder: &mut H,
+) -> Result<FetchCounts, AllocError>
+    requires { CanFetch H.words g.now (logs_around link.now.others.now) workers tries link.now.others.now holder.old }
+    ensures new { OnOk result (holder.new ≡ H.words.takes (fetched_all
+        (attempt_comes (N.passes link.now.net.now) link.now.asker link.now.loss) link.now.others.now tries
+        (H.words.holdings holder.old) (next_parts None (H.words.holdings holder.old))) holder.old) }
+    ensures planned { IfOk result (λ r. r.planned ≡ length (next_parts None (H.words.holdings holder.old))) }
+    ensures parts { IfOk result (λ r. r.kept.parts ≡ length (that_came (fetched_all
+        (attempt_comes (N.passes link.now.net.now) link.now.asker link.now.loss) link.now.others.now tries
+        (H.words.holdings holder.old) (next_parts None (H.words.holdings holder.old))))) }
+    ensures attempts { IfOk result (λ r. r.attempts ≡ sum (map (λ x. x.attempts) (fetched_all
+        (attempt_comes (N.passes link.now.net.now) link.now.asker link.now.loss) link.now.others.now tries
+        (H.words.holdings holder.old) (next_parts None (H.words.holdings holder.old))))) }
+    ensures err { OnErr result (holder.new ≡ holder.old) }
+{
+    fetch(rt, alloc, g, link, workers, tries, holder)
 }
 
 // The sum of numbers.

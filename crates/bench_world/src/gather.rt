@@ -7,6 +7,7 @@ ghost use Rattle.bench_world.specs.Sizes.{size_of};
 ghost use Rattle.bench_world.specs.Conditions.{CanGather};
 ghost use Rattle.bench_world.specs.Gathering.{next_parts, lent_all, one_each, Counts, IsPlaceIn, GainsParts};
 ghost use Rattle.bench_world.specs.Gathering.{NothingLeft};
+ghost use Rattle.bench_world.specs.Worlds.{logs_around};
 
 use crate::holder::Holder;
 use crate::lending::MemberLink;
@@ -113,4 +114,23 @@ pub(crate) fn gather<N: Net + Sync, R: Threads + Sync, H: Holder>(
             return Ok(kept);
         }
     }
+}
+
+/// The same of all members, by who publishes nothing.
+pub(crate) fn gather_of_all<N: Net + Sync, R: Threads + Sync, H: Holder>(
+    rt: &R,
+    alloc: Global,
+    g: &Group,
+    link: &MemberLink<'_, N>,
+    workers: u32,
+    holder: &mut H,
+) -> Result<Kept, AllocError>
+    requires { CanGather H.words
+        g.now (logs_around link.now.others.now) workers link.now.others.now link.now.loss holder.old }
+    ensures gains { GainsParts H.words
+        g.now (logs_around link.now.others.now) link.now.others.now holder.old holder.new }
+    ensures parts { IfOk result (λ kept. Counts H.words one_each kept.parts holder.old holder.new) }
+    ensures left { OnOk result (NothingLeft H.words link.now.others.now holder.new) }
+{
+    gather(rt, alloc, g, link, workers, holder)
 }

@@ -16,6 +16,8 @@ mod holder;
 mod issued;
 mod laws;
 mod lending;
+mod mirror_gathering;
+mod mirroring;
 mod numbers;
 mod others;
 mod settling;
@@ -27,4 +29,4 @@ pub use event::{Event, Happened, StepFault};
 pub use laws::{
     a_settle_can_be_made_again, claimed_parts_can_be_answered, workers_make_no_difference,
 };
-pub use world::World;
+pub use world::{MirrorFault, World};

@@ -39,6 +39,7 @@ impl World {
         ensures joined { OnOk result (JoinsAfter (event_value event.now) (world_of self.new)) }
         ensures steps { OnOk result (self.new.steps ≡ self.old.steps + 1) }
         ensures keys { self.new.keys ≡ self.old.keys }
+        ensures mirrors { self.new.mirrors ≡ self.old.mirrors }
         ensures refused { IfErr result (IsFaultOf (refusal (outside self.old.keys (D.draw draws.now) (N.passes net.now))
             (world_of self.old) (group_event self.old.keys (event_value event.now)))) }
         ensures err { OnErr result (StandsAsBefore (event_value event.now) self.old self.new) }
@@ -152,6 +153,7 @@ impl World {
             (world_of self.old) (group_events self.old.keys (event_values events.now)) (world_of self.new)) }
         ensures steps { OnOk result (self.new.steps ≡ self.old.steps + length events.now) }
         ensures keys { self.new.keys ≡ self.old.keys }
+        ensures mirrors { self.new.mirrors ≡ self.old.mirrors }
     {
         // Read for its clauses alone: the invariant holds.
         let _count = self.members();

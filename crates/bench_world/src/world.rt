@@ -1,4 +1,4 @@
-ghost use Rattle.std.specs.Prelude.{◌≡◌, ◌+◌, ◌<◌, length, IfOk};
+ghost use Rattle.std.specs.Prelude.{◌≡◌, ◌+◌, ◌<◌, length, [], IfOk};
 ghost use Rattle.group_model.specs.World.{opening_world, member, catalogue_at};
 ghost use Rattle.group_model.specs.Sound.{IsSoundGroup};
 ghost use Rattle.repo_member.specs.Listed.{alone_catalogue};
@@ -8,6 +8,8 @@ mod blocks;
 mod claiming;
 mod commanding;
 mod gaining;
+mod mirror_settling;
+mod mirrors;
 mod publishing;
 mod reading;
 mod serving;
@@ -15,11 +17,13 @@ mod syncing;
 
 use crate::issued::IssuedCommands;
 use bench_net::{Draws, Sent, Tally};
+pub use mirrors::MirrorFault;
 use repo_member::{Group, Member};
+use repo_mirror::Mirror;
 use std::alloc::{AllocError, Global};
 use std::marker::Model;
 
-/// All members of a group, with what was sent between them, the moment, and what was counted.
+/// All members of a group and its mirrors, with what was sent between members, the moment, and what was counted.
 ///
 /// A step that is refused has changed nothing, want of memory included, but for that of a settle.
 #[derive(Drop)]
@@ -35,6 +39,7 @@ pub struct World {
     parts: u64,
     octets: u64,
     steps: u32,
+    mirrors: Vec<Mirror>,
 }
 
 // A world is seen as what its members are by themselves, and what was sent. What the group makes of that is `world_of`
@@ -58,6 +63,7 @@ impl World {
             world_of world ≡ opening_world (drawing (D.draw draws.now)) (length group.members.names)) }
         ensures keys { IfOk result (λ world. world.keys ≡ group) }
         ensures steps { IfOk result (λ world. world.steps ≡ 0) }
+        ensures mirrors { IfOk result (λ world. world.mirrors ≡ []) }
     {
         let members = begin_all(alloc, &group, draws)?;
         // Read for its clause alone: the group is one.
@@ -74,6 +80,7 @@ impl World {
             parts: 0,
             octets: 0,
             steps: 0,
+            mirrors: Vec::new(alloc),
         })
     }
 
@@ -136,6 +143,7 @@ impl World {
         ensures world { world_of self.new ≡ world_of self.old }
         ensures steps { self.new.steps ≡ self.old.steps + 1 }
         ensures keys { self.new.keys ≡ self.old.keys }
+        ensures mirrors { self.new.mirrors ≡ self.old.mirrors }
     {
         self.steps += 1;
     }

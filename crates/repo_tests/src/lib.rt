@@ -12,6 +12,8 @@ mod command;
 #[cfg(test)]
 mod member;
 #[cfg(test)]
+mod mirrors;
+#[cfg(test)]
 mod net;
 #[cfg(test)]
 mod object;

@@ -8,7 +8,7 @@ use std::process::Abort;
 use std::test::*;
 
 // Whether the pattern is for the publisher's object of this name.
-fn is_for(pattern: &Pattern, publisher: u32, name: &Name) -> bool
+pub(crate) fn is_for(pattern: &Pattern, publisher: u32, name: &Name) -> bool
     ensures { result ≡ accepts pattern.now publisher name.now }
 {
     is_publisher(pattern.publisher, publisher) && begins_with(&pattern.prefix, name)

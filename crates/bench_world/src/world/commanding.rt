@@ -34,6 +34,7 @@ impl World {
         ensures answer { IfOk result (λ answer. answer ≡ command_answer (world_of self.old) m command) }
         ensures steps { OnOk result (self.new.steps ≡ self.old.steps + 1) }
         ensures keys { self.new.keys ≡ self.old.keys }
+        ensures mirrors { self.new.mirrors ≡ self.old.mirrors }
         ensures err { OnErr result (self.new ≡ self.old) }
     {
         // Read for its clause alone: the group is one.

@@ -79,6 +79,7 @@ impl World {
         ensures joined { OnOk result (NothingHidden (world_of self.new) → AllJoined (world_of self.new)) }
         ensures steps { self.new.steps ≡ self.old.steps + 1 }
         ensures keys { self.new.keys ≡ self.old.keys }
+        ensures mirrors { self.new.mirrors ≡ self.old.mirrors }
         ensures err { OnErr result (HaveSettledPart self.old self.new) }
     {
         self.steps += 1;

@@ -77,6 +77,7 @@ impl World {
         ensures sync { IfOk result (λ r. r.1 ≡ next_sync (world_of self.old)) }
         ensures steps { OnOk result (self.new.steps ≡ self.old.steps + 1) }
         ensures keys { self.new.keys ≡ self.old.keys }
+        ensures mirrors { self.new.mirrors ≡ self.old.mirrors }
         ensures refused { IfErr result (λ e. (e ≡ PublishRefusal.NoMemory)
             ⊎ (refusal (drawing (D.draw draws.now)) (world_of self.old) (Event.Publish m
             (record { name = name.now; contents = map (λ c. c.items) contents.now })) ≡ Some Refusal.NumbersSpent)) }

@@ -158,14 +158,7 @@ fn copied(alloc: Global, entries: &[Entry]) -> Result<Vec<Entry>, AllocError>
 {
     let mut copies = Vec::with_capacity(alloc, entries.len())?;
     for entry in entries {
-        copies.push(Entry {
-            publisher: entry.publisher,
-            seq: entry.seq,
-            name: entry.name.clone()?,
-            segments: entry.segments,
-            octets: entry.octets,
-            digest: entry.digest,
-        })?;
+        copies.push(entry.clone()?)?;
     }
     Ok(copies)
 }

@@ -169,7 +169,7 @@ returns-in-Err-clause-truly g c =
     c.remove-member.ensures.value
     ∙ get_or_default c.args.members.now.items c.args.j c.remove-member.result nobody can.there in
     let same =
-    put_back c.args.members.now.items c.remove-member.new.self.items c.insert.new.self.items c.args.j
+    put_back nobody c.args.members.now.items c.remove-member.new.self.items c.insert.new.self.items c.args.j
     c.fetch-fetched.new.holder can.there c.remove-member.ensures.items c.in-Ok.ensures.items
     (c.in-Err.ensures.err ∙ old) in
     subst (AreTrueMembers c.args.g.now (logs g.begun)) (sym same) can.truly
@@ -181,7 +181,7 @@ returns-in-Err-clause-numbers g c =
     c.remove-member.ensures.value
     ∙ get_or_default c.args.members.now.items c.args.j c.remove-member.result nobody can.there in
     let same =
-    put_back c.args.members.now.items c.remove-member.new.self.items c.insert.new.self.items c.args.j
+    put_back nobody c.args.members.now.items c.remove-member.new.self.items c.insert.new.self.items c.args.j
     c.fetch-fetched.new.holder can.there c.remove-member.ensures.items c.in-Ok.ensures.items
     (c.in-Err.ensures.err ∙ old) in
     subst MembersAreNumbered (sym same) can.numbers

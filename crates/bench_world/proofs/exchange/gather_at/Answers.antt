@@ -7,14 +7,15 @@ use Rattle.bench_world.specs.Truth.{TriedFew}
 use Rattle.bench_world.specs.Worlds.{nobody, alone_at, AreTrueMembers}
 use Rattle.bench_world.specs.MemberWords.{member_words}
 use Rattle.bench_world.specs.Gathering.{NothingLeft}
-use Rattle.bench_world.proofs.PutBack.{put_at, put_changed, others_true}
+use Rattle.bench_world.proofs.PutBack.{others_true}
+use Rattle.bench_world.proofs.TakenOut.{put_at, put_changed}
 use Rattle.bench_world.proofs.Bounded.{condition, member_passed_on}
 use Rattle.bench_world.proofs.exchange.gather_at.Goals as goal
 
 pub returns-clause-others : goal.returns-clause-others
 returns-clause-others g c =
     let can = condition c.requires in
-    put_changed c.args.members.now.items c.remove-member.new.self.items c.insert.new.self.items c.args.j
+    put_changed nobody c.args.members.now.items c.remove-member.new.self.items c.insert.new.self.items c.args.j
     c.gather-kept.new.holder can.there
     c.remove-member.ensures.items c.in-Ok.ensures.items
 
@@ -43,7 +44,7 @@ pub returns-clause-left : goal.returns-clause-left
 returns-clause-left g c =
     let can = condition c.requires in
     let here =
-    put_at c.args.members.now.items c.remove-member.new.self.items c.insert.new.self.items c.args.j
+    put_at nobody c.args.members.now.items c.remove-member.new.self.items c.insert.new.self.items c.args.j
     c.gather-kept.new.holder can.there c.remove-member.ensures.items c.in-Ok.ensures.items in
     subst (λ (others : List Alone).
     OnOk c.gather-kept.result (NothingLeft member_words others (alone_at c.insert.new.self.items c.args.j)))

@@ -24,6 +24,7 @@ returns-in-Err c =
       joined = tt;
       steps = tt;
       keys = search rules;
+      mirrors = search rules;
       refused =
           subst (λ (x : GroupState).
           IsFaultOf (refusal (keyed x.keys) (world_of x) (Event.Answer c.args.m c.args.f c.args.q)) c.in-Err.fault)
@@ -105,6 +106,7 @@ returns c =
       joined = tt;
       steps = ap (λ (x : GroupState). x.steps + 1) c.self.view_is;
       keys = ap (λ (x : GroupState). x.keys) c.self.view_is;
+      mirrors = ap (λ (x : GroupState). x.mirrors) c.self.view_is;
       refused = tt;
       err = tt;
     }

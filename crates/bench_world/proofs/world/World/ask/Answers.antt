@@ -25,6 +25,7 @@ returns c =
       joined = tt;
       steps = c.count.ensures.steps;
       keys = c.count.ensures.keys;
+      mirrors = c.count.ensures.mirrors;
       refused = tt;
       err = tt;
     }

@@ -40,6 +40,7 @@ returns-in-Err-NumbersSpent g c =
       joined = tt;
       steps = tt;
       keys = search rules;
+      mirrors = search rules;
       refused =
           subst (λ (x : GroupState).
           IsFaultOf (refusal (drawing (g.D.Draws.draw c.args.draws.now)) (world_of x) event) (fault.Refused 8))
@@ -110,6 +111,7 @@ returns g c =
       joined = tt;
       steps = ap (λ (x : GroupState). x.steps + 1) c.self.view_is;
       keys = ap (λ (x : GroupState). x.keys) c.self.view_is;
+      mirrors = ap (λ (x : GroupState). x.mirrors) c.self.view_is;
       refused = tt;
       err = tt;
     }

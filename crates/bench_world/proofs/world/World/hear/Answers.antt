@@ -52,6 +52,7 @@ returns-in-Err-Sync g c =
       joined = tt;
       steps = c.count.ensures.steps;
       keys = c.count.ensures.keys;
+      mirrors = c.count.ensures.mirrors;
       refused = tt;
       err = tt;
     }
@@ -85,6 +86,7 @@ returns-in-Err-OwnNumberAhead g c =
       joined = tt;
       steps = c.count-in-Err-OwnNumberAhead.ensures.steps;
       keys = c.count-in-Err-OwnNumberAhead.ensures.keys;
+      mirrors = c.count-in-Err-OwnNumberAhead.ensures.mirrors;
       refused = tt;
       err = tt;
     }
@@ -114,6 +116,7 @@ returns-in-Err g c =
       joined = tt;
       steps = tt;
       keys = search rules;
+      mirrors = search rules;
       refused =
           subst (λ (x : GroupState).
           IsFaultOf (if_unsent (world_of x) c.args.m (read_as (group_verdict x.keys c.args.octets.now))) c.in-Err.fault)
@@ -184,6 +187,7 @@ returns g c =
       joined = tt;
       steps = ap (λ (x : GroupState). x.steps + 1) c.self.view_is;
       keys = ap (λ (x : GroupState). x.keys) c.self.view_is;
+      mirrors = ap (λ (x : GroupState). x.mirrors) c.self.view_is;
       refused = tt;
       err = tt;
     }

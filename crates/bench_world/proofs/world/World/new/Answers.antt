@@ -1,5 +1,6 @@
-use Rattle.std.proofs.Common.{List, sym, ap, ◌∙◌, subst}
+use Rattle.std.proofs.Common.{List, [], sym, ap, ◌∙◌, subst}
 use Rattle.group_model.specs.World.{Issued}
+use Rattle.repo_mirror.specs.MirrorState.{MirrorState}
 use Rattle.bench_world.specs.IssuedList.{IssuedList}
 use Rattle.bench_world.specs.Worlds.{IsTrueState, world_of}
 use Rattle.bench_world.proofs.Openings.{opening_state, opening_is}
@@ -7,7 +8,18 @@ use Rattle.bench_world.proofs.world.World.new.Goals as goal
 
 pub invariant_of-result : goal.invariant_of-result
 invariant_of-result g c =
-    subst (λ (made : List Issued). IsTrueState (record {
+    subst (λ (ms : List MirrorState). IsTrueState (record {
+      keys = c.args.group;
+      members = c.in_ok-members.members.items;
+      sent = c.new.result.packets;
+      moment = 0;
+      issued = c.new-2.result.commands;
+      tally = record { delivered = 0; attempts = 0; parts = 0; octets = 0 };
+      steps = 0;
+      mirrors = ms;
+    }))
+    (sym c.new-3.ensures.items)
+    (subst (λ (made : List Issued). IsTrueState (record {
       keys = c.args.group;
       members = c.in_ok-members.members.items;
       sent = c.new.result.packets;
@@ -15,10 +27,11 @@ invariant_of-result g c =
       issued = made;
       tally = record { delivered = 0; attempts = 0; parts = 0; octets = 0 };
       steps = 0;
+      mirrors = [];
     }))
     (sym (ap (λ (x : IssuedList). x.commands) c.new-2.ensures))
     (opening_state c.args.group c.roster-roster.ensures.sound (g.D.Draws.draw c.args.draws.now)
-    c.in_ok-members.members.items c.new.result.packets c.in_ok-members.ensures (ap (λ x. x.packets) c.new.ensures))
+    c.in_ok-members.members.items c.new.result.packets c.in_ok-members.ensures (ap (λ x. x.packets) c.new.ensures)))
 
 pub returns-clause-world : goal.returns-clause-world
 returns-clause-world g c =
@@ -30,6 +43,7 @@ returns-clause-world g c =
       issued = made;
       tally = record { delivered = 0; attempts = 0; parts = 0; octets = 0 };
       steps = 0;
+      mirrors = [];
     })) (ap (λ (x : IssuedList). x.commands) c.new-2.ensures)
     ∙ opening_is c.args.group c.roster-roster.ensures.sound (g.D.Draws.draw c.args.draws.now)
     c.in_ok-members.members.items c.new.result.packets c.in_ok-members.ensures (ap (λ x. x.packets) c.new.ensures)

@@ -69,6 +69,7 @@ returns c =
       joined = tt;
       steps = ap (λ (x : GroupState). x.steps + 1) c.self.view_is;
       keys = ap (λ (x : GroupState). x.keys) c.self.view_is;
+      mirrors = ap (λ (x : GroupState). x.mirrors) c.self.view_is;
       refused = tt;
       err = tt;
     }
@@ -84,6 +85,7 @@ returns-in-Err c =
       joined = tt;
       steps = tt;
       keys = refl;
+      mirrors = refl;
       refused =
           subst (λ (x : GroupState).
           IsFaultOf (if_unissued (world_of x) c.args.m (commanded.order_of x.keys c.args.m c.args.octets.now))

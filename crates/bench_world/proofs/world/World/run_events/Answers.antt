@@ -16,6 +16,7 @@ loop-event-init g c = record {
   made = refl;
   steps = omega arith;
   keys = refl;
+  mirrors = refl;
   many = length-map c.args.self.now.members in_group ∙ c.members-count.ensures.names;
   taken = tt;
   world = refl;
@@ -49,6 +50,7 @@ loop-event-preserved g c =
       made = omega (arith, inv.made);
       steps = omega (arith, inv.steps, c.in-Ok.ensures.steps);
       keys = c.step.ensures.keys ∙ inv.keys;
+      mirrors = c.step.ensures.mirrors ∙ inv.mirrors;
       many =
           many_more out c.args.self.now.keys (world_of c.args.self.now) c.args.events.now i inside item c.event-item.is
           (world_of c.loop-event.self) (world_of c.step.new.self) (length c.args.self.now.keys.members.names) inv.many

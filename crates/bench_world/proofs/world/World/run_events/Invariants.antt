@@ -11,6 +11,7 @@ invariant-loop-event g l = record {
   made : l.made ≡ l.event-index;
   steps : l.self.steps ≡ l.fn.self.steps + l.event-index;
   keys : l.self.keys ≡ l.fn.self.keys;
+  mirrors : l.self.mirrors ≡ l.fn.self.mirrors;
   many : length (world_of l.self).members ≡ length l.fn.self.keys.members.names;
   taken : EventsAreTaken (outside l.fn.self.keys (g.D.Draws.draw l.draws) (g.N.Net.passes l.net)) (world_of l.fn.self)
       (group_events l.fn.self.keys (event_values (take l.event-index l.events)));

@@ -62,6 +62,7 @@ returns g c =
           c.reset_all.ensures.each;
       steps = ap (λ (x : GroupState). x.steps) c.self-2.view_is ∙ c.settle.ensures.steps;
       keys = ap (λ (x : GroupState). x.keys) c.self-2.view_is ∙ c.settle.ensures.keys;
+      mirrors = ap (λ (x : GroupState). x.mirrors) c.self-2.view_is ∙ c.settle.ensures.mirrors;
       refused = tt;
       err = tt;
     }

@@ -17,6 +17,7 @@ returns c = record {
   joined = tt;
   steps = c.in-Ok.ensures.steps;
   keys = c.issue.ensures.keys;
+  mirrors = c.issue.ensures.mirrors;
   refused = tt;
   err = tt;
 }

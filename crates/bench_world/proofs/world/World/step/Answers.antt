@@ -41,6 +41,7 @@ returns g c =
       joined = made.joined;
       steps = made.steps;
       keys = made.keys;
+      mirrors = made.mirrors;
       refused = made.refused;
       err = made.err;
     }

@@ -36,6 +36,7 @@ returns-in-Err g c =
       joined = tt;
       steps = tt;
       keys = search rules;
+      mirrors = search rules;
       refused =
           subst (λ (x : GroupState).
           IsFaultOf (refusal (drawing (g.D.Draws.draw c.args.draws.now)) (world_of x) event) c.fault_of.result)
@@ -112,6 +113,7 @@ returns g c =
       joined = tt;
       steps = ap (λ (x : GroupState). x.steps + 1) c.self.view_is;
       keys = ap (λ (x : GroupState). x.keys) c.self.view_is;
+      mirrors = ap (λ (x : GroupState). x.mirrors) c.self.view_is;
       refused = tt;
       err = tt;
     }

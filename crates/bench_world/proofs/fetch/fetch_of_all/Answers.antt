@@ -1,0 +1,5 @@
+use Rattle.bench_world.proofs.fetch.fetch_of_all.Goals as goal
+
+pub fetch-requires : goal.fetch-requires
+fetch-requires g c κs within =
+    (within.0, (within.1.0, (within.1.1, (c.type_bounds.sync-N, (c.type_bounds.sync-R, c.requires)))))

@@ -1,0 +1,91 @@
+use Rattle.std.proofs.Common.{ℕ, ◌+◌, ◌<◌, length, sym, ap, ◌∙◌, subst, arith}
+use Rattle.repo_mirror.specs.MirrorState.{MirrorState, mirror_holdings}
+use Rattle.bench_world.specs.MirrorSteps.{mirror_at}
+use Rattle.bench_world.specs.MirrorSettles.{held_by}
+use Rattle.bench_world.specs.Truth.{TriedFew}
+use Rattle.bench_world.specs.Worlds.{only_members}
+use Rattle.bench_world.proofs.MirrorSettling.{settled_none, more_len, more_truly, more_partly, more_settled, more_held}
+use Rattle.bench_world.proofs.mirror_gathering.gather_for_all.Goals as goal
+
+pub loop-i-init : goal.loop-i-init
+loop-i-init g c =
+    let can = c.requires in
+    record {
+      so_far = settled_none c.args.g.now (only_members c.args.members.now) c.args.mirrors.now.items can.truly;
+      parts = omega arith;
+      few = omega arith;
+    }
+
+pub gather_for-requires : goal.gather_for-requires
+gather_for-requires g c =
+    let can = c.requires in
+    let so_far = c.loop-i.invariant.so_far in
+    let inside : c.loop-i.i < length c.loop-i.mirrors.items =
+    omega (arith, c.loop-i-test.true, c.len-count.ensures, c.loop-i.invariant.so_far.len, c.args.mirrors.now.ok) in
+    let begun : c.loop-i.i < length c.args.mirrors.now.items =
+    omega (arith, inside, c.loop-i.invariant.so_far.len) in
+    let few = can.few in (
+      c.type_bounds.sync-R,
+      record {
+        workers = can.workers;
+        there = inside;
+        few = omega (arith, begun, few);
+        logs = can.logs;
+        sound = can.sound;
+        others = can.others;
+        known = can.known;
+        truly = so_far.truly c.loop-i.i inside;
+        tried =
+            subst (λ (m : MirrorState). TriedFew (mirror_holdings m)) (sym (so_far.still c.loop-i.i (omega arith)))
+            (can.tried c.loop-i.i begun);
+      },
+    )
+
+pub returns-in_err-came-clause-len : goal.returns-in_err-came-clause-len
+returns-in_err-came-clause-len g c =
+    let inside : c.loop-i.i < length c.loop-i.mirrors.items =
+    omega (arith, c.loop-i-test.true, c.len-count.ensures, c.loop-i.invariant.so_far.len, c.args.mirrors.now.ok) in
+    more_len c.args.g.now (only_members c.args.members.now) c.args.mirrors.now.items c.loop-i.i
+    c.loop-i.mirrors.items c.loop-i.invariant.so_far inside c.gather_for.new.mirrors.items
+    c.gather_for.ensures.others c.gather_for.ensures.truly c.gather_for.ensures.partly
+
+pub returns-in_err-came-clause-truly : goal.returns-in_err-came-clause-truly
+returns-in_err-came-clause-truly g c =
+    let inside : c.loop-i.i < length c.loop-i.mirrors.items =
+    omega (arith, c.loop-i-test.true, c.len-count.ensures, c.loop-i.invariant.so_far.len, c.args.mirrors.now.ok) in
+    more_truly c.args.g.now (only_members c.args.members.now) c.args.mirrors.now.items c.loop-i.i
+    c.loop-i.mirrors.items c.loop-i.invariant.so_far inside c.gather_for.new.mirrors.items
+    c.gather_for.ensures.others c.gather_for.ensures.truly c.gather_for.ensures.partly
+
+pub returns-in_err-came-clause-partly : goal.returns-in_err-came-clause-partly
+returns-in_err-came-clause-partly g c =
+    let inside : c.loop-i.i < length c.loop-i.mirrors.items =
+    omega (arith, c.loop-i-test.true, c.len-count.ensures, c.loop-i.invariant.so_far.len, c.args.mirrors.now.ok) in
+    more_partly c.args.g.now (only_members c.args.members.now) c.args.mirrors.now.items c.loop-i.i
+    c.loop-i.mirrors.items c.loop-i.invariant.so_far inside c.gather_for.new.mirrors.items
+    c.gather_for.ensures.others c.gather_for.ensures.truly c.gather_for.ensures.partly
+
+pub loop-i-preserved : goal.loop-i-preserved
+loop-i-preserved g c =
+    let inside : c.loop-i.i < length c.loop-i.mirrors.items =
+    omega (arith, c.loop-i-test.true, c.len-count.ensures, c.loop-i.invariant.so_far.len, c.args.mirrors.now.ok) in
+    record {
+      so_far =
+          more_settled c.args.g.now (only_members c.args.members.now) c.args.mirrors.now.items c.loop-i.i
+          c.loop-i.mirrors.items c.loop-i.invariant.so_far inside c.gather_for.new.mirrors.items
+          c.gather_for.ensures.others c.gather_for.ensures.truly c.gather_for.ensures.partly
+          c.in_ok-came.ensures.settled;
+      parts =
+          more_held c.args.g.now (only_members c.args.members.now) c.args.mirrors.now.items c.loop-i.i
+          c.loop-i.mirrors.items c.loop-i.invariant.so_far inside c.gather_for.new.mirrors.items
+          c.gather_for.ensures.others c.gather_for.ensures.truly c.gather_for.ensures.partly c.loop-i.parts
+          c.from-parts.result c.loop-i.invariant.parts
+          (ap (λ (n : ℕ). n + held_by (mirror_at c.loop-i.mirrors.items c.loop-i.i)) c.from-parts.ensures
+          ∙ c.in_ok-came.ensures.parts);
+      few = omega (arith, c.loop-i.invariant.few, c.from-parts.ensures);
+    }
+
+pub returns-clause-settled : goal.returns-clause-settled
+returns-clause-settled g c = λ i l.
+    c.loop-i.invariant.so_far.done i
+    (omega (arith, l, c.loop-i-test.false, c.loop-i.auto.i-end, c.len-count.ensures, c.args.mirrors.now.ok))

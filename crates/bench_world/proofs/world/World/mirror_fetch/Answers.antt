@@ -1,0 +1,146 @@
+use Rattle.std.proofs.Common.{◌≡◌, ◌+◌, ◌<◌, List, length, map, set, refl, sym, ap, ◌∙◌, subst, arith, None}
+use Rattle.std.specs.Prelude.{slice_set, sum, sum_by}
+use Rattle.std.proofs.lemmas.List.{get_or_default, get_or-set_same}
+use Rattle.repo_holdings.specs.Taking.{Fetched}
+use Rattle.repo_member.specs.Alone.{Alone}
+use Rattle.repo_member.specs.InGroup.{that_came}
+use Rattle.repo_mirror.specs.MirrorState.{MirrorState, mirror_holdings}
+use Rattle.bench_world.specs.Conditions.{CanFetchFor}
+use Rattle.bench_world.specs.MirrorSteps.{no_mirror, mirror_at, mirror_fetched, mirror_fetches}
+use Rattle.bench_world.specs.MirrorFetching.{mirror_asks, mirror_gets, mirror_attempts, HasFetched}
+use Rattle.bench_world.specs.Worlds.{GroupState, IsTrueState, world_of}
+use Rattle.bench_world.specs.Kept.{world_state}
+use Rattle.bench_world.proofs.NextParts.{few_next}
+use Rattle.bench_world.proofs.States.{few_logs}
+use Rattle.bench_world.proofs.MirrorAsks.{asks_are, gets_are, attempts_are, has_fetched}
+use Rattle.bench_world.proofs.MirrorStates.{mirror_tried, fetched_mirror}
+use Rattle.bench_world.proofs.world.World.mirror_fetch.Goals as goal
+
+pub fetch_for-fetched-requires : goal.fetch_for-fetched-requires
+fetch_for-fetched-requires g c =
+    let s = world_state c.self.inside in
+    let there = subst (λ (x : GroupState). c.args.i < length x.mirrors) (sym c.self.view_is) c.requires.there in
+    let few = c.self.invariant.mirrors_few in (
+      c.type_bounds.sync-N,
+      (
+        c.type_bounds.sync-R,
+        subst (λ (as_ : List Alone). CanFetchFor s.keys c.args.workers c.args.tries c.args.i as_ s.mirrors)
+            (sym c.as_slice.ensures.value)
+            (record {
+              workers = c.requires.workers;
+              tries = c.requires.tries;
+              there = there;
+              few = omega (arith, there, few);
+              logs = few_logs s c.self.invariant;
+              others = c.self.invariant.members;
+              truly = c.self.invariant.mirrors c.args.i no_mirror there;
+              tried =
+                  mirror_tried s c.self.invariant c.args.i there (mirror_at s.mirrors c.args.i)
+                  (get_or_default s.mirrors c.args.i no_mirror (mirror_at s.mirrors c.args.i) there);
+            }),
+      ),
+    )
+
+pub invariant_of-self : goal.invariant_of-self
+invariant_of-self g c =
+    let s = world_state c.self.inside in
+    subst (λ (ms : List MirrorState). IsTrueState (record s { mirrors = ms })) (sym c.in-Err.ensures.err)
+    c.self.invariant
+
+pub invariant_of-self-2 : goal.invariant_of-self-2
+invariant_of-self-2 g c =
+    let s = world_state c.self.inside in
+    let there = subst (λ (x : GroupState). c.args.i < length x.mirrors) (sym c.self.view_is) c.requires.there in
+    let few = subst (λ (x : GroupState). x.steps < 100000) (sym c.self.view_is) c.requires.few in
+    fetched_mirror s c.self.invariant c.args.i there (mirror_at s.mirrors c.args.i)
+    (get_or_default s.mirrors c.args.i no_mirror (mirror_at s.mirrors c.args.i) there) few
+    (g.N.Net.passes c.args.net.now) c.args.tries c.args.loss
+    c.requires.tries.1 c.fetch_for-fetched.new.mirrors.items
+    (c.in-Ok.ensures.ok
+    ∙ ap (λ (as_ : List Alone). set s.mirrors c.args.i
+    (mirror_fetches (g.N.Net.passes c.args.net.now) as_ c.args.i c.args.tries c.args.loss
+    (mirror_at s.mirrors c.args.i)))
+    c.as_slice.ensures.value)
+
+pub returns-clause-ok : goal.returns-clause-ok
+returns-clause-ok g c =
+    let s = world_state c.self.inside in
+    ap (λ (ms : List MirrorState). let x : GroupState = record s { mirrors = ms; steps = s.steps + 1 } in x)
+    (c.in-Ok.ensures.ok
+    ∙ ap (λ (as_ : List Alone). set s.mirrors c.args.i
+    (mirror_fetches (g.N.Net.passes c.args.net.now) as_ c.args.i c.args.tries c.args.loss
+    (mirror_at s.mirrors c.args.i)))
+    c.as_slice.ensures.value)
+    ∙ ap (λ (x : GroupState). let y : GroupState = record x {
+      mirrors =
+          slice_set x.mirrors c.args.i
+          (mirror_fetches (g.N.Net.passes c.args.net.now) x.members c.args.i c.args.tries c.args.loss
+          (mirror_at x.mirrors c.args.i));
+      steps = x.steps + 1;
+    } in y) c.self.view_is
+
+pub returns-clause-fetched : goal.returns-clause-fetched
+returns-clause-fetched g c =
+    let s = world_state c.self.inside in
+    let there = subst (λ (x : GroupState). c.args.i < length x.mirrors) (sym c.self.view_is) c.requires.there in
+    let m : MirrorState = mirror_at s.mirrors c.args.i in
+    let made : MirrorState =
+    mirror_fetches (g.N.Net.passes c.args.net.now) s.members c.args.i c.args.tries c.args.loss m in
+    let now : mirror_at c.fetch_for-fetched.new.mirrors.items c.args.i ≡ made =
+    ap (λ (ms : List MirrorState). mirror_at ms c.args.i)
+    (c.in-Ok.ensures.ok
+    ∙ ap (λ (as_ : List Alone). set s.mirrors c.args.i
+    (mirror_fetches (g.N.Net.passes c.args.net.now) as_ c.args.i c.args.tries c.args.loss m)) c.as_slice.ensures.value)
+    ∙ get_or-set_same s.mirrors c.args.i made no_mirror there in
+    subst (λ (x : GroupState). HasFetched (g.N.Net.passes c.args.net.now) (world_of x) c.args.i c.args.tries c.args.loss
+    (mirror_at x.mirrors c.args.i) (mirror_at c.fetch_for-fetched.new.mirrors.items c.args.i)) c.self.view_is
+    (subst (HasFetched (g.N.Net.passes c.args.net.now) (world_of s) c.args.i c.args.tries c.args.loss m) (sym now)
+    (has_fetched (g.N.Net.passes c.args.net.now) s.keys (world_of s) c.self.invariant.are s.members refl m
+    (c.self.invariant.mirrors c.args.i no_mirror there) c.args.i c.args.tries c.args.loss c.self.invariant.members))
+
+pub returns-clause-planned : goal.returns-clause-planned
+returns-clause-planned g c =
+    let s = world_state c.self.inside in
+    let there = subst (λ (x : GroupState). c.args.i < length x.mirrors) (sym c.self.view_is) c.requires.there in
+    let m : MirrorState = mirror_at s.mirrors c.args.i in
+    c.in-Ok.ensures.planned
+    ∙ ap length
+    (asks_are (g.N.Net.passes c.args.net.now) s.keys (world_of s) c.self.invariant.are s.members refl m
+    (c.self.invariant.mirrors c.args.i no_mirror there) c.args.i c.args.tries c.args.loss)
+    ∙ ap (λ (x : GroupState). length (mirror_asks (world_of x) (mirror_at x.mirrors c.args.i))) c.self.view_is
+
+pub returns-clause-kept : goal.returns-clause-kept
+returns-clause-kept g c =
+    let s = world_state c.self.inside in
+    let there = subst (λ (x : GroupState). c.args.i < length x.mirrors) (sym c.self.view_is) c.requires.there in
+    let m : MirrorState = mirror_at s.mirrors c.args.i in
+    c.in-Ok.ensures.parts
+    ∙ ap (λ (as_ : List Alone). length
+    (that_came (mirror_fetched (g.N.Net.passes c.args.net.now) as_ c.args.i c.args.tries c.args.loss m)))
+    c.as_slice.ensures.value
+    ∙ ap length
+    (gets_are (g.N.Net.passes c.args.net.now) s.keys (world_of s) c.self.invariant.are s.members refl m
+    (c.self.invariant.mirrors c.args.i no_mirror there) c.args.i c.args.tries c.args.loss)
+    ∙ ap (λ (x : GroupState). length (mirror_gets (g.N.Net.passes c.args.net.now) (world_of x) c.args.i c.args.tries
+    c.args.loss (mirror_at x.mirrors c.args.i))) c.self.view_is
+
+pub returns-clause-attempts : goal.returns-clause-attempts
+returns-clause-attempts g c =
+    let s = world_state c.self.inside in
+    let there = subst (λ (x : GroupState). c.args.i < length x.mirrors) (sym c.self.view_is) c.requires.there in
+    let m : MirrorState = mirror_at s.mirrors c.args.i in
+    c.in-Ok.ensures.attempts
+    ∙ ap (λ (as_ : List Alone). sum (map (λ (x : Fetched). x.attempts)
+    (mirror_fetched (g.N.Net.passes c.args.net.now) as_ c.args.i c.args.tries c.args.loss m)))
+    c.as_slice.ensures.value
+    ∙ attempts_are (g.N.Net.passes c.args.net.now) s.keys (world_of s) c.self.invariant.are s.members refl m
+    (c.self.invariant.mirrors c.args.i no_mirror there) c.args.i c.args.tries c.args.loss
+    ∙ ap (λ (x : GroupState). sum_by
+    (mirror_attempts (g.N.Net.passes c.args.net.now) (world_of x) c.args.i c.args.tries c.args.loss
+    (mirror_at x.mirrors c.args.i)) (mirror_asks (world_of x) (mirror_at x.mirrors c.args.i))) c.self.view_is
+
+pub overflow_cast-result : goal.overflow_cast-result
+overflow_cast-result g c =
+    let few = few_next (mirror_holdings (mirror_at (world_state c.self.inside).mirrors c.args.i)) None in
+    let planned = c.in-Ok.ensures.planned in
+    omega (arith, planned, few)

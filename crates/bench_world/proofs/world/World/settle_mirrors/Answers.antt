@@ -1,0 +1,97 @@
+use Rattle.std.proofs.Common.{◌≡◌, ◌+◌, ◌<◌, ℕ, List, length, refl, sym, ap, ◌∙◌, subst}
+use Rattle.svs_vector.specs.Vectors.{join_all}
+use Rattle.group_model.specs.Laws.{NothingHidden}
+use Rattle.repo_member.specs.Alone.{Alone}
+use Rattle.bench_world.specs.MirrorSteps.{mirror_at}
+use Rattle.bench_world.specs.MirrorSettles.{HaveSettled, ListsItsJoin, ArePartlySettledMirrors, held_by_all}
+use Rattle.bench_world.specs.Worlds.{GroupState, alone_at, only_members, world_of}
+use Rattle.bench_world.specs.Kept.{world_state}
+use Rattle.bench_world.proofs.Gainings.{sound_only}
+use Rattle.bench_world.proofs.GatheredAll.{where_err}
+use Rattle.bench_world.proofs.KnownByAll.{knowns}
+use Rattle.bench_world.proofs.Learnt.{widths}
+use Rattle.bench_world.proofs.MirrorSettling.{partly_same}
+use Rattle.bench_world.proofs.MirrorWorlds.{settled_mirrors, can_gather, are_settled, are_partly, all_truly, all_list}
+use Rattle.bench_world.proofs.world.World.settle_mirrors.Goals as goal
+
+pub all_known-requires : goal.all_known-requires
+all_known-requires g c =
+    let s = world_state c.self.inside in
+    subst (λ (ms : List Alone). (j : ℕ) → j < length ms → length (alone_at ms j).known ≡ length ms)
+    (sym c.as_slice.ensures.value)
+    (widths s.keys (only_members s.members) c.self.invariant.are (sound_only s c.self.invariant) s.members refl
+    c.self.invariant.members)
+
+pub returns-in_err-known-clause-err : goal.returns-in_err-known-clause-err
+returns-in_err-known-clause-err g c =
+    where_err c.from_residual.result (λ i l.
+    partly_same (world_of c.args.self.now) (mirror_at c.args.self.now.mirrors i))
+
+pub gather_for_all-requires : goal.gather_for_all-requires
+gather_for_all-requires g c =
+    let s = world_state c.self.inside in (
+      c.type_bounds.sync-R,
+      can_gather s c.self.invariant c.as_slice-2.result.now c.as_slice-2.ensures.value c.args.workers c.requires.workers
+          c.in_ok-known.known
+          (c.in_ok-known.ensures ∙ ap (λ (ms : List Alone). join_all (knowns ms))
+          (c.as_slice.ensures.value ∙ sym c.as_slice-2.ensures.value)),
+    )
+
+pub invariant_of-self : goal.invariant_of-self
+invariant_of-self g c =
+    let s = world_state c.self.inside in
+    settled_mirrors s c.self.invariant (only_members c.as_slice-2.result.now) c.gather_for_all.new.mirrors.items
+    c.gather_for_all.ensures.len
+    (all_truly s c.self.invariant c.as_slice-2.result.now c.as_slice-2.ensures.value
+    c.gather_for_all.new.mirrors.items c.gather_for_all.ensures.truly)
+    c.gather_for_all.ensures.partly
+
+pub invariant_of-self-2 : goal.invariant_of-self-2
+invariant_of-self-2 g c =
+    let s = world_state c.self.inside in
+    settled_mirrors s c.self.invariant (only_members c.as_slice-2.result.now) c.gather_for_all.new.mirrors.items
+    c.gather_for_all.ensures.len
+    (all_truly s c.self.invariant c.as_slice-2.result.now c.as_slice-2.ensures.value
+    c.gather_for_all.new.mirrors.items c.gather_for_all.ensures.truly)
+    c.gather_for_all.ensures.partly
+
+pub returns-in_err-parts-clause-err : goal.returns-in_err-parts-clause-err
+returns-in_err-parts-clause-err g c =
+    let s = world_state c.self.inside in
+    where_err c.from_residual-in_err-parts.result
+    (subst (λ (x : GroupState).
+    ArePartlySettledMirrors (world_of x) x.mirrors c.gather_for_all.new.mirrors.items) c.self.view_is
+    (are_partly s c.self.invariant c.as_slice-2.result.now c.as_slice-2.ensures.value
+    c.gather_for_all.new.mirrors.items c.gather_for_all.ensures.partly))
+
+pub returns-clause-same : goal.returns-clause-same
+returns-clause-same g c =
+    ap (λ (x : GroupState). let y : GroupState = record x { mirrors = c.gather_for_all.new.mirrors.items } in y)
+    c.self.view_is
+
+pub returns-clause-len : goal.returns-clause-len
+returns-clause-len g c = c.gather_for_all.ensures.len ∙ ap (λ (x : GroupState). length x.mirrors) c.self.view_is
+
+pub returns-clause-settled : goal.returns-clause-settled
+returns-clause-settled g c =
+    let s = world_state c.self.inside in
+    subst (λ (x : GroupState). HaveSettled (world_of x) x.mirrors c.gather_for_all.new.mirrors.items)
+    c.self.view_is
+    (are_settled s c.self.invariant c.as_slice-2.result.now c.as_slice-2.ensures.value
+    c.gather_for_all.new.mirrors.items c.in_ok-parts.ensures.settled)
+
+pub returns-clause-parts : goal.returns-clause-parts
+returns-clause-parts g c =
+    subst (λ (x : GroupState).
+    c.in_ok-parts.parts + held_by_all x.mirrors ≡ held_by_all c.gather_for_all.new.mirrors.items) c.self.view_is
+    c.in_ok-parts.ensures.parts
+
+pub returns-clause-joined : goal.returns-clause-joined
+returns-clause-joined g c =
+    let s = world_state c.self.inside in
+    subst (λ (x : GroupState). NothingHidden (world_of x) → (i : ℕ)
+    → i < length c.gather_for_all.new.mirrors.items
+    → ListsItsJoin (world_of x) (mirror_at c.gather_for_all.new.mirrors.items i)) c.self.view_is
+    (all_list s c.self.invariant c.as_slice-2.result.now c.as_slice-2.ensures.value
+    c.gather_for_all.new.mirrors.items c.gather_for_all.ensures.len c.gather_for_all.ensures.truly
+    c.in_ok-parts.ensures.settled)

@@ -1,0 +1,56 @@
+-- What a mirror fetches of members, in its group's words.
+use Rattle.std.specs.Prelude.{ℕ, ◌≡◌, ◌↔◌, ◌+◌, Bool, true, not, ◌||◌, List, Option, None, is_some, unwrap_or, filter}
+use Rattle.std.specs.Prelude.{find, take, if◌then◌else◌}
+use Rattle.sorted_lists.specs.SortedList.{contains}
+use Rattle.sorted_lists.specs.Range.{numbers_from}
+use Rattle.repo_plan.specs.declared.part.Part.{Part}
+use Rattle.repo_plan.specs.Parts.{part_cmp, pair_of}
+use Rattle.repo_plan.specs.Plan.{wanted}
+use Rattle.group_model.specs.Member.{tries_of, with_each_tried}
+use Rattle.group_model.specs.World.{World, logs, someone_holds}
+use Rattle.mirror_model.specs.Asked.{is_kept}
+use Rattle.mirror_model.specs.Mirrors.{mirror_plan, mirror_holds, IsWantedByMirror}
+use Rattle.repo_mirror.specs.MirrorState.{MirrorState}
+use Rattle.repo_mirror.specs.TrueMirrors.{mirror_in_group}
+
+-- The parts that a mirror wants, in order.
+abbrev pub mirror_wants : World → MirrorState → List Part
+mirror_wants w m = wanted (mirror_plan m.pattern (logs w) (mirror_in_group m))
+
+-- A fetch asks for the least 4,096 of them.
+abbrev pub mirror_asks : World → MirrorState → List Part
+mirror_asks w m = take 4096 (mirror_wants w m)
+
+-- Which attempts the network passes, where to it the mirror's number is by 16 higher.
+module _ (passes : ℕ → ℕ → ℕ → ℕ → ℕ → ℕ → Bool) (w : World) (i tries loss : ℕ) where
+  -- The first of so many attempts that the network passes, where a member holds the part.
+  abbrev pub mirror_attempt : MirrorState → Part → Option ℕ
+  mirror_attempt m t =
+      if someone_holds w.members t
+      then find (λ n. passes (16 + i) t.publisher t.seq t.part (tries_of m.attempts t + n) loss) (numbers_from 1 tries)
+      else None
+
+  -- The parts that come.
+  abbrev pub mirror_gets : MirrorState → List Part
+  mirror_gets m = filter (λ t. is_some (mirror_attempt m t)) (mirror_asks w m)
+
+  -- How many attempts a part takes.
+  abbrev pub mirror_attempts : MirrorState → Part → ℕ
+  mirror_attempts m t = unwrap_or (mirror_attempt m t) tries
+
+  -- The parts whose attempts count from then on: all but the records that came of objects that its pattern isn't for,
+  -- which it passes over and never asks for again.
+  abbrev pub mirror_counts : MirrorState → List Part
+  mirror_counts m =
+      filter (λ t. is_kept m.pattern (logs w) (pair_of t) || not (is_some (mirror_attempt m t)))
+      (mirror_asks w m)
+
+  -- The parts that a mirror wants are just those that it is to want, and just those of them that came are held too.
+  pub record HasFetched (old new : MirrorState) : Type 0 where
+    pub pattern : new.pattern ≡ old.pattern
+    pub known : new.known ≡ old.known
+    pub wants : (t : Part) → (contains part_cmp (mirror_wants w old) t ≡ true)
+        ↔ IsWantedByMirror old.pattern (logs w) (mirror_in_group old) t
+    pub held : (t : Part) → mirror_holds (mirror_in_group new) t
+        ≡ (contains part_cmp (mirror_gets old) t || mirror_holds (mirror_in_group old) t)
+    pub tried : new.attempts ≡ with_each_tried (mirror_attempts old) (mirror_counts old) old.attempts

@@ -1,0 +1,66 @@
+-- What a settle makes of mirrors, and what it leaves where memory was wanting.
+use Rattle.std.specs.Prelude.{ℕ, ◌≡◌, ◌≤◌, ◌<◌, true, false, List, length, filter, slice_index, sum_by}
+use Rattle.svs_vector.specs.Vectors.{join}
+use Rattle.repo_plan.specs.declared.part.Part.{Part}
+use Rattle.repo_holdings.specs.Listed.{alone_catalogue}
+use Rattle.group_model.specs.Publications.{join_of}
+use Rattle.group_model.specs.World.{World, logs}
+use Rattle.group_model.specs.Steps.{settled_vector}
+use Rattle.mirror_model.specs.Mirrors.{mirror_holds, ComeInTurn, is_entry_accepted, path_to}
+use Rattle.mirror_model.specs.MirrorLaws.{GainsThose, HasComeToRest, learns_all}
+use Rattle.repo_member.specs.Groups.{GroupKeys}
+use Rattle.repo_mirror.specs.MirrorState.{MirrorState}
+use Rattle.repo_mirror.specs.TrueMirrors.{mirror_in_group, IsTrueMirror}
+use Rattle.bench_world.specs.MirrorSteps.{mirror_at}
+use Rattle.bench_world.specs.MirrorWords.{mirror_held}
+
+-- A mirror knows what it and all members know. It holds its old parts and just those for which there is a list of parts
+-- that ends with them, each wanted once those before it are held, and each held by some member.
+pub record HasSettled (w : World) (old new : MirrorState) : Type 0 where
+  pub pattern : new.pattern ≡ old.pattern
+  pub attempts : new.attempts ≡ old.attempts
+  pub known : new.known ≡ join old.known (settled_vector w)
+  pub kept : (t : Part) → mirror_holds (mirror_in_group old) t ≡ true → mirror_holds (mirror_in_group new) t ≡ true
+  pub gains : GainsThose old.pattern (logs w) w.members (learns_all w (mirror_in_group old)) (mirror_in_group new)
+  pub rest : HasComeToRest old.pattern (logs w) w.members (mirror_in_group new)
+
+abbrev pub HaveSettled : World → List MirrorState → List MirrorState → Type 0
+HaveSettled w old new = (i : ℕ) → i < length old → HasSettled w (mirror_at old i) (mirror_at new i)
+
+-- How many parts a mirror holds, and how many all do.
+abbrev pub held_by : MirrorState → ℕ
+held_by m = length (mirror_held m)
+
+abbrev pub held_by_all : List MirrorState → ℕ
+held_by_all mirrors = sum_by held_by mirrors
+
+-- The mirror's catalogue is what its pattern accepts of the join of all publications.
+abbrev pub ListsItsJoin : World → MirrorState → Type 0
+ListsItsJoin w m = alone_catalogue m.store ≡ filter (is_entry_accepted m.pattern) (join_of (logs w))
+
+-- A mirror has come a part of the way: each place of its vector lies between the old and the settled one, and it holds
+-- its old parts and only parts that it would have held.
+pub record IsPartlySettledMirror (w : World) (old new : MirrorState) : Type 0 where
+  pub pattern : new.pattern ≡ old.pattern
+  pub attempts : new.attempts ≡ old.attempts
+  pub known_more : (p : ℕ) → slice_index old.known p ≤ slice_index new.known p
+  pub known_less : (p : ℕ) → slice_index new.known p ≤ slice_index (join old.known (settled_vector w)) p
+  pub kept : (t : Part) → mirror_holds (mirror_in_group old) t ≡ true → mirror_holds (mirror_in_group new) t ≡ true
+  pub only : (t : Part) → mirror_holds (mirror_in_group new) t ≡ true → mirror_holds (mirror_in_group old) t ≡ false
+      → ComeInTurn old.pattern (logs w) w.members (path_to (logs w) (learns_all w (mirror_in_group old)) t)
+      (learns_all w (mirror_in_group old))
+
+abbrev pub ArePartlySettledMirrors : World → List MirrorState → List MirrorState → Type 0
+ArePartlySettledMirrors w old new =
+    (i : ℕ) → i < length old → IsPartlySettledMirror w (mirror_at old i) (mirror_at new i)
+
+-- ---- one mirror after another
+
+-- The first so many have settled, and the others not yet.
+pub record SettledSoFar (g : GroupKeys) (w : World) (begun : List MirrorState) (j : ℕ) (new : List MirrorState)
+    : Type 0 where
+  pub len : length new ≡ length begun
+  pub truly : (i : ℕ) → i < length new → IsTrueMirror g (logs w) (mirror_at new i)
+  pub partly : ArePartlySettledMirrors w begun new
+  pub done : (i : ℕ) → i < j → HasSettled w (mirror_at begun i) (mirror_at new i)
+  pub still : (i : ℕ) → j ≤ i → mirror_at new i ≡ mirror_at begun i

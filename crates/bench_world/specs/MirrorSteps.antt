@@ -1,0 +1,37 @@
+-- What the calls on mirrors make of them.
+use Rattle.std.specs.Prelude.{ℕ, ◌+◌, Bool, List, [], Some, None, slice_index_or}
+use Rattle.svs_vector.specs.Vectors.{join}
+use Rattle.repo_holdings.specs.Taking.{Fetched}
+use Rattle.repo_member.specs.Alone.{Alone}
+use Rattle.repo_mirror.specs.MirrorState.{MirrorState, mirror_opening, mirror_holdings}
+use Rattle.repo_mirror.specs.Passing.{mirror_takes}
+use Rattle.bench_world.specs.Lending.{attempt_comes}
+use Rattle.bench_world.specs.Gathering.{next_parts}
+use Rattle.bench_world.specs.Fetching.{fetched_all}
+
+-- A group has so many mirrors at most.
+abbrev pub mirror_limit : ℕ
+mirror_limit = 4
+
+abbrev pub no_mirror : MirrorState
+no_mirror = mirror_opening (record { publisher = None; prefix = [] }) 0
+
+-- The mirror of a number, from 0 on.
+abbrev pub mirror_at : List MirrorState → ℕ → MirrorState
+mirror_at mirrors i = slice_index_or mirrors i no_mirror
+
+-- It is told a vector.
+abbrev pub mirror_learns : List ℕ → MirrorState → MirrorState
+mirror_learns told m = record m { known = join m.known told }
+
+-- What comes of the parts that it asks members for in a fetch. To the network its number is by 16 higher.
+abbrev pub mirror_fetched : (ℕ → ℕ → ℕ → ℕ → ℕ → ℕ → Bool) → List Alone → (i tries loss : ℕ) → MirrorState
+    → List Fetched
+mirror_fetched passes members i tries loss m =
+    fetched_all (attempt_comes passes (16 + i) (Some loss)) members tries (mirror_holdings m)
+    (next_parts None (mirror_holdings m))
+
+-- It takes that.
+abbrev pub mirror_fetches : (ℕ → ℕ → ℕ → ℕ → ℕ → ℕ → Bool) → List Alone → (i tries loss : ℕ) → MirrorState
+    → MirrorState
+mirror_fetches passes members i tries loss m = mirror_takes (mirror_fetched passes members i tries loss m) m

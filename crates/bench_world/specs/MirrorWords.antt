@@ -1,0 +1,38 @@
+-- A mirror, as one that holds parts.
+use Rattle.std.specs.Prelude.{List, [], map}
+use Rattle.repo_plan.specs.declared.part.Part.{Part}
+use Rattle.repo_plan.specs.Parts.{part_of}
+use Rattle.sorted_lists.specs.SortedList.{keys}
+use Rattle.group_model.specs.Member.{insert_keys}
+use Rattle.repo_mirror.specs.MirrorState.{MirrorState, mirror_holdings}
+use Rattle.repo_mirror.specs.Passing.{mirror_takes}
+use Rattle.repo_mirror.specs.TrueMirrors.{IsTrueMirror}
+use Rattle.bench_world.specs.declared.mirroring.Filtering.{Filtering}
+use Rattle.bench_world.specs.Holders.{HolderWords}
+
+-- The parts that it keeps, and the records that it passed over, in order.
+abbrev pub mirror_held : MirrorState → List Part
+mirror_held m = insert_keys (map (λ pair. part_of pair 0) m.passed) (keys m.store)
+
+-- All of it but those.
+abbrev pub mirror_rest : MirrorState → MirrorState
+mirror_rest m = record m { store = []; passed = [] }
+
+abbrev pub state_words : HolderWords MirrorState
+state_words = record {
+  holdings = mirror_holdings;
+  held = mirror_held;
+  rest = mirror_rest;
+  takes = mirror_takes;
+  is_true = IsTrueMirror;
+}
+
+-- The same of a mirror with its filter.
+abbrev pub mirror_words : {X : Type 0} {f : _} → HolderWords (Filtering X f)
+mirror_words = record {
+  holdings = λ s. mirror_holdings s.mirror;
+  held = λ s. mirror_held s.mirror;
+  rest = λ s. record s { mirror = mirror_rest s.mirror };
+  takes = λ xs s. record s { mirror = mirror_takes xs s.mirror };
+  is_true = λ g logs s. IsTrueMirror g logs s.mirror;
+}

@@ -1,0 +1,188 @@
+-- What holds of whoever holds parts holds of mirrors.
+use Rattle.std.proofs.Common.{◌≡◌, inl, inr, ℕ, suc, Bool, true, false, cond, ◌==◌, ◌&&◌, ◌||◌, List, [], ◌∷◌, map}
+use Rattle.std.proofs.Common.{Option, Some, None, refl, sym, ap, ◌∙◌, subst, arith}
+use Rattle.std.specs.Prelude.{IfSome, slice_index_or, filter, not, option_map, unwrap_or}
+use Rattle.std.specs.List.{All}
+use Rattle.std.proofs.Math.Bool.{or_comm}
+use Rattle.std.proofs.lemmas.Bool.{and_parts, and_from, or_cases, eqb-true, eq-eqb}
+use Rattle.repo_plan.specs.declared.part.Part.{Part}
+use Rattle.repo_plan.specs.Parts.{Pair, pair_cmp, part_cmp, pair_of, part_of}
+use Rattle.repo_plan.specs.Plan.{is_wanted}
+use Rattle.repo_plan.proofs.Kept.{wanted_parts}
+use Rattle.repo_plan.proofs.Orders.{exact_parts, exact_pairs}
+use Rattle.sorted_lists.specs.SortedList.{keys, contains, insert_keys}
+use Rattle.sorted_lists.proofs.Sets.{In, contains_in, in_contains, in_map, from_map}
+use Rattle.sorted_lists.proofs.RunOrder.{both_ways}
+use Rattle.repo_holdings.specs.Hiding.{with_hidden}
+use Rattle.repo_holdings.specs.Taking.{Fetched, with_fetched, with_all_fetched, with_tries, with_all_tries}
+use Rattle.group_model.specs.Publications.{Logs}
+use Rattle.group_model.specs.Sound.{IsPublishedPart}
+use Rattle.group_model.proofs.Lists.{contains-insert_keys, rises_insert_keys}
+use Rattle.group_model.proofs.Members.{known_published}
+use Rattle.mirror_model.specs.Mirrors.{mirror_holds}
+use Rattle.repo_watch.specs.declared.pattern.Pattern.{Pattern}
+use Rattle.repo_member.specs.Groups.{GroupKeys}
+use Rattle.repo_member.specs.InGroup.{AreLogs, CameTruly, true_packet, that_came}
+use Rattle.repo_member.proofs.PublicLaws.{holders_want_published}
+use Rattle.repo_mirror.specs.MirrorState.{MirrorState, mirror_holdings, fetch_plan}
+use Rattle.repo_mirror.specs.Passing.{is_packet_kept, is_fetched_kept, that_are_kept, not_kept, mirror_takes}
+use Rattle.repo_mirror.specs.TrueMirrors.{mirror_in_group, IsTrueMirror, CameForMirror}
+use Rattle.repo_mirror.proofs.PublicLaws.{mirror_is_holder, mirrors_take_true}
+use Rattle.bench_world.specs.declared.mirroring.Filtering.{Filtering}
+use Rattle.bench_world.specs.Holders.{AreHolders, CameForHolder, CameToNothing}
+use Rattle.bench_world.specs.MirrorWords.{mirror_held, mirror_rest, mirror_words}
+
+-- ---- what a mirror holds
+
+-- The records of publications are those parts.
+record_there : (pairs : List Pair) (t : Part)
+    → contains part_cmp (map (λ pair. part_of pair 0) pairs) t ≡ (t.part == 0 && contains pair_cmp pairs (pair_of t))
+record_there pairs t =
+    both_ways (contains part_cmp (map (λ pair. part_of pair 0) pairs) t)
+    (t.part == 0 && contains pair_cmp pairs (pair_of t))
+    (λ h.
+    let r : (pair : Pair) × (In pair pairs) × (t ≡ part_of pair 0) =
+    from_map (λ pair. part_of pair 0) pairs t
+    (in_contains exact_parts (map (λ pair. part_of pair 0) pairs) t h) in
+    and_from (t.part == 0) (contains pair_cmp pairs (pair_of t)) (eq-eqb t.part 0 (ap (λ (u : Part). u.part) r.2))
+    (ap (contains pair_cmp pairs) (ap pair_of r.2) ∙ contains_in exact_pairs pairs r.0 r.1))
+    (λ h.
+    let p = and_parts (t.part == 0) (contains pair_cmp pairs (pair_of t)) h in
+    let same : part_of (pair_of t) 0 ≡ t = ap (part_of (pair_of t)) (sym (eqb-true t.part 0 p.0)) in
+    subst (λ (u : Part). contains part_cmp (map (λ pair. part_of pair 0) pairs) u ≡ true) same
+    (contains_in exact_parts (map (λ pair. part_of pair 0) pairs) (part_of (pair_of t) 0)
+    (in_map (λ pair. part_of pair 0) pairs (pair_of t) (in_contains exact_pairs pairs (pair_of t) p.1))))
+
+pub held_is : (m : MirrorState) (t : Part) → contains part_cmp (mirror_held m) t ≡ mirror_holds (mirror_in_group m) t
+held_is m t =
+    contains-insert_keys (map (λ pair. part_of pair 0) m.passed) (keys m.store) t
+    ∙ ap (λ (b : Bool). b || contains part_cmp (keys m.store) t) (record_there m.passed t)
+    ∙ or_comm (t.part == 0 && contains pair_cmp m.passed (pair_of t)) (contains part_cmp (keys m.store) t)
+
+published : (g : GroupKeys) (logs : Logs) (m : MirrorState) (t : Part) → IsTrueMirror g logs m
+    → contains part_cmp (mirror_held m) t ≡ true → IsPublishedPart logs t
+published g logs m t truly h =
+    elim (or_cases (contains part_cmp (keys m.store) t) (t.part == 0 && contains pair_cmp m.passed (pair_of t))
+    (sym (held_is m t) ∙ h)) [
+      | inl kept ↦ record { there = truly.stored.published t kept; counted = (truly.sound.kept t kept).counted }
+      | inr passed ↦
+          let p = and_parts (t.part == 0) (contains pair_cmp m.passed (pair_of t)) passed in
+          let zero : t.part ≡ 0 = eqb-true t.part 0 p.0 in
+          record {
+            there =
+                known_published logs m.known (pair_of t) truly.vector.no_more
+                (truly.sound.passed (pair_of t) p.1).known;
+            counted = omega (arith, zero);
+          }
+    ]
+
+not_held : (m : MirrorState) (t : Part) → is_wanted (fetch_plan m) t ≡ true
+    → contains part_cmp (mirror_held m) t ≡ false
+not_held m t wanted =
+    let w = wanted_parts (fetch_plan m) t wanted in
+    held_is m t ∙ (λ i. w.not_held i || (t.part == 0 && w.not_hidden i)) ∙ none (t.part == 0) where
+      none : (b : Bool) → (b && false) ≡ false
+      none true = refl
+      none false = refl
+
+-- ---- what it takes
+
+pub for_mirror : (g : GroupKeys) (logs : Logs) (m : MirrorState) (x : Fetched) → AreLogs g logs → IsTrueMirror g logs m
+    → CameForHolder g logs (mirror_holdings m) x → CameForMirror g logs m x
+for_mirror g logs m x are truly came =
+    record { part_wanted = wanted; truly = go x.packet came.packet } where
+      wanted : is_wanted (fetch_plan m) x.part ≡ true
+      wanted = (and_parts (is_wanted (fetch_plan m) x.part) _ came.unclaimed).0
+
+      go : (o : Option (List ℕ)) → IfSome o (λ octets. true_packet g logs x.part ≡ Some octets)
+          → CameTruly g logs x.part o
+      go None h = tt
+      go (Some octets) h = record {
+        published =
+            (holders_want_published g logs (mirror_holdings m) x.part are (mirror_is_holder g logs m truly)
+            wanted).there;
+        packet = h;
+      }
+
+module _ (pattern : Pattern) where
+  -- Where nothing came, nothing is passed over, and nothing else changes.
+  kept_one : (x : Fetched) → CameToNothing x → is_fetched_kept pattern x ≡ true
+  kept_one x none =
+      ap (λ (o : Option (List ℕ)). unwrap_or (option_map (is_packet_kept pattern x.part) o) true) none.packet
+
+  kept_all : (xs : List Fetched) → All CameToNothing xs → that_are_kept pattern xs ≡ xs
+  kept_all [] none = refl
+  kept_all (x ∷ xs) none =
+      ap (λ (b : Bool). cond b (x ∷ that_are_kept pattern xs) (that_are_kept pattern xs))
+      (kept_one x (none 0 x (omega arith)))
+      ∙ ap (λ (ys : List Fetched). x ∷ ys) (kept_all xs (λ k d l. none (suc k) d (omega (arith, l))))
+
+  none_passed : (xs : List Fetched) → All CameToNothing xs → not_kept pattern xs ≡ []
+  none_passed [] none = refl
+  none_passed (x ∷ xs) none =
+      ap (λ (b : Bool). map (λ (y : Fetched). pair_of y.part)
+      (cond (not b) (x ∷ filter (λ y. not (is_fetched_kept pattern y)) xs)
+      (filter (λ y. not (is_fetched_kept pattern y)) xs))) (kept_one x (none 0 x (omega arith)))
+      ∙ none_passed xs (λ k d l. none (suc k) d (omega (arith, l)))
+
+  -- Where no attempt is counted, none is.
+  no_tries : (xs : List Fetched) (ns : List (Part × ℕ)) → All (λ (x : Fetched). x.attempts ≡ 0) xs
+      → with_all_tries (that_are_kept pattern xs) ns ≡ ns
+  no_tries [] ns none = refl
+  no_tries (x ∷ xs) ns none =
+      go (is_fetched_kept pattern x) (no_tries xs ns (λ k d l. none (suc k) d (omega (arith, l)))) where
+        one : x.attempts ≡ 0
+        one = none 0 x (omega arith)
+
+        go : (b : Bool) → with_all_tries (that_are_kept pattern xs) ns ≡ ns
+            → with_all_tries (cond b (x ∷ that_are_kept pattern xs) (that_are_kept pattern xs)) ns ≡ ns
+        go true h = ap (λ (n : ℕ). with_all_tries (that_are_kept pattern xs) (with_tries x.part n ns)) one ∙ h
+        go false h = h
+
+nothing_fetched : (xs : List Fetched) (stored : List (Part × List ℕ)) → All CameToNothing xs
+    → with_all_fetched xs stored ≡ stored
+nothing_fetched [] stored none = refl
+nothing_fetched (x ∷ xs) stored none =
+    let one : CameToNothing x = none 0 x (omega arith) in
+    ap (λ (o : Option (List ℕ)). with_all_fetched xs (with_fetched x.part o stored)) one.packet
+    ∙ nothing_fetched xs stored (λ k d l. none (suc k) d (omega (arith, l)))
+
+takes_nothing : (xs : List Fetched) (m : MirrorState) → All CameToNothing xs → mirror_takes xs m ≡ m
+takes_nothing xs m none =
+    let stored : with_all_fetched (that_are_kept m.pattern xs) m.store ≡ m.store =
+    ap (λ (ys : List Fetched). with_all_fetched ys m.store) (kept_all m.pattern xs none)
+    ∙ nothing_fetched xs m.store none in
+    let passed : with_hidden (insert_keys pair_cmp (not_kept m.pattern xs) []) m.passed ≡ m.passed =
+    ap (λ (ps : List Pair). with_hidden (insert_keys pair_cmp ps []) m.passed) (none_passed m.pattern xs none) in
+    let tried : with_all_tries (that_are_kept m.pattern xs) m.attempts ≡ m.attempts =
+    no_tries m.pattern xs m.attempts (λ k d l. (none k d l).attempts) in
+    λ i. record m { store = stored i; passed = passed i; attempts = tried i }
+
+pub mirror_takes_truly : (g : GroupKeys) (logs : Logs) (xs : List Fetched) (m : MirrorState) → AreLogs g logs
+    → All (CameForHolder g logs (mirror_holdings m)) xs → IsTrueMirror g logs m
+    → IsTrueMirror g logs (mirror_takes xs m)
+mirror_takes_truly g logs xs m are come truly =
+    (mirrors_take_true g logs m xs are truly
+    (λ k d l. for_mirror g logs m (slice_index_or xs k d) are truly (come k d l))).stays
+
+-- So they are holders.
+pub mirrors_hold : {X : Type 0} {f : _} → AreHolders (mirror_words {X = X} {f = f})
+mirrors_hold {X} {f} = record {
+  holder = λ g logs s truly. mirror_is_holder g logs s.mirror truly;
+  in_order = λ g logs s truly.
+      rises_insert_keys (map (λ pair. part_of pair 0) s.mirror.passed) (keys s.mirror.store) truly.stored.in_order;
+  published = λ g logs s t truly h. published g logs s.mirror t truly h;
+  not_held = λ s t wanted. not_held s.mirror t wanted;
+  takes_truly = λ g logs xs s are come truly. mirror_takes_truly g logs xs s.mirror are come truly;
+  takes_those = λ g logs xs s t are come truly.
+      held_is (mirror_takes xs s.mirror) t
+      ∙ (mirrors_take_true g logs s.mirror xs are truly
+      (λ k d l. for_mirror g logs s.mirror (slice_index_or xs k d) are truly (come k d l))).held t
+      ∙ ap (λ (b : Bool). contains part_cmp (that_came xs) t || b) (sym (held_is s.mirror t));
+  takes_nothing = λ xs s none. ap (λ (m : MirrorState). let t : Filtering X f = record s { mirror = m } in t)
+      (takes_nothing xs s.mirror none);
+  rest_stays = λ xs s none. ap (λ (ns : List (Part × ℕ)).
+      let t : Filtering X f = record s { mirror = record (mirror_rest s.mirror) { attempts = ns } } in t)
+      (no_tries s.mirror.pattern xs s.mirror.attempts none);
+  attempts = λ s. refl;
+}

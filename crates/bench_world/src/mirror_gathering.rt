@@ -1,0 +1,89 @@
+// What mirrors gather of members in a settle.
+ghost use Rattle.std.specs.Prelude.{◌≡◌, ◌+◌, ◌<◌, ℕ, length, slice_set, IfOk, OnOk};
+ghost use Rattle.repo_mirror.specs.TrueMirrors.{IsTrueMirror};
+ghost use Rattle.bench_world.specs.Conditions.{CanGatherFor, CanGatherForAll};
+ghost use Rattle.bench_world.specs.MirrorSteps.{mirror_at};
+ghost use Rattle.bench_world.specs.MirrorSettles.{HasSettled, HaveSettled, IsPartlySettledMirror};
+ghost use Rattle.bench_world.specs.MirrorSettles.{ArePartlySettledMirrors, held_by, held_by_all};
+ghost use Rattle.bench_world.specs.Worlds.{logs_around, only_members};
+
+use crate::gather::gather_of_all;
+use crate::lending::MemberLink;
+use crate::mirroring::Filtering;
+use bench_net::OpenNet;
+use repo_member::{Group, Kept, Member};
+use repo_mirror::Mirror;
+use repo_watch::Filter;
+use std::alloc::{AllocError, Global};
+use std::thread::Threads;
+use svs_vector::Vector;
+
+// One mirror learns what all know, and gathers what members store: what came.
+fn gather_for<R: Threads + Sync>(
+    rt: &R,
+    alloc: Global,
+    g: &Group,
+    workers: u32,
+    members: &[Member],
+    known: &Vector,
+    mirrors: &mut Vec<Mirror>,
+    filter: &Filter,
+    i: u32,
+) -> Result<Kept, AllocError>
+    requires { CanGatherFor g.now workers i members.now known.now mirrors.old.items }
+    ensures others { mirrors.new.items ≡ slice_set mirrors.old.items i (mirror_at mirrors.new.items i) }
+    ensures truly { IsTrueMirror g.now (logs_around members.now) (mirror_at mirrors.new.items i) }
+    ensures settled { OnOk result
+        (HasSettled (only_members members.now) (mirror_at mirrors.old.items i) (mirror_at mirrors.new.items i)) }
+    ensures parts { IfOk result (λ kept. kept.parts + held_by (mirror_at mirrors.old.items i)
+        ≡ held_by (mirror_at mirrors.new.items i)) }
+    ensures partly { IsPartlySettledMirror
+        (only_members members.now) (mirror_at mirrors.old.items i) (mirror_at mirrors.new.items i) }
+{
+    let mut mirror = mirrors.remove(i as usize);
+    mirror.learn(known);
+    let mut asking = Filtering { mirror, filter };
+    // Nothing is lost in a settle, so the network isn't asked.
+    let net = OpenNet::new();
+    let link = MemberLink {
+        others: members,
+        net: &net,
+        asker: 16 + i,
+        loss: None,
+    };
+    let came = gather_of_all(rt, alloc, g, &link, workers, &mut asking);
+    let Filtering { mirror, .. } = asking;
+    // There is room where the mirror stood.
+    let Ok(()) = mirrors.insert(i as usize, mirror) else {
+        unreachable!()
+    };
+    came
+}
+
+/// Each mirror learns what all know, and gathers what members store, one after another: how many parts came.
+pub(crate) fn gather_for_all<R: Threads + Sync>(
+    rt: &R,
+    alloc: Global,
+    g: &Group,
+    workers: u32,
+    members: &[Member],
+    known: &Vector,
+    mirrors: &mut Vec<Mirror>,
+    filter: &Filter,
+) -> Result<u64, AllocError>
+    requires { CanGatherForAll g.now workers members.now known.now mirrors.old.items }
+    ensures len { length mirrors.new.items ≡ length mirrors.old.items }
+    ensures truly { (i : ℕ) → i < length mirrors.new.items
+        → IsTrueMirror g.now (logs_around members.now) (mirror_at mirrors.new.items i) }
+    ensures settled { OnOk result (HaveSettled (only_members members.now) mirrors.old.items mirrors.new.items) }
+    ensures parts { IfOk result (λ n. n + held_by_all mirrors.old.items ≡ held_by_all mirrors.new.items) }
+    ensures partly { ArePartlySettledMirrors (only_members members.now) mirrors.old.items mirrors.new.items }
+{
+    let count = mirrors.len() as u32;
+    let mut parts = 0;
+    for i in 0..count {
+        let came = gather_for(rt, alloc, g, workers, members, known, mirrors, filter, i)?;
+        parts += u64::from(came.parts);
+    }
+    Ok(parts)
+}
