@@ -9,8 +9,8 @@ use Rattle.bench_world.specs.Worlds.{GroupState, world_of}
 use Rattle.repo_top.specs.declared.asked.Asked.{Asked}
 use Rattle.repo_top.specs.declared.asked.Asked.TheVariants.{Inspect}
 use Rattle.repo_top.specs.declared.refusal.Refusal.TheVariants.{Limit}
-use Rattle.repo_top.specs.declared.status.Status.{Status}
-use Rattle.repo_top.specs.declared.status.Status.TheVariants.{Done}
+use Rattle.repo_io.specs.declared.status.Status.{Status}
+use Rattle.repo_io.specs.declared.status.Status.TheVariants.{Done}
 use Rattle.repo_top.specs.Forms.{asked_story}
 use Rattle.repo_top.specs.Inspection.{decoded_story, inspect_story, lines_story, without_spaces}
 use Rattle.repo_top.specs.Judging.{Given, State}

@@ -25,7 +25,7 @@ use Rattle.script_lang.specs.Checking.{Declared, Party, has_label, party_label}
 use Rattle.script_lang.proofs.Conditions.{and_left}
 use Rattle.bench_world.specs.EventValues.{EventValue}
 use Rattle.repo_top.specs.SaidEvents.{party_number}
-use Rattle.repo_top.specs.Labels.{label_at}
+use Rattle.script_report.specs.Labels.{label_at}
 use Rattle.repo_top.specs.Judging.{Given, State, acted_by, found_world, outside_of}
 use Rattle.repo_top.specs.Story.{Reached}
 use Rattle.repo_top.specs.Headline.{HoldsAllOf, IsCatalogueLine, IsCatalogueOf, IsToBeListed, ListExactly}

@@ -33,7 +33,7 @@ use Rattle.script_lang.specs.Forms.{said}
 use Rattle.script_lang.specs.Checking.{Declared, Party, party_label}
 use Rattle.bench_world.specs.EventValues.{EventValue}
 use Rattle.repo_top.specs.SaidEvents.{party_number}
-use Rattle.repo_top.specs.Labels.{label_at}
+use Rattle.script_report.specs.Labels.{label_at}
 use Rattle.repo_top.specs.Judging.{Given, State, acted_by, found_world, outside_of, says}
 use Rattle.repo_top.specs.Story.{Reached, nothing_reached, reached_behind}
 use Rattle.repo_top.specs.Headline.{AreTakenFirst, IsTakenAmid, LineIsTaken, LinesAreTaken, group_at, labels_at}

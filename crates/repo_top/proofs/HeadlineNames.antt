@@ -25,7 +25,7 @@ use Rattle.script_lang.specs.Checking.{labels_in, party_label}
 use Rattle.script_lang.proofs.Conditions.{and_left}
 use Rattle.script_report.specs.Texts.{watch_text}
 use Rattle.repo_top.specs.declared.refusal.Refusal.TheVariants as refusal
-use Rattle.repo_top.specs.Labels.{MembersHaveLabels, label_at}
+use Rattle.script_report.specs.Labels.{MembersHaveLabels, label_at}
 use Rattle.repo_top.specs.SaidEvents.{party_number, pattern_for, publisher_number, said_event}
 use Rattle.repo_top.specs.ToldMembers.{TellsOfMembers, ReportsTellOfMembers, silent, tells, tells_news, watches}
 use Rattle.repo_top.specs.ToldTexts.{news_in, news_text}

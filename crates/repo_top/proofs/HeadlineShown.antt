@@ -16,7 +16,7 @@ use Rattle.script_lang.specs.Lines.{line_of}
 use Rattle.script_lang.proofs.Conditions.{and_left, and_right}
 use Rattle.repo_top.specs.declared.ending.Ending.{Ending}
 use Rattle.repo_top.specs.declared.ending.Ending.TheVariants.{Done}
-use Rattle.repo_top.specs.Lines.{lines}
+use Rattle.repo_io.specs.Lines.{lines}
 use Rattle.repo_top.specs.Judging.{Given, Verdict, says, foreign, unjudged}
 use Rattle.repo_top.specs.Judging as verdict
 use Rattle.repo_top.specs.Story.{Reached, Story, judged_next, nothing_reached, story_of}

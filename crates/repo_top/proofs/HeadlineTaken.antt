@@ -10,7 +10,7 @@ use Rattle.script_lang.specs.Kinds.{Value, Text, Number, Named}
 use Rattle.script_lang.specs.Checking.{Declared, party_label}
 use Rattle.script_report.specs.Texts.{watch_text}
 use Rattle.repo_top.specs.declared.refusal.Refusal.TheVariants as refusal
-use Rattle.repo_top.specs.Labels.{label_at}
+use Rattle.script_report.specs.Labels.{label_at}
 use Rattle.repo_top.specs.SaidEvents.{party_number, pattern_for, publisher_number}
 use Rattle.repo_top.specs.ToldTexts.{news_in, news_text}
 use Rattle.repo_top.specs.Judging.{Given, State, found_world, refused, says, told_at, told_by, watched_by, watchers_at}

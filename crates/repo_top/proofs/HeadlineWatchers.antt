@@ -18,7 +18,7 @@ use Rattle.script_lang.specs.Kinds.{Text, Number}
 use Rattle.script_lang.specs.Forms.{Stated, said}
 use Rattle.script_lang.specs.Checking.{Declared, Party, has_label, party_label}
 use Rattle.script_lang.proofs.Conditions.{and_left}
-use Rattle.repo_top.specs.Labels.{label_at}
+use Rattle.script_report.specs.Labels.{label_at}
 use Rattle.repo_top.specs.SaidEvents.{party_number}
 use Rattle.repo_top.specs.ToldTexts.{labelled_news, news_in}
 use Rattle.repo_top.specs.Judging.{Given, State, watchers_at}

@@ -8,7 +8,7 @@ use Rattle.hex.specs.declared.error.FromHexError.{FromHexError}
 use Rattle.ndn_tlv.specs.declared.tlv_fault.TlvFault.{TlvFault}
 use Rattle.ndn_inspect.specs.Inspection.{inspected}
 use Rattle.repo_top.specs.declared.ending.Ending.TheVariants.{Done}
-use Rattle.repo_top.specs.declared.status.Status.TheVariants.{Foreign}
+use Rattle.repo_io.specs.declared.status.Status.TheVariants.{Foreign}
 use Rattle.repo_top.specs.Answers.{status_of}
 use Rattle.repo_top.specs.declared.refusal.Refusal.TheVariants.{Limit}
 use Rattle.repo_top.specs.Story.{refused}

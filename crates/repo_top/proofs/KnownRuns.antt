@@ -1,9 +1,9 @@
 -- What is said of a run over an input that is known.
 use Rattle.std.proofs.Common.{◌≡◌, ℕ, ◌≤◌, List, Option, Some, None, length, take, drop}
 use Rattle.std.specs.Io.KnownBytes.{IsAtEnd, Keeps, prepend_known}
-use Rattle.repo_top.specs.declared.status.Status.{Status}
-use Rattle.repo_top.specs.declared.status.Status.TheVariants.{Done, ReadFault}
-use Rattle.repo_top.specs.Lines.{lines}
+use Rattle.repo_io.specs.declared.status.Status.{Status}
+use Rattle.repo_io.specs.declared.status.Status.TheVariants.{Done, ReadFault}
+use Rattle.repo_io.specs.Lines.{lines}
 use Rattle.repo_top.specs.Judging.{Given}
 use Rattle.repo_top.specs.Reading.{HasLine, LineIsBegun}
 use Rattle.repo_top.specs.Story.{Reached, Story, story_of}

@@ -2,7 +2,7 @@
 use Rattle.std.proofs.Common.{◌≡◌, ℕ, ◌+◌, List, [], ◌∷◌, ◌++◌, length, length-append, map, refl, subst, append_assoc}
 use Rattle.std.proofs.Math.Seq.{get_or-append_seam}
 use Rattle.sorted_lists.specs.Range.{numbers_from}
-use Rattle.repo_top.specs.Labels.{label_at, no_label}
+use Rattle.script_report.specs.Labels.{label_at, no_label}
 
 labels_behind : (front rest : List (List ℕ))
     → map (label_at (front ++ rest)) (numbers_from (length front) (length rest)) ≡ rest

@@ -1,4 +1,3 @@
-pub mod Outputs
 pub mod Numerals
 pub mod Inspections
 pub mod InspectRuns
@@ -23,7 +22,6 @@ pub mod HeadlineChecks
 pub mod HeadlineShown
 pub mod HeadlineWatchers
 pub mod WorkerLaws
-pub mod LineLaws
 pub mod Readings
 pub mod Stories
 pub mod Runs

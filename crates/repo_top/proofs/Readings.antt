@@ -12,7 +12,7 @@ use Rattle.std.proofs.lemmas.List.{take_more, take-append-drop, drop-take, lengt
 use Rattle.std.proofs.lemmas.List.Folds.{list_any-append}
 use Rattle.std.proofs.lemmas.List.Quantifiers.{position-Some}
 use Rattle.std.proofs.Math.Seq.{take-add, take-append-add, drop-drop}
-use Rattle.repo_top.specs.Lines.{IsWhole, has_feed}
+use Rattle.repo_io.specs.Lines.{IsWhole, has_feed}
 use Rattle.repo_top.specs.Reading.{HasLine, LineIsBegun}
 
 -- ---- octets that are read

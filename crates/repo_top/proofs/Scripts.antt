@@ -3,10 +3,10 @@ use Rattle.std.proofs.Common.{◌≡◌, ℕ, zero, suc, ◌+◌, ◌<◌, ◌�
 use Rattle.std.proofs.Common.{sym, subst, arith, inl, inr}
 use Rattle.std.proofs.KnownBytes.{Appends-trans}
 use Rattle.std.proofs.lemmas.Bool.Decides.{leb_tells}
-use Rattle.repo_top.specs.Outside.{GainsText, GainsFront}
+use Rattle.repo_io.specs.Outside.{GainsText, GainsFront}
 use Rattle.repo_top.specs.Forms.{gen_of}
 use Rattle.repo_top.specs.Generator.{next_state, generator_state, texts}
-use Rattle.repo_top.proofs.Outputs.{front_behind, front_longer, front_whole, nothing_gained}
+use Rattle.repo_io.proofs.Outputs.{front_behind, front_longer, front_whole, nothing_gained}
 
 -- five texts that are written one after another, and the fronts that faults leave
 module _ {Short : Type 0} (a b : Option (List ℕ)) (v w x y z : List ℕ) where

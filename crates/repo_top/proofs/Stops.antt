@@ -1,18 +1,19 @@
 -- How a run stops at a line.
 use Rattle.std.proofs.Common.{◌≡◌, ℕ, ◌+◌, ◌<◌, List, [], ◌∷◌, ◌++◌, length, take, Option, sym, ap, subst, ◌∙◌}
-use Rattle.repo_top.specs.declared.status.Status.{Status}
-use Rattle.repo_top.specs.declared.status.Status.TheVariants.{Done, Usage, Refused, ReadFault, WriteFault, NoMemory}
-use Rattle.repo_top.specs.declared.status.Status.TheVariants.{Foreign}
+use Rattle.repo_io.specs.declared.status.Status.{Status}
+use Rattle.repo_io.specs.declared.status.Status.TheVariants.{Done, Usage, Refused, ReadFault, WriteFault, NoMemory}
+use Rattle.repo_io.specs.declared.status.Status.TheVariants.{Foreign}
 use Rattle.repo_top.specs.declared.stop.Stop.{Stop}
 use Rattle.repo_top.specs.declared.stop.Stop.TheVariants as stop
-use Rattle.repo_top.specs.Outside.{GainsText, GainsFront}
+use Rattle.repo_io.specs.Outside.{GainsText, GainsFront}
 use Rattle.repo_top.specs.Judging.{Given, State, says}
 use Rattle.repo_top.specs.Progressing.{IsStop}
 use Rattle.repo_top.specs.Story.{Reached, Story, reached_behind, judged_next, story_from}
-use Rattle.repo_top.specs.Answers.{IsTold, status_of}
+use Rattle.repo_io.specs.Statuses.{IsTold}
+use Rattle.repo_top.specs.Answers.{status_of}
 use Rattle.repo_top.specs.Taken.{IsStoppedAt}
 use Rattle.repo_top.specs.Carrying.{Halts, Stops, StatusTells, stop_status, stop_text}
-use Rattle.repo_top.proofs.Outputs.{front_longer, front_taken}
+use Rattle.repo_io.proofs.Outputs.{front_longer, front_taken}
 use Rattle.repo_top.proofs.Stories.{refused_story, stop_tells}
 
 -- ---- a text that was not written whole

@@ -15,12 +15,12 @@ use Rattle.repo_top.specs.Judging.{Given, Verdict, judged, refused}
 use Rattle.repo_top.specs.Progressing.{IsStop}
 use Rattle.repo_top.specs.Refusals.{refusal_text}
 use Rattle.repo_top.specs.Answers.{status_of}
-use Rattle.repo_top.specs.Lines.{IsWhole, has_feed, lines}
+use Rattle.repo_io.specs.Lines.{IsWhole, has_feed, lines}
 use Rattle.repo_top.specs.Reading.{HasLine, IsTooLong}
 use Rattle.repo_top.specs.Story.{Reached, Story, behind_text, ended, is_within_script, judged_next, story_from}
 use Rattle.repo_top.specs.Story.{story_of_line}
 use Rattle.repo_top.specs.Carrying.{Took, stop_status, stop_text}
-use Rattle.repo_top.proofs.LineLaws.{long_line, whole_first}
+use Rattle.repo_io.proofs.LineLaws.{long_line, whole_first}
 
 pub behind_behind : (x y : List ℕ) (s : Story) → behind_text x (behind_text y s) ≡ behind_text (x ++ y) s
 behind_behind x y s =

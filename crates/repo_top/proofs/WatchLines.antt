@@ -36,7 +36,7 @@ use Rattle.repo_top.specs.declared.progress.Standing.{Standing}
 use Rattle.repo_top.specs.declared.refusal.Refusal.TheVariants as refusal
 use Rattle.repo_top.specs.declared.stop.Stop.{Stop}
 use Rattle.repo_top.specs.declared.stop.Stop.TheVariants as stop
-use Rattle.repo_top.specs.Labels.{label_at}
+use Rattle.script_report.specs.Labels.{label_at}
 use Rattle.repo_top.specs.SaidEvents.{party_number}
 use Rattle.repo_top.specs.ToldTexts.{news_in, news_text}
 use Rattle.repo_top.specs.Judging.{Given, State, begun_world, found_world, line_taken, refused, says, told_at, told_by}
@@ -86,14 +86,6 @@ told_checked labels standing ws e label number checked =
     let event = event_after checked.before e line checked.after in
     of_member labels standing ws e line label checked.before checked.stands event
     (and_left (has_label label e.members) _ event.known)
-
--- Each member has a label.
-pub label_there : {X : Type 0} (f : X → List ℕ) (xs : List X) (keys : GroupKeys) (d : Declared)
-    → NamesAreDeclared (map f xs) keys d → (m : ℕ) → m < length d.members → m < length xs
-label_there f xs keys d named m there =
-    let labels : length (map f xs) ≡ length (map party_label d.members) =
-    ap (λ (ls : List (List ℕ)). length ls) named.labels in
-    omega (arith, there, labels, length-map xs f, length-map d.members party_label)
 
 -- A watcher is of a publisher that is declared, or of every one.
 pub record OfWatch (labels : List (List ℕ)) (standing : Standing) (ws : List (List Watching)) (e : Declared)

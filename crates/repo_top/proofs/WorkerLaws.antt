@@ -12,14 +12,14 @@ use Rattle.script_lang.specs.Lines.{line_of}
 use Rattle.script_lang.specs.Limits.{script_lines}
 use Rattle.script_lang.proofs.Conditions.{le_test}
 use Rattle.repo_top.specs.declared.refusal.Refusal.TheVariants.{Limit}
-use Rattle.repo_top.specs.Lines.{lines}
+use Rattle.repo_io.specs.Lines.{lines}
 use Rattle.repo_top.specs.Judging.{Given, State, Verdict, acted, acted_by, checked, foreign, judged, judged_line}
 use Rattle.repo_top.specs.Judging.{line_taken, opening_state, read, says, unjudged}
 use Rattle.repo_top.specs.Judging as verdict
 use Rattle.repo_top.specs.Story.{Reached, behind_text, is_within_script, judged_next}
 use Rattle.repo_top.specs.Story.{story_from, story_of_line, within_report}
 use Rattle.repo_top.specs.Workers.{DifferInWorkers, WorkersMakeNoDifference, but_for_workers, with_one_worker}
-use Rattle.repo_top.proofs.LineLaws.{lines_joined}
+use Rattle.repo_io.proofs.LineLaws.{lines_joined}
 
 -- ---- one line
 

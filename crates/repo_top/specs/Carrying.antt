@@ -6,20 +6,21 @@ use Rattle.script_lang.specs.Limits.{script_lines, script_octets}
 use Rattle.script_report.specs.Limits.{report_octets}
 use Rattle.script_report.specs.Texts.{foreign_text}
 use Rattle.repo_top.specs.declared.script.Script.{Script}
-use Rattle.repo_top.specs.declared.status.Status.{Status}
-use Rattle.repo_top.specs.declared.status.Status.TheVariants.{Done, Usage, Refused, ReadFault, WriteFault, NoMemory}
-use Rattle.repo_top.specs.declared.status.Status.TheVariants.{Foreign}
+use Rattle.repo_io.specs.declared.status.Status.{Status}
+use Rattle.repo_io.specs.declared.status.Status.TheVariants.{Done, Usage, Refused, ReadFault, WriteFault, NoMemory}
+use Rattle.repo_io.specs.declared.status.Status.TheVariants.{Foreign}
 use Rattle.repo_top.specs.declared.stop.Stop.{Stop}
 use Rattle.repo_top.specs.declared.stop.Stop.TheVariants as stop
-use Rattle.repo_top.specs.Outside.{GainsText, GainsFront}
+use Rattle.repo_io.specs.Outside.{GainsText, GainsFront}
 use Rattle.repo_top.specs.Refusals.{refusal_number, refusal_text}
-use Rattle.repo_top.specs.Lines.{lines}
+use Rattle.repo_io.specs.Lines.{lines}
 use Rattle.bench_world.specs.Worlds.{GroupState, world_of}
 use Rattle.repo_top.specs.Judging.{Given, State, says}
 use Rattle.repo_top.specs.Progressing.{IsProgress, progress_state, steps}
 use Rattle.repo_top.specs.Story.{Reached, Story, reached_behind, behind_text, judged_next, nothing_reached, story_from}
 use Rattle.repo_top.specs.Story.{story_of}
-use Rattle.repo_top.specs.Answers.{IsTold, status_of}
+use Rattle.repo_io.specs.Statuses.{IsTold}
+use Rattle.repo_top.specs.Answers.{status_of}
 use Rattle.repo_top.specs.Taken.{IsStoppedAt, IsTakenNear, FallsShortNear, can_be_judged, lines_so_far, lines_taken}
 use Rattle.repo_top.specs.Taken.{report_of, taken}
 

@@ -27,8 +27,7 @@ use Rattle.script_report.specs.Texts.{catalogue_text, foreign_text}
 use Rattle.repo_top.specs.declared.ending.Ending.{Ending}
 use Rattle.repo_top.specs.declared.ending.Ending.TheVariants.{Done, Refused, Foreign}
 use Rattle.repo_top.specs.Refusals.{refusal_number, refusal_text}
-use Rattle.repo_top.specs.Labels.{label_at}
-use Rattle.repo_top.specs.ToldTexts.{publisher_label}
+use Rattle.script_report.specs.Labels.{label_at, publisher_label}
 use Rattle.repo_top.specs.Judging.{Given, Verdict, says, foreign, unjudged, found_world}
 use Rattle.repo_top.specs.Judging as verdict
 use Rattle.repo_top.specs.Story.{Reached, Story, reached_behind, behind_text, judged_next, nothing_reached, story_from}

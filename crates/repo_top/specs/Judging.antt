@@ -25,7 +25,7 @@ use Rattle.bench_world.specs.Serving.{outside}
 use Rattle.bench_world.specs.EventValues.{EventValue, group_event, telling}
 use Rattle.repo_top.specs.declared.refusal.Refusal.{Refusal}
 use Rattle.repo_top.specs.declared.refusal.Refusal.TheVariants as refusal
-use Rattle.repo_top.specs.Labels.{label_at}
+use Rattle.script_report.specs.Labels.{label_at}
 use Rattle.repo_top.specs.SaidEvents.{party_number, pattern_for, publisher_number, said_event}
 use Rattle.repo_top.specs.ToldTexts.{news_in, news_text, told_text}
 

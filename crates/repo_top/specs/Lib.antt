@@ -1,9 +1,10 @@
-pub mod Outside
-pub mod InMemory
-pub mod Lines
+pub use Rattle.repo_io.specs.Outside
+pub use Rattle.repo_io.specs.InMemory
+pub use Rattle.repo_io.specs.Lines
+pub use Rattle.repo_io.specs.Statuses
+pub use Rattle.script_report.specs.Labels
 pub mod Words
 pub mod Refusals
-pub mod Labels
 pub mod RefusalTexts
 pub mod ToldTexts
 pub mod SaidEvents

@@ -12,7 +12,7 @@ use Rattle.group_model.specs.Laws.{NothingHidden, NothingWanted}
 use Rattle.script_lang.specs.declared.verb.Verb.TheVariants as verb
 use Rattle.script_lang.specs.Kinds.{Text, Number}
 use Rattle.script_lang.specs.Forms.{said}
-use Rattle.repo_top.specs.Labels.{label_at}
+use Rattle.script_report.specs.Labels.{label_at}
 use Rattle.repo_top.specs.Judging.{Given}
 use Rattle.repo_top.specs.Story.{Reached}
 use Rattle.repo_top.specs.Headline.{AreTakenFirst, IsJoined, IsSettleLine, LinesAreTaken, Says, group_at, labels_at}

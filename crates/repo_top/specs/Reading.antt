@@ -3,7 +3,7 @@ use Rattle.std.specs.Prelude.{◌≡◌, ◌<◌, ◌≤◌, ◌⊎◌, ℕ, fal
 use Rattle.script_lang.specs.Limits.{line_octets}
 use Rattle.repo_top.specs.declared.line_reader.Next.{Next}
 use Rattle.repo_top.specs.declared.line_reader.Next.TheVariants.{Line, Last}
-use Rattle.repo_top.specs.Lines.{IsWhole, has_feed}
+use Rattle.repo_io.specs.Lines.{IsWhole, has_feed}
 
 -- A line that is too long, however it goes on.
 pub record IsTooLong (octets : List ℕ) : Type 0 where

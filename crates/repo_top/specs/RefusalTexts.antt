@@ -16,7 +16,7 @@ use Rattle.repo_object.specs.declared.part_refusal.PartRefusal.{PartRefusal}
 use Rattle.repo_object.specs.declared.part_refusal.PartRefusal.TheVariants as part
 use Rattle.repo_member.specs.declared.refusals.HearRefusal.{HearRefusal}
 use Rattle.repo_member.specs.declared.refusals.HearRefusal.TheVariants as hear
-use Rattle.repo_top.specs.Labels.{label_at}
+use Rattle.script_report.specs.Labels.{label_at}
 
 abbrev pub tlv_fault_text : TlvFault → List ℕ
 tlv_fault_text (tlv.Truncated at) = codes "Truncated " ++ decimal at

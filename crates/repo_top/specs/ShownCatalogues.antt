@@ -8,7 +8,7 @@ use Rattle.script_lang.specs.Lines.{line_of}
 use Rattle.group_model.specs.Publications.{join_of}
 use Rattle.group_model.specs.World.{catalogue_at, logs}
 use Rattle.repo_top.specs.declared.ending.Ending.TheVariants.{Done}
-use Rattle.repo_top.specs.Lines.{lines}
+use Rattle.repo_io.specs.Lines.{lines}
 use Rattle.repo_top.specs.Judging.{Given}
 use Rattle.repo_top.specs.Story.{Reached, story_of}
 use Rattle.repo_top.specs.Headline.{AreTakenFirst, IsCatalogueOf, Says, changes_nothing, deletes_nothing, group_at}

@@ -11,7 +11,7 @@ use Rattle.repo_top.specs.declared.ending.Ending.TheVariants.{Done, Refused, For
 use Rattle.repo_top.specs.declared.refusal.Refusal.{Refusal}
 use Rattle.repo_top.specs.declared.refusal.Refusal.TheVariants.{Limit, TooLarge}
 use Rattle.repo_top.specs.Refusals.{refusal_number, refusal_text}
-use Rattle.repo_top.specs.Lines.{lines}
+use Rattle.repo_io.specs.Lines.{lines}
 use Rattle.repo_top.specs.Judging.{Given, State, Verdict, no_group, opening_state, judged, says, foreign, unjudged}
 use Rattle.repo_top.specs.Judging as verdict
 

@@ -3,11 +3,11 @@ use Rattle.std.specs.Prelude.{◌≡◌, ◌<◌, ◌≤◌, ℕ, ◌+◌, ◌-�
 use Rattle.std.specs.Prelude.{nat_lt}
 use Rattle.std.specs.List.{concat, filter}
 use Rattle.script_lang.specs.Limits.{line_octets}
-use Rattle.repo_top.specs.declared.status.Status.{Status}
-use Rattle.repo_top.specs.declared.status.Status.TheVariants.{Done, Usage, Refused, ReadFault, WriteFault, NoMemory}
-use Rattle.repo_top.specs.declared.status.Status.TheVariants.{Foreign}
+use Rattle.repo_io.specs.declared.status.Status.{Status}
+use Rattle.repo_io.specs.declared.status.Status.TheVariants.{Done, Usage, Refused, ReadFault, WriteFault, NoMemory}
+use Rattle.repo_io.specs.declared.status.Status.TheVariants.{Foreign}
 use Rattle.repo_top.specs.Judging.{Given}
-use Rattle.repo_top.specs.Lines.{has_feed, lines}
+use Rattle.repo_io.specs.Lines.{has_feed, lines}
 use Rattle.repo_top.specs.Story.{nothing_reached, story_from}
 
 -- ---- lines

@@ -6,7 +6,7 @@ use Rattle.script_report.specs.Texts.{watch_text}
 use Rattle.repo_catalog.specs.declared.entry.Entry.{Entry}
 use Rattle.bench_world.specs.EventValues.{Told}
 use Rattle.bench_world.specs.Steps.{NamesAll}
-use Rattle.repo_top.specs.Labels.{label_at}
+use Rattle.script_report.specs.Labels.{label_at}
 use Rattle.repo_top.specs.ToldTexts.{news_text, told_text}
 use Rattle.repo_top.specs.Judging.{Given}
 use Rattle.repo_top.specs.Story.{Reached}

@@ -13,12 +13,8 @@ use Rattle.script_report.specs.Texts.{traffic_text, withdraw_text}
 use Rattle.script_report.specs.Texts as report
 use Rattle.repo_watch.specs.Watching.{Watching, is_news}
 use Rattle.bench_world.specs.EventValues.{Told}
-use Rattle.repo_top.specs.Labels.{label_at}
+use Rattle.script_report.specs.Labels.{label_at, publisher_label}
 use Rattle.repo_top.specs.RefusalTexts.{hear_refusal_text, part_refusal_text, packet_fault_text}
-
--- The label of an entry's publisher.
-abbrev pub publisher_label : List (List ℕ) → Entry → List ℕ
-publisher_label labels e = label_at labels e.publisher
 
 -- Each is a line, and where nothing is told there is none.
 abbrev pub told_text : List (List ℕ) → Told → List ℕ

@@ -12,7 +12,7 @@ use Rattle.script_lang.specs.declared.verb.Verb.TheVariants as verb
 use Rattle.script_lang.specs.Kinds.{Text, Number}
 use Rattle.script_lang.specs.Forms.{said}
 use Rattle.script_lang.specs.Lines.{line_of}
-use Rattle.repo_top.specs.Labels.{label_at}
+use Rattle.script_report.specs.Labels.{label_at}
 use Rattle.repo_top.specs.ToldTexts.{labelled_news}
 use Rattle.repo_top.specs.Judging.{Given, watchers_at}
 use Rattle.repo_top.specs.Story.{Reached}

@@ -7,7 +7,7 @@ use Rattle.script_lang.specs.declared.verb.Verb.TheVariants as verb
 use Rattle.script_lang.specs.Kinds.{Value, Text, Number}
 use Rattle.script_lang.specs.Forms.{Stated, said}
 use Rattle.script_lang.specs.Lines.{line_of}
-use Rattle.repo_top.specs.Lines.{lines}
+use Rattle.repo_io.specs.Lines.{lines}
 use Rattle.repo_top.specs.Judging.{Given}
 use Rattle.repo_top.specs.Story.{story_of}
 

@@ -1,3 +1,8 @@
+ghost use Rattle.std.specs.Prelude.{◌≡◌};
+ghost use Rattle.repo_top.specs.Answers.{status_of};
+
+use repo_io::Status;
+
 // How a story ends.
 #[derive(Clone, Copy, Debug, PartialEq, Eq)]
 pub(crate) enum Ending {
@@ -6,4 +11,16 @@ pub(crate) enum Ending {
     Refused { line: u32, number: u32 },
     // The first line that brings octets which no member made.
     Foreign { line: u32 },
+}
+
+impl From<Ending> for Status {
+    ghost from_gives = { λ ending status. status ≡ status_of ending };
+
+    fn from(ending: Ending) -> Status {
+        match ending {
+            Ending::Done => Status::Done,
+            Ending::Refused { line, number } => Status::Refused { line, number },
+            Ending::Foreign { line } => Status::Foreign { line },
+        }
+    }
 }

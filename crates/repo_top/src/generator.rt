@@ -2,10 +2,9 @@ ghost use Rattle.std.specs.Prelude.{◌≡◌, ◌<◌, ◌≤◌, ◌++◌, Err
 ghost use Rattle.repo_top.specs.declared.generator.Unwritten.TheVariants.{Failed, NoMemory};
 ghost use Rattle.repo_top.specs.Generator.{deliver_text, drawn, fetch_line, gen_text, member_text, next_state};
 ghost use Rattle.repo_top.specs.Generator.{object_text, octet_text, publish_line, texts, turn_text, turns_text};
-ghost use Rattle.repo_top.specs.Outside.{GainsText, GainsFront, HasRisen};
+ghost use Rattle.repo_io.specs.Outside.{GainsText, GainsFront, HasRisen};
 
-use crate::sink::Sink;
-use crate::writing::{WriteFault, write_whole};
+use repo_io::{Sink, WriteFault, write_whole};
 use std::alloc::{AllocError, Global};
 
 // How many members and objects a generated script has, and where its draws begin.

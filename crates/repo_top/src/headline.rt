@@ -4,8 +4,8 @@ ghost use Rattle.repo_top.specs.Headline.{PrintsCatalogues, PrintsLater, ReachSo
 ghost use Rattle.repo_top.specs.Headline.{TellingChangesNothing};
 ghost use Rattle.repo_top.specs.HeldPackets.{EntriesTellOfDumped, MembersHoldChecked};
 ghost use Rattle.repo_top.specs.Judging.{Given};
-ghost use Rattle.repo_top.specs.Labels.{MembersHaveLabels};
-ghost use Rattle.repo_top.specs.Lines.{lines};
+ghost use Rattle.script_report.specs.Labels.{MembersHaveLabels};
+ghost use Rattle.repo_io.specs.Lines.{lines};
 ghost use Rattle.repo_top.specs.Listings.{ListedStay, SettledListWhatIsHeld, SettledListWhatIsLeft, ToldMembersJoin};
 ghost use Rattle.repo_top.specs.ShownCatalogues.{CatalogueLinesShow, SettleLinesShow};
 ghost use Rattle.repo_top.specs.Story.{nothing_reached, story_of};

@@ -1,18 +1,9 @@
 ghost use Rattle.std.specs.Prelude.{◌≡◌, [], ◌∷◌, ◌++◌, ℕ, List, None, Some, codes};
-ghost use Rattle.std.specs.List.{concat};
 ghost use Rattle.repo_top.specs.declared.ending.Ending.TheVariants.{Done, Refused};
 ghost use Rattle.repo_top.specs.Forms.{asked_of, asked_story};
 ghost use Rattle.repo_top.specs.Inspection.{inspect_story};
 ghost use Rattle.repo_top.specs.Judging.{EachLineIsJudged, Given, SyntaxIsOfTheGrammar};
-ghost use Rattle.repo_top.specs.Lines.{AreLines, lines};
 ghost use Rattle.repo_top.specs.Story.{Reports, plain_story};
-
-/// The lines of an input are the one way to cut it into lines.
-pub fn lines_are_the_input()
-    ensures joined { (input : List ℕ) → concat (lines input) ≡ input }
-    ensures each { (input : List ℕ) → AreLines (lines input) }
-    ensures only { (cut : List (List ℕ)) → AreLines cut → lines (concat cut) ≡ cut }
-{}
 
 /// What every line comes to is told, and it is Syntax exactly where the grammar refuses the line.
 pub fn syntax_is_of_the_grammar()

@@ -7,33 +7,21 @@
 mod accepting;
 mod asked;
 mod ending;
-mod failed;
 mod generator;
 mod headline;
 mod inspection;
 mod laws;
 mod line_reader;
 mod progress;
-mod read_fault;
-mod read_source;
-mod reading;
 mod refusal;
 mod running;
 mod said;
 mod script;
-mod sink;
-mod source;
-mod status;
 mod stop;
 mod telling;
 mod top;
-mod vec_sink;
-mod vec_source;
 mod words;
-mod write_sink;
-mod writing;
 
-pub use failed::Failed;
 pub use headline::{
     a_settle_line_joins, catalogue_lines_show_what_is_held, entries_tell_what_dumps_show,
     held_parts_passed_their_checks, lines_reach_sound_groups, listed_objects_stay_listed,
@@ -43,14 +31,9 @@ pub use headline::{
     workers_make_no_difference,
 };
 pub use laws::{
-    first_story, lines_are_the_input, small_inspections, small_scripts, small_stories,
-    syntax_is_of_the_grammar,
+    first_story, small_inspections, small_scripts, small_stories, syntax_is_of_the_grammar,
 };
-pub use read_source::ReadSource;
-pub use sink::Sink;
-pub use source::Source;
-pub use status::Status;
+pub use repo_io::{
+    Failed, ReadSource, Sink, Source, Status, VecSink, VecSource, WriteSink, lines_are_the_input,
+};
 pub use top::run;
-pub use vec_sink::VecSink;
-pub use vec_source::VecSource;
-pub use write_sink::WriteSink;

@@ -1,12 +1,11 @@
 ghost use Rattle.std.specs.Prelude.{◌≡◌, ◌<◌, ◌≤◌, ◌+◌, ◌-◌, false, [], length, take, drop, slice_range, Ok, IfOk};
 ghost use Rattle.std.specs.Prelude.{IfSome, MatchOption, OnErr, ◌==◌, position};
 ghost use Rattle.std.specs.Io.KnownBytes.{IsAtEnd, Keeps, prepend_known};
-ghost use Rattle.repo_top.specs.Lines.{has_feed};
-ghost use Rattle.repo_top.specs.Outside.{HasRisen};
+ghost use Rattle.repo_io.specs.Lines.{has_feed};
+ghost use Rattle.repo_io.specs.Outside.{HasRisen};
 ghost use Rattle.repo_top.specs.Reading.{HasLine, LineIsBegun, IsNext};
 
-use crate::failed::Failed;
-use crate::source::Source;
+use repo_io::{Failed, Source};
 use script_lang::LINE_LIMIT;
 use std::alloc::{AllocError, Global};
 use std::marker::Model;

@@ -1,18 +1,16 @@
 ghost use Rattle.std.specs.Prelude.{◌≡◌, ◌≢◌, [], None};
-ghost use Rattle.repo_top.specs.Outside.{HasRisen};
+ghost use Rattle.repo_io.specs.Outside.{HasRisen};
 ghost use Rattle.repo_top.specs.Judging.{given_by};
-ghost use Rattle.repo_top.specs.Lines.{lines};
+ghost use Rattle.repo_io.specs.Lines.{lines};
 ghost use Rattle.repo_top.specs.Story.{nothing_reached};
 ghost use Rattle.repo_top.specs.Reading.{LineIsBegun};
 ghost use Rattle.repo_top.specs.Carrying.{EndsIn, Finishes, IsScript, Known, LeavesWorld, Leaving, Ran, reached};
 
 use crate::line_reader::{LineReader, Next};
 use crate::script::Script;
-use crate::sink::Sink;
-use crate::source::Source;
-use crate::status::Status;
 use bench_net::{Draws, Net};
 use bench_world::World;
+use repo_io::{Sink, Source, Status};
 use std::alloc::Global;
 use std::thread::Threads;
 

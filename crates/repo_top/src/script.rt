@@ -1,7 +1,7 @@
 ghost use Rattle.std.specs.Prelude.{◌≡◌, ◌≤◌, ◌+◌, IfErr, IfOk, IfSome, OnErr, OnOk, Err};
 ghost use Rattle.std.specs.Option.{option_map};
 ghost use Rattle.bench_world.specs.Worlds.{world_of};
-ghost use Rattle.repo_top.specs.Outside.{HasRisen};
+ghost use Rattle.repo_io.specs.Outside.{HasRisen};
 ghost use Rattle.repo_top.specs.Judging.{given_by, says};
 ghost use Rattle.repo_top.specs.Progressing.{IsStop};
 ghost use Rattle.repo_top.specs.Story.{reached_behind, judged_next, nothing_reached};
@@ -9,12 +9,10 @@ ghost use Rattle.repo_top.specs.Carrying.{Halts, IsScript, Stops, Took, reached,
 
 use crate::progress::Progress;
 use crate::refusal::Refusal;
-use crate::sink::Sink;
-use crate::status::Status;
 use crate::stop::Stop;
-use crate::writing::write_whole;
 use bench_net::{Draws, Net};
 use bench_world::World;
+use repo_io::{Sink, Status, write_whole};
 use script_lang::{LINES_LIMIT, SCRIPT_LIMIT};
 use script_report::{REPORT_LIMIT, put_foreign, put_refused};
 use std::alloc::{AllocError, Global};

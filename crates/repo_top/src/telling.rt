@@ -1,10 +1,9 @@
-ghost use Rattle.std.specs.Prelude.{◌≡◌, ◌<◌, map, length, string_bytes, IfOk};
+ghost use Rattle.std.specs.Prelude.{◌<◌, map, length, string_bytes};
 ghost use Rattle.std.specs.List.{All};
 ghost use Rattle.script_report.specs.Pieces.{Appends};
 ghost use Rattle.bench_world.specs.EventValues.{told_value};
 ghost use Rattle.bench_world.specs.Steps.{NamesAll};
-ghost use Rattle.repo_top.specs.Labels.{label_at};
-ghost use Rattle.repo_top.specs.ToldTexts.{news_text, publisher_label, told_text};
+ghost use Rattle.repo_top.specs.ToldTexts.{news_text, told_text};
 
 mod refusal_text;
 
@@ -12,15 +11,16 @@ use crate::telling::refusal_text::{hear_refusal, packet_fault, part_refusal};
 use bench_world::Happened;
 use repo_catalog::Entry;
 use script_report::{
-    put_advance, put_answer_kept, put_answer_none, put_ask_found, put_ask_none, put_ask_refused,
-    put_block_200, put_block_300, put_block_404, put_block_published, put_catalogue,
-    put_claim_none, put_claim_part, put_delete, put_deliver_steady, put_deliver_suppressed,
-    put_dump_hex, put_dump_none, put_feed_kept, put_feed_refused, put_fetch, put_fire_early,
-    put_fire_quiet, put_fire_sent, put_hear_refused, put_hear_steady, put_hear_suppressed,
-    put_insert, put_lose, put_order, put_publish, put_restart, put_settle, put_status, put_summary,
-    put_sync, put_told, put_traffic, put_vector, put_withdraw,
+    label, publisher_labels, put_advance, put_answer_kept, put_answer_none, put_ask_found,
+    put_ask_none, put_ask_refused, put_block_200, put_block_300, put_block_404,
+    put_block_published, put_catalogue, put_claim_none, put_claim_part, put_delete,
+    put_deliver_steady, put_deliver_suppressed, put_dump_hex, put_dump_none, put_feed_kept,
+    put_feed_refused, put_fetch, put_fire_early, put_fire_quiet, put_fire_sent, put_hear_refused,
+    put_hear_steady, put_hear_suppressed, put_insert, put_lose, put_order, put_publish,
+    put_restart, put_settle, put_status, put_summary, put_sync, put_told, put_traffic, put_vector,
+    put_withdraw,
 };
-use std::alloc::{AllocError, Global};
+use std::alloc::AllocError;
 
 // Writes the report of what happened, under the labels of the members.
 pub(crate) fn put_happened(
@@ -60,7 +60,7 @@ pub(crate) fn put_happened(
             put_vector(report, label(labels, *m), labels, numbers)
         }
         Happened::Catalogue { m, count, entries } => {
-            let publishers = publishers(alloc, labels, entries)?;
+            let publishers = publisher_labels(alloc, labels, entries)?;
             put_catalogue(report, label(labels, *m), *count, &publishers, entries)
         }
         Happened::ClaimPart {
@@ -211,7 +211,7 @@ pub(crate) fn put_news(
     ensures { Appends (news_text (map string_bytes labels.now) m number entries.now)
         report.old.items report.new.items result }
 {
-    let publishers = publishers(*report.allocator(), labels, entries)?;
+    let publishers = publisher_labels(*report.allocator(), labels, entries)?;
     put_told(
         report,
         label(labels, m),
@@ -220,29 +220,4 @@ pub(crate) fn put_news(
         &publishers,
         entries,
     )
-}
-
-// The label of a member.
-pub(crate) fn label(labels: &[String], m: u32) -> &str
-    requires { m < length labels.now }
-    ensures { result.now ≡ label_at (map string_bytes labels.now) m }
-{
-    labels[m as usize].as_str()
-}
-
-// The labels of the entries' publishers.
-fn publishers(
-    alloc: Global,
-    labels: &[String],
-    entries: &[Entry],
-) -> Result<Vec<String>, AllocError>
-    requires { All (λ entry. entry.publisher < length labels.now) entries.now }
-    ensures { IfOk result (λ named. map string_bytes named.items
-        ≡ map (publisher_label (map string_bytes labels.now)) entries.now) }
-{
-    let mut named = Vec::with_capacity(alloc, entries.len())?;
-    for entry in entries {
-        named.push(label(labels, entry.publisher).to_string(alloc)?)?;
-    }
-    Ok(named)
 }

@@ -1,27 +1,23 @@
 ghost use Rattle.std.specs.Prelude.{◌≡◌, ◌≢◌, ◌↔◌, ◌⊎◌, ◌<◌, ℕ, [], None, Some, IfOk, IfSome, map, string_bytes};
 ghost use Rattle.std.specs.Option.{option_map};
 ghost use Rattle.bench_world.specs.Worlds.{world_of};
-ghost use Rattle.repo_top.specs.Answers.{IsTold, status_of};
+ghost use Rattle.repo_io.specs.Statuses.{IsTold};
+ghost use Rattle.repo_top.specs.Answers.{status_of};
 ghost use Rattle.repo_top.specs.Forms.{IsGenerated, IsInspected, InputIsRead, IsRun, asked_of, asked_story};
 ghost use Rattle.repo_top.specs.Generator.{gen_text};
 ghost use Rattle.repo_top.specs.Inspection.{inspect_story};
 ghost use Rattle.repo_top.specs.Judging.{given_by};
-ghost use Rattle.repo_top.specs.Outside.{GainsText, GainsFront, HasRisen};
+ghost use Rattle.repo_io.specs.Outside.{GainsText, GainsFront, HasRisen};
 ghost use Rattle.repo_top.specs.Taken.{FallsShortNear, IsStoppedAt, IsTakenNear, lines_so_far, lines_taken, report_of};
 ghost use Rattle.repo_top.specs.Taken.{taken};
 
 use crate::asked::{Asked, asked_of};
 use crate::generator::{Measures, Unwritten, write_script};
 use crate::inspection::{MOST_OCTETS, tell_inspection};
-use crate::read_fault::ReadFault;
-use crate::reading::read_up_to;
 use crate::running::run_script;
-use crate::sink::Sink;
-use crate::source::Source;
-use crate::status::Status;
-use crate::writing::write_whole;
 use bench_net::{Draws, Net};
 use bench_world::World;
+use repo_io::{ReadFault, Sink, Source, Status, read_up_to, write_whole};
 use std::alloc::Global;
 use std::thread::Threads;
 

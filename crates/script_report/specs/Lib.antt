@@ -3,3 +3,4 @@ pub use Rattle.ndn_name.specs.Uri
 pub mod Texts
 pub mod Pieces
 pub mod Limits
+pub mod Labels

@@ -66,10 +66,14 @@ answer_kept_text m f = line (codes "answer") (m ∷ decimal f ∷ codes "kept" �
 abbrev pub answer_none_text : List ℕ → ℕ → List ℕ
 answer_none_text m f = line (codes "answer") (m ∷ decimal f ∷ codes "none" ∷ [])
 
-abbrev pub fetch_text : List ℕ → ℕ → ℕ → ℕ → List ℕ
-fetch_text m planned kept attempts = line (codes "fetch")
-    (m ∷ codes "planned" ∷ decimal planned ∷ codes "kept" ∷ decimal kept
+-- So many parts were planned, so many of them came, in so many attempts.
+abbrev pub fetched_text : List ℕ → List ℕ → ℕ → ℕ → ℕ → List ℕ
+fetched_text verb label planned kept attempts = line verb
+    (label ∷ codes "planned" ∷ decimal planned ∷ codes "kept" ∷ decimal kept
     ∷ codes "attempts" ∷ decimal attempts ∷ [])
+
+abbrev pub fetch_text : List ℕ → ℕ → ℕ → ℕ → List ℕ
+fetch_text m planned kept attempts = fetched_text (codes "fetch") m planned kept attempts
 
 abbrev pub settle_text : ℕ → ℕ → List ℕ
 settle_text syncs kept = line (codes "settle")
@@ -159,7 +163,7 @@ abbrev pub catalogue_text : List ℕ → ℕ → List (List ℕ) → List Entry 
 catalogue_text m count labels entries =
     line (codes "catalogue") (m ∷ decimal count ∷ []) ++ entries_text labels entries
 
--- ---- watchers
+-- ---- watchers and mirrors
 
 abbrev pub watch_text : List ℕ → ℕ → List ℕ
 watch_text m w = line (codes "watch") (m ∷ decimal w ∷ [])
@@ -168,6 +172,16 @@ watch_text m w = line (codes "watch") (m ∷ decimal w ∷ [])
 abbrev pub told_text : List ℕ → ℕ → ℕ → List (List ℕ) → List Entry → List ℕ
 told_text m w count labels entries =
     line (codes "told") (m ∷ decimal w ∷ decimal count ∷ []) ++ entries_text labels entries
+
+abbrev pub mdeliver_text : ℕ → List ℕ → List ℕ
+mdeliver_text k l = line (codes "mdeliver") (decimal k ∷ l ∷ [])
+
+abbrev pub mfetch_text : List ℕ → ℕ → ℕ → ℕ → List ℕ
+mfetch_text l planned kept attempts = fetched_text (codes "mfetch") l planned kept attempts
+
+abbrev pub mcatalogue_text : List ℕ → ℕ → List (List ℕ) → List Entry → List ℕ
+mcatalogue_text l count labels entries =
+    line (codes "mcatalogue") (l ∷ decimal count ∷ []) ++ entries_text labels entries
 
 -- ---- totals
 
@@ -189,6 +203,34 @@ abbrev pub traffic_text : ℕ → ℕ → ℕ → ℕ → ℕ → List ℕ
 traffic_text syncs delivered attempts parts octets = line (codes "traffic")
     (codes "syncs" ∷ decimal syncs ∷ codes "delivered" ∷ decimal delivered
     ∷ codes "attempts" ∷ decimal attempts ∷ codes "parts" ∷ decimal parts ∷ codes "octets" ∷ decimal octets ∷ [])
+
+-- ---- journals of a live group
+
+-- How many entries follow of a member's journal.
+abbrev pub journal_text : List ℕ → ℕ → List ℕ
+journal_text m count = line (codes "journal") (m ∷ decimal count ∷ [])
+
+-- The next object of the member's list was published under this number.
+abbrev pub journal_publish_text : ℕ → List ℕ
+journal_publish_text seq = line (codes "publish") (decimal seq ∷ [])
+
+-- Octets were heard, and what came of it.
+abbrev pub journal_hear_text : List ℕ → List ℕ → List ℕ
+journal_hear_text octets how = line (codes "hear") (encode_lower octets ∷ how ∷ [])
+
+-- A fetcher, and the part that it claimed or lost: its publisher's label, the number, the place.
+abbrev pub journal_part_text : List ℕ → ℕ → List ℕ → ℕ → ℕ → List ℕ
+journal_part_text verb f label seq x =
+    line verb (decimal f ∷ codes "part" ∷ label ∷ decimal seq ∷ decimal x ∷ [])
+
+-- A fetcher that claimed or lost no part, and why.
+abbrev pub journal_fetcher_text : List ℕ → ℕ → List ℕ → List ℕ
+journal_fetcher_text verb f why = line verb (decimal f ∷ why ∷ [])
+
+-- A fetcher, the part whose packet came for it, and what became of it.
+abbrev pub journal_feed_text : ℕ → List ℕ → ℕ → ℕ → List ℕ → List ℕ
+journal_feed_text f label seq x how =
+    line (codes "feed") (decimal f ∷ label ∷ decimal seq ∷ decimal x ∷ how ∷ [])
 
 -- ---- the end
 

@@ -7,8 +7,11 @@
 mod commands;
 mod ending;
 mod events;
+mod journal;
+mod labels;
 mod laws;
 mod line;
+mod mirrors;
 mod parts;
 mod piece;
 mod readings;
@@ -24,7 +27,15 @@ pub use events::{
     put_advance, put_deliver_steady, put_deliver_suppressed, put_fire_early, put_fire_quiet,
     put_fire_sent, put_publish, put_restart, put_sync, put_withdraw,
 };
+pub use journal::{
+    put_journal, put_journal_claim_none, put_journal_claim_part, put_journal_claim_refused,
+    put_journal_feed_kept, put_journal_feed_refused, put_journal_hear_refused,
+    put_journal_hear_steady, put_journal_hear_suppressed, put_journal_lose_part,
+    put_journal_lose_refused, put_journal_publish,
+};
+pub use labels::{label, publisher_labels};
 pub use laws::limits_are_these;
+pub use mirrors::{put_mcatalogue, put_mdeliver, put_mfetch};
 pub use parts::{
     put_answer_kept, put_answer_none, put_claim_none, put_claim_part, put_feed_kept,
     put_feed_refused, put_fetch, put_lose, put_settle,

@@ -1,6 +1,6 @@
 ghost use Rattle.std.specs.Prelude.{codes};
 ghost use Rattle.script_report.specs.Texts.{part_text, claim_none_text, answer_kept_text, answer_none_text, fetch_text};
-ghost use Rattle.script_report.specs.Texts.{settle_text, feed_kept_text, feed_refused_text};
+ghost use Rattle.script_report.specs.Texts.{fetched_text, settle_text, feed_kept_text, feed_refused_text};
 ghost use Rattle.script_report.specs.Pieces.{Appends};
 
 use crate::line::put_line;
@@ -95,11 +95,25 @@ pub fn put_fetch(
 ) -> Result<(), AllocError>
     ensures { Appends (fetch_text m.now planned kept attempts) out.old.items out.new.items result }
 {
+    put_fetched(out, "fetch", m, planned, kept, attempts)
+}
+
+// What a fetch of a member or a mirror came to.
+pub(crate) fn put_fetched(
+    out: &mut Vec<u8>,
+    verb: &str,
+    label: &str,
+    planned: u64,
+    kept: u64,
+    attempts: u64,
+) -> Result<(), AllocError>
+    ensures { Appends (fetched_text verb.now label.now planned kept attempts) out.old.items out.new.items result }
+{
     put_line(
         out,
-        "fetch",
+        verb,
         &[
-            Word(m),
+            Word(label),
             Word("planned"),
             Number(planned),
             Word("kept"),

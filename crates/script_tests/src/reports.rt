@@ -45,9 +45,28 @@ block alice 300
 block alice 404
 block alice 200
 block alice 200 published 1 sync 18446744073709551615
+journal bob 12
+journal alice 0
+publish 65535
+hear 0500 steady
+hear 05 suppressed
+hear  refused
+claim 1 part alice 65535 20100
+claim 16 none
+claim 2 refused
+feed 1 alice 65535 20100 kept
+feed 2 bob 1 0 refused
+lose 16 part bob 1 0
+lose 1 refused
 watch bob 1
 told bob 16 0
 told bob 1 7
+entry alice 1 /doc segments 1 octets 3 sha256 ba7816bf8f01cfea414140de5dae2223b00361a396177a9cb410ff61f20015ad
+entry bob 65535 /... segments 0 octets 0 sha256 e3b0c44298fc1c149afbf4c8996fb92427ae41e4649b934ca495991b7852b855
+mdeliver 4294967295 mia
+mfetch mia planned 4096 kept 0 attempts 65536
+mcatalogue mia 0
+mcatalogue mia 7
 entry alice 1 /doc segments 1 octets 3 sha256 ba7816bf8f01cfea414140de5dae2223b00361a396177a9cb410ff61f20015ad
 entry bob 65535 /... segments 0 octets 0 sha256 e3b0c44298fc1c149afbf4c8996fb92427ae41e4649b934ca495991b7852b855
 vector bob
@@ -70,6 +89,7 @@ fn each_form_is_written(rt: HostRuntime) -> Result<(), Fail> {
     put_parts(&mut out)?;
     put_octets(&mut out)?;
     put_commands(&mut out)?;
+    put_journals(&mut out)?;
     put_readings(rt.alloc(), &mut out)?;
     put_refused(&mut out, 1_004, 10, "TooLarge")?;
     put_foreign(&mut out, 5)?;
@@ -126,6 +146,22 @@ fn put_commands(out: &mut Vec<u8>) -> Result<(), AllocError> {
     put_block_published(out, "alice", 1, u64::MAX)
 }
 
+fn put_journals(out: &mut Vec<u8>) -> Result<(), AllocError> {
+    put_journal(out, "bob", 12)?;
+    put_journal(out, "alice", 0)?;
+    put_journal_publish(out, 65_535)?;
+    put_journal_hear_steady(out, b"\x05\x00")?;
+    put_journal_hear_suppressed(out, b"\x05")?;
+    put_journal_hear_refused(out, b"")?;
+    put_journal_claim_part(out, 1, "alice", 65_535, 20_100)?;
+    put_journal_claim_none(out, 16)?;
+    put_journal_claim_refused(out, 2)?;
+    put_journal_feed_kept(out, 1, "alice", 65_535, 20_100)?;
+    put_journal_feed_refused(out, 2, "bob", 1, 0)?;
+    put_journal_lose_part(out, 16, "bob", 1, 0)?;
+    put_journal_lose_refused(out, 1)
+}
+
 fn put_readings(alloc: Global, out: &mut Vec<u8>) -> Result<(), Fail> {
     let labels = [
         String::from_str(alloc, "alice")?,
@@ -149,7 +185,7 @@ fn put_readings(alloc: Global, out: &mut Vec<u8>) -> Result<(), Fail> {
             "e3b0c44298fc1c149afbf4c8996fb92427ae41e4649b934ca495991b7852b855",
         )?,
     ];
-    put_watchers(out, &labels, &entries)?;
+    put_followers(out, &labels, &entries)?;
     put_vector(out, "bob", &[], &[])?;
     put_vector(out, "bob", &labels, &[2, 0])?;
     put_catalogue(out, "bob", 0, &[], &[])?;
@@ -160,13 +196,17 @@ fn put_readings(alloc: Global, out: &mut Vec<u8>) -> Result<(), Fail> {
     Ok(())
 }
 
-// What watchers are told.
-fn put_watchers(out: &mut Vec<u8>, labels: &[String], entries: &[Entry]) -> Result<(), AllocError>
+// What watchers and mirrors are told.
+fn put_followers(out: &mut Vec<u8>, labels: &[String], entries: &[Entry]) -> Result<(), AllocError>
     requires { length labels.now ≡ length entries.now }
 {
     put_watch(out, "bob", 1)?;
     put_told(out, "bob", 16, 0, &[], &[])?;
-    put_told(out, "bob", 1, 7, labels, entries)
+    put_told(out, "bob", 1, 7, labels, entries)?;
+    put_mdeliver(out, 4_294_967_295, "mia")?;
+    put_mfetch(out, "mia", 4_096, 0, 65_536)?;
+    put_mcatalogue(out, "mia", 0, &[], &[])?;
+    put_mcatalogue(out, "mia", 7, labels, entries)
 }
 
 fn entry(

@@ -19,13 +19,13 @@ use super::{Progress, Standing};
 use crate::accepting::accepts;
 use crate::said::{member, pattern};
 use crate::stop::Stop;
-use crate::telling::{label, put_news};
+use crate::telling::put_news;
 use bench_net::Draws;
 use bench_world::World;
 use ndn_name::Name;
 use repo_catalog::{Catalogue, Entry};
 use repo_watch::{Filter, Pattern, Watchers};
-use script_report::put_watch;
+use script_report::{label, put_watch};
 use std::alloc::{AllocError, Global};
 use std::mem;
 

@@ -3,11 +3,11 @@ ghost use Rattle.bench_world.specs.Steps.{FaultNamesMember, HearNamesMember, Syn
 ghost use Rattle.repo_top.specs.RefusalTexts.{field_word, hear_refusal_text, packet_fault_text, part_refusal_text};
 ghost use Rattle.repo_top.specs.RefusalTexts.{sync_refusal_text, tlv_fault_text, vector_fault_text};
 
-use crate::telling::label;
 use ndn_name::{Field, PacketFault};
 use ndn_tlv::TlvFault;
 use repo_member::HearRefusal;
 use repo_object::PartRefusal;
+use script_report::label;
 use std::alloc::{AllocError, Global};
 use svs_sync::SyncRefusal;
 use svs_vector::VectorFault;

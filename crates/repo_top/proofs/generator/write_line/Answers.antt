@@ -1,7 +1,7 @@
 use Rattle.std.proofs.Common.{◌≡◌, ℕ, List, Err, subst}
 use Rattle.repo_top.specs.declared.generator.Unwritten.TheVariants.{Failed}
-use Rattle.repo_top.specs.Outside.{GainsFront}
-use Rattle.repo_top.proofs.Outputs.{front_taken}
+use Rattle.repo_io.specs.Outside.{GainsFront}
+use Rattle.repo_io.proofs.Outputs.{front_taken}
 use Rattle.repo_top.proofs.generator.write_line.Goals as goal
 
 pub returns-in_err-write_whole-clause-front : goal.returns-in_err-write_whole-clause-front

@@ -1,7 +1,7 @@
 use Rattle.std.proofs.Common.{rules, ◌≡◌, ◌+◌, ℕ, List, Err, ◌∙◌, subst, arith}
-use Rattle.repo_top.proofs.Outputs.{front_as}
+use Rattle.repo_io.proofs.Outputs.{front_as}
 use Rattle.repo_top.specs.declared.generator.Unwritten.TheVariants.{Failed}
-use Rattle.repo_top.specs.Outside.{GainsText, GainsFront}
+use Rattle.repo_io.specs.Outside.{GainsText, GainsFront}
 use Rattle.repo_top.specs.Generator.{member_text}
 use Rattle.repo_top.proofs.Scripts.{front_in_next, front_so_many, no_texts, one_text_more}
 use Rattle.repo_top.proofs.generator.write_members.Goals as goal

@@ -1,8 +1,8 @@
 use Rattle.std.proofs.Common.{rules, ◌≡◌, ◌++◌, ℕ, List, Err, ◌∙◌, subst}
 use Rattle.repo_top.specs.declared.generator.Unwritten.TheVariants.{Failed}
-use Rattle.repo_top.specs.Outside.{GainsText, GainsFront}
+use Rattle.repo_io.specs.Outside.{GainsText, GainsFront}
 use Rattle.repo_top.specs.Generator.{publish_line, turns_text}
-use Rattle.repo_top.proofs.Outputs.{front_as, front_behind, front_longer}
+use Rattle.repo_io.proofs.Outputs.{front_as, front_behind, front_longer}
 use Rattle.repo_top.proofs.generator.write_object.Goals as goal
 
 pub returns-in_err-write_line-clause-front : goal.returns-in_err-write_line-clause-front

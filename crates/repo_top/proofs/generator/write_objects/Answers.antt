@@ -1,8 +1,8 @@
 use Rattle.std.proofs.Common.{rules, ◌≡◌, ◌∙◌, ℕ, Err, ◌+◌, ◌++◌, refl, sym, ap, subst, arith}
-use Rattle.repo_top.specs.Outside.{GainsText, GainsFront}
+use Rattle.repo_io.specs.Outside.{GainsText, GainsFront}
 use Rattle.repo_top.specs.declared.generator.Unwritten.TheVariants.{Failed}
 use Rattle.repo_top.specs.Generator.{drawn, next_state, object_text, publish_line, generator_state, texts, turns_text}
-use Rattle.repo_top.proofs.Outputs.{front_as}
+use Rattle.repo_io.proofs.Outputs.{front_as}
 use Rattle.repo_top.proofs.Scripts.{front_in_next, no_texts, one_text_more, state_more}
 use Rattle.repo_top.proofs.generator.write_objects.Goals as goal
 

@@ -1,5 +1,5 @@
 use Rattle.std.proofs.Common.{◌≡◌, ◌≤◌}
-use Rattle.repo_top.specs.Outside.{GainsText}
+use Rattle.repo_io.specs.Outside.{GainsText}
 use Rattle.repo_top.specs.Generator.{object_text, generator_state, texts}
 use Rattle.repo_top.proofs.generator.write_objects.Given as goal
 

@@ -1,7 +1,7 @@
 use Rattle.std.proofs.Common.{rules, ◌++◌, codes}
 use Rattle.std.proofs.KnownBytes.{Appends-trans}
 use Rattle.repo_top.specs.Generator.{gen_text, member_text, object_text, texts}
-use Rattle.repo_top.proofs.Outputs.{front_as, front_behind, front_whole}
+use Rattle.repo_io.proofs.Outputs.{front_as, front_behind, front_whole}
 use Rattle.repo_top.proofs.Scripts.{first_front, fourth_front, second_front, third_front}
 use Rattle.repo_top.proofs.generator.write_script.Goals as goal
 

@@ -1,6 +1,6 @@
 use Rattle.std.proofs.Common.{rules, arith}
 use Rattle.repo_top.specs.Generator.{texts, turn_text}
-use Rattle.repo_top.proofs.Outputs.{front_as}
+use Rattle.repo_io.proofs.Outputs.{front_as}
 use Rattle.repo_top.proofs.Scripts.{front_in_next, no_texts, one_text_more}
 use Rattle.repo_top.proofs.generator.write_turns.Goals as goal
 

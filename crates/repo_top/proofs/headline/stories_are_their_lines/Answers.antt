@@ -1,4 +1,4 @@
-use Rattle.repo_top.specs.Lines.{lines}
+use Rattle.repo_io.specs.Lines.{lines}
 use Rattle.repo_top.specs.Story.{nothing_reached}
 use Rattle.repo_top.proofs.HeadlineLines.{begins, each_is_taken, told_by}
 use Rattle.repo_top.proofs.headline.stories_are_their_lines.Goals as goal

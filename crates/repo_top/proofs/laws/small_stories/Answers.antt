@@ -11,7 +11,7 @@ use Rattle.svs_sync.specs.Suppression.{after_sync_event, after_sync_events}
 use Rattle.script_lang.specs.Kinds.{content_of, filled_of, hex_of, label_of, publisher_of, uri_of, numeral_of}
 use Rattle.script_lang.specs.Lines.{verb_named, values_of}
 use Rattle.script_report.specs.Texts.{entries_text, line, labelled_numbers, summary_text}
-use Rattle.repo_top.specs.Lines.{lines}
+use Rattle.repo_io.specs.Lines.{lines}
 use Rattle.repo_top.specs.Judging.{acted, acted_by, judged, judged_line, line_taken}
 use Rattle.repo_top.specs.Story.{story_from}
 use Rattle.repo_top.proofs.laws.small_stories.Goals as goal

@@ -1,7 +1,8 @@
 use Rattle.std.proofs.Common.{◌≡◌, ◌⊎◌, sym, ◌∙◌, subst}
-use Rattle.repo_top.specs.declared.status.Status.TheVariants.{NoMemory, WriteFault}
-use Rattle.repo_top.specs.Answers.{IsTold, status_of}
-use Rattle.repo_top.specs.Outside.{GainsText, GainsFront}
+use Rattle.repo_io.specs.declared.status.Status.TheVariants.{NoMemory, WriteFault}
+use Rattle.repo_io.specs.Statuses.{IsTold}
+use Rattle.repo_top.specs.Answers.{status_of}
+use Rattle.repo_io.specs.Outside.{GainsText, GainsFront}
 use Rattle.repo_top.specs.Story.{Story}
 use Rattle.repo_top.specs.Inspection.{inspect_story}
 use Rattle.repo_top.proofs.InspectRuns.{by_story, told_ends, unfailing_ends, none_left}

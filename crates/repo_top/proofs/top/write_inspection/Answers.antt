@@ -1,11 +1,11 @@
 use Rattle.std.proofs.Common.{◌≡◌, ◌∙◌, ℕ, List, sym, ap, subst}
-use Rattle.repo_top.specs.declared.status.Status.TheVariants.{WriteFault}
+use Rattle.repo_io.specs.declared.status.Status.TheVariants.{WriteFault}
 use Rattle.repo_top.specs.Answers.{status_of}
 use Rattle.repo_top.specs.Inspection.{inspect_story}
-use Rattle.repo_top.specs.Outside.{GainsFront}
+use Rattle.repo_io.specs.Outside.{GainsFront}
 use Rattle.repo_top.specs.Story.{Story}
 use Rattle.repo_top.proofs.Inspections.{not_foreign}
-use Rattle.repo_top.proofs.Outputs.{front_taken}
+use Rattle.repo_io.proofs.Outputs.{front_taken}
 use Rattle.repo_top.proofs.top.write_inspection.Goals as goal
 
 pub returns-in-Ok-write_whole-clause-never_foreign : goal.returns-in-Ok-write_whole-clause-never_foreign

@@ -1,19 +1,12 @@
-use Rattle.std.proofs.Common.{◌<◌, List, length, subst, sym}
-use Rattle.std.specs.String.{string_bytes}
+use Rattle.std.proofs.Common.{List, length, subst}
 use Rattle.repo_watch.specs.Watching.{Watching}
 use Rattle.repo_top.specs.declared.refusal.Refusal.TheVariants as refusal
 use Rattle.repo_top.specs.Judging.{begun_world, watched, watchers_of}
-use Rattle.repo_top.specs.Progressing.{IsStop, IsStopWhere, progress_state, standing_keys}
+use Rattle.repo_top.specs.Progressing.{IsStop, IsStopWhere, progress_state}
 use Rattle.std.proofs.Common.{nat_le}
 use Rattle.repo_top.proofs.Progressings.{stops_so}
-use Rattle.repo_top.proofs.WatchLines.{label_there, watched_stops}
+use Rattle.repo_top.proofs.WatchLines.{watched_stops}
 use Rattle.repo_top.proofs.progress.Progress.give_watcher.Goals as goal
-
-pub label-label-requires : goal.label-label-requires
-label-label-requires g c =
-    subst (λ ls. c.args.m < length ls) (sym c.deref.ensures.value)
-    (label_there string_bytes c.args.self.now.labels.items (standing_keys c.args.self.now.standing)
-    c.args.self.now.words c.requires.named c.args.m c.requires.there)
 
 pub returns-in_err-add_watcher-clause-stopped : goal.returns-in_err-add_watcher-clause-stopped
 returns-in_err-add_watcher-clause-stopped g c =

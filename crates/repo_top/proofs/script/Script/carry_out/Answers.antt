@@ -1,5 +1,5 @@
 use Rattle.std.proofs.Common.{◌+◌, ◌<◌, subst, take, length, List, ℕ}
-use Rattle.repo_top.specs.Outside.{GainsText}
+use Rattle.repo_io.specs.Outside.{GainsText}
 use Rattle.repo_top.specs.Judging.{given_by}
 use Rattle.repo_top.specs.Carrying.{Halts, reached}
 use Rattle.repo_top.proofs.Stops.{stops_halted, stops_unwritten}

@@ -1,5 +1,5 @@
 use Rattle.std.proofs.Common.{◌≡◌, ◌+◌, ◌<◌, ◌∙◌, subst, take, length, List, ℕ}
-use Rattle.repo_top.specs.Outside.{GainsText}
+use Rattle.repo_io.specs.Outside.{GainsText}
 use Rattle.repo_top.specs.Carrying.{stop_text}
 use Rattle.repo_top.proofs.Stops.{halts_unwritten}
 use Rattle.repo_top.proofs.script.Script.stop.Goals as goal

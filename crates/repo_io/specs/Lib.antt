@@ -1,0 +1,4 @@
+pub mod Outside
+pub mod InMemory
+pub mod Lines
+pub mod Statuses

@@ -1,7 +1,0 @@
-use Rattle.std.proofs.Common.{◌≡◌, length}
-use Rattle.std.specs.Io.KnownBytes.{Keeps}
-use Rattle.repo_top.proofs.read_source.read_again.Given as goal
-
-abbrev pub invariant-loop : goal.invariant-loop
-invariant-loop g l = (length l.buf ≡ length l.fn.buf)
-    × Keeps (g.R.Read.remaining l.fn.reader) (g.R.Read.remaining l.reader)

@@ -1,8 +1,0 @@
-use Rattle.std.proofs.Common.{◌≡◌, map, take}
-use Rattle.std.specs.Prelude.{string_bytes}
-use Rattle.repo_top.specs.ToldTexts.{publisher_label}
-use Rattle.repo_top.proofs.telling.publishers.Given as goal
-
-abbrev pub invariant-loop-entry : goal.invariant-loop-entry
-invariant-loop-entry l =
-    map string_bytes l.named.items ≡ map (publisher_label (map string_bytes l.labels)) (take l.entry-index l.entries)
