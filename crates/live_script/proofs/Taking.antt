@@ -1,0 +1,104 @@
+-- What lines come to that are read, and why they aren't taken.
+use Rattle.std.proofs.Common.{◌≡◌, ◌∙◌, ℕ, true, false, List, Option, Some, None, Result, Ok, Err, String, Global, Vec}
+use Rattle.std.proofs.Common.{◌⊎◌, inl, inr}
+use Rattle.std.proofs.Common.{refl, sym, ap, subst}
+use Rattle.std.specs.Prelude.{IfErr, IfOk, IsErr}
+use Rattle.std.specs.Result.{IsErrAnd}
+use Rattle.ndn_name.specs.declared.name.Name.{Name}
+use Rattle.script_lang.specs.declared.line.Line.{Line}
+use Rattle.script_lang.specs.declared.line.Line.TheVariants as line
+use Rattle.script_lang.specs.declared.line_fault.LineFault.{LineFault}
+use Rattle.script_lang.specs.declared.line_fault.LineFault.TheVariants as line_fault
+use Rattle.script_lang.specs.declared.check_fault.CheckFault.{CheckFault}
+use Rattle.script_lang.specs.declared.check_fault.CheckFault.TheVariants as check_fault
+use Rattle.script_lang.specs.Forms.{Stated, stated}
+use Rattle.script_lang.specs.Lines.{line_of}
+use Rattle.script_lang.specs.Reading.{FaultTells}
+use Rattle.script_lang.specs.Checking.{after_line}
+use Rattle.live_script.specs.declared.refusal.Refusal.TheVariants as refusal
+use Rattle.live_script.specs.declared.stop.Stop.{Stop}
+use Rattle.live_script.specs.declared.stop.Stop.TheVariants as stop
+use Rattle.live_script.specs.Judging.{Reached, counted, is_within_input, judged, judged_line, may_stand, refused}
+use Rattle.live_script.specs.Stopping.{IsStop, check_stop, line_stop}
+
+-- ---- octets
+
+pub no_room : (r : Reached) (octets : List ℕ) → is_within_input r octets ≡ false
+    → judged r octets ≡ refused refusal.Limit
+no_room r octets none = rw none refl
+
+pub judged_stated : (r : Reached) (octets : List ℕ) (s : Stated) → is_within_input r octets ≡ true
+    → line_of octets ≡ Ok (Some s) → judged r octets ≡ judged_line r octets s
+judged_stated r octets s within read = rw (within, read) refl
+
+pub judged_nothing : (r : Reached) (octets : List ℕ) → is_within_input r octets ≡ true → line_of octets ≡ Ok None
+    → judged r octets ≡ counted octets r
+judged_nothing r octets within read = rw (within, read) refl
+
+-- Nothing but how much was taken says whether there is room.
+pub room_kept : (r next : Reached) (octets : List ℕ) → (next.lines ≡ r.lines) × (next.octets ≡ r.octets)
+    → is_within_input r octets ≡ true → is_within_input next octets ≡ true
+room_kept r next octets same within = rw (same.0, same.1) within
+
+pub judged_fault : (r : Reached) (octets : List ℕ) (fault : LineFault) → is_within_input r octets ≡ true
+    → FaultTells fault (line_of octets) → IsStop (judged r octets) (line_stop fault)
+judged_fault r octets line_fault.Syntax within h = rw (within, h) refl
+judged_fault r octets line_fault.Limit within h = rw (within, h) refl
+judged_fault r octets line_fault.NoMemory within h = tt
+
+-- ---- lines that aren't taken
+
+pub not_live : (r : Reached) (octets : List ℕ) (l : Line) → ((name : Name) → l ≡ line.Group name → ⊥)
+    → ((label : String Global) (name : Name) (key : Vec ℕ Global) → l ≡ line.Member label name key → ⊥)
+    → ((m : String Global) (name : Name) (size : ℕ) (content : Vec ℕ Global) → l ≡ line.Publish m name size content → ⊥)
+    → judged_line r octets (stated l) ≡ refused refusal.NotLive
+unfolding judged_line
+not_live r octets (line.Group name) g m p = absurd (g name refl)
+not_live r octets (line.Member label name key) g m p = absurd (m label name key refl)
+not_live r octets (line.Publish label name size content) g m p = absurd (p label name size content refl)
+not_live r octets l g m p = refl
+
+stops_at : (r : Reached) (octets : List ℕ) (s : Stated) (fault : CheckFault) → may_stand s.verb ≡ true
+    → after_line r.declared s ≡ Err fault → IsStop (judged_line r octets s) (check_stop fault)
+unfolding judged_line
+stops_at r octets s check_fault.NoGroup may h = rw (may, h) refl
+stops_at r octets s check_fault.Late may h = rw (may, h) refl
+stops_at r octets s check_fault.UnknownLabel may h = rw (may, h) refl
+stops_at r octets s check_fault.Duplicate may h = rw (may, h) refl
+stops_at r octets s check_fault.Limit may h = rw (may, h) refl
+stops_at r octets s check_fault.TooLarge may h = rw (may, h) refl
+stops_at r octets s check_fault.NoMemory may h = tt
+
+pub refused_line : (r : Reached) (octets : List ℕ) (s : Stated) (fault : CheckFault) → may_stand s.verb ≡ true
+    → (fault ≡ check_fault.NoMemory) ⊎ (after_line r.declared s ≡ Err fault)
+    → IsStop (judged_line r octets s) (check_stop fault)
+refused_line r octets s fault may (inl out) =
+    subst (λ (f : CheckFault). IsStop (judged_line r octets s) (check_stop f)) (sym out) tt
+refused_line r octets s fault may (inr h) = stops_at r octets s fault may h
+
+-- The stop that a fault is.
+pub stops_so : {A : Type 0} (r : Result A Stop) (P : Stop → Type 0) (stop : Stop) → IsErrAnd r (λ s. s ≡ stop)
+    → P stop → IfErr r P
+stops_so (Ok x) P stop h p = tt
+stops_so (Err s) P stop h p = subst P (sym h) p
+
+-- A line that is checked and refused stops so, at what is seen of the lines before.
+pub stopped_by : {A : Type 0} (view r : Reached) (s : Stated) (fault : CheckFault) (result : Result A Stop) → view ≡ r
+    → may_stand s.verb ≡ true → (fault ≡ check_fault.NoMemory) ⊎ (after_line view.declared s ≡ Err fault)
+    → IsErrAnd result (λ stop. stop ≡ check_stop fault)
+    → IfErr result (λ stop. (octets : List ℕ) → IsStop (judged_line r octets s) stop)
+stopped_by view r s fault result same may why is =
+    let P : Stop → Type 0 = λ stop. (octets : List ℕ) → IsStop (judged_line r octets s) stop in
+    stops_so result P (check_stop fault) is (λ octets.
+    rw (← same) (refused_line view octets s fault may why))
+
+pub out_of_memory : {A : Type 0} (r : Reached) (s : Stated) (result : Result A Stop)
+    → IsErrAnd result (λ s. s ≡ stop.NoMemory)
+    → IfErr result (λ stop. (octets : List ℕ) → IsStop (judged_line r octets s) stop)
+out_of_memory r s result is =
+    let P : Stop → Type 0 = λ stop. (octets : List ℕ) → IsStop (judged_line r octets s) stop in
+    stops_so result P stop.NoMemory is (λ octets. tt)
+
+pub nothing_taken : {A : Type 0} (result : Result A Stop) (P : A → Type 0) → IsErr result → IfOk result P
+nothing_taken (Ok x) P failed = absurd cc
+nothing_taken (Err s) P failed = tt

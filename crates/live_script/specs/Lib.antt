@@ -1,0 +1,11 @@
+pub use Rattle.ndn_name.specs.Names
+pub use Rattle.script_lang.specs.Checking
+pub use Rattle.script_lang.specs.Lines
+pub use Rattle.repo_object.specs.Objects
+pub use Rattle.repo_member.specs.Groups
+pub use Rattle.live_member.specs.Meanings
+pub mod Refusals
+pub mod Limits
+pub mod Judging
+pub mod Stopping
+pub mod Scripts

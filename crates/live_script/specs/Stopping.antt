@@ -1,0 +1,29 @@
+-- Why a line is not taken, by the faults of what it calls for, and what that says of the line.
+use Rattle.std.specs.Prelude.{◌≡◌, ⊤}
+use Rattle.script_lang.specs.declared.line_fault.LineFault.{LineFault}
+use Rattle.script_lang.specs.declared.line_fault.LineFault.TheVariants as line_fault
+use Rattle.script_lang.specs.declared.check_fault.CheckFault.{CheckFault}
+use Rattle.script_lang.specs.declared.check_fault.CheckFault.TheVariants as check_fault
+use Rattle.live_script.specs.declared.refusal.Refusal.TheVariants as refusal
+use Rattle.live_script.specs.declared.stop.Stop.{Stop}
+use Rattle.live_script.specs.declared.stop.Stop.TheVariants.{Refused, NoMemory}
+use Rattle.live_script.specs.Judging.{Verdict, refused}
+
+abbrev pub line_stop : LineFault → Stop
+line_stop line_fault.Syntax = Refused refusal.Syntax
+line_stop line_fault.Limit = Refused refusal.Limit
+line_stop line_fault.NoMemory = NoMemory
+
+abbrev pub check_stop : CheckFault → Stop
+check_stop check_fault.NoGroup = Refused refusal.NoGroup
+check_stop check_fault.Late = Refused refusal.Late
+check_stop check_fault.UnknownLabel = Refused refusal.UnknownLabel
+check_stop check_fault.Duplicate = Refused refusal.Duplicate
+check_stop check_fault.Limit = Refused refusal.Limit
+check_stop check_fault.TooLarge = Refused refusal.TooLarge
+check_stop check_fault.NoMemory = NoMemory
+
+-- A line that isn't taken is refused so, unless memory ran out.
+abbrev pub IsStop : Verdict → Stop → Type 0
+IsStop verdict (Refused why) = verdict ≡ refused why
+IsStop verdict NoMemory = ⊤

@@ -1,0 +1,17 @@
+//! The input of a live group: its name, its members, and what these are to publish, judged line by line.
+//!
+//! What is promised of it: `docs/promises/live_script.md`.
+#![tactic(auto)]
+
+mod laws;
+mod members;
+mod refusal;
+mod script;
+mod stop;
+mod totals;
+
+pub use laws::lines_are_judged;
+pub use members::Members;
+pub use refusal::Refusal;
+pub use script::Script;
+pub use stop::Stop;

@@ -1,0 +1,282 @@
+ghost use Rattle.std.specs.Prelude.{◌≡◌, ◌<◌, ◌≤◌, ◌+◌, ◌∷◌, ℕ, List, [], true, false, IfErr, IfNone, IfOk, IfSome};
+ghost use Rattle.std.specs.Prelude.{OnOk};
+ghost use Rattle.std.specs.Prelude.{length, map, string_bytes};
+ghost use Rattle.ndn_name.specs.Names.{Component};
+ghost use Rattle.script_lang.specs.declared.verb.Verb.TheVariants as verb;
+ghost use Rattle.script_lang.specs.Forms.{said, stated};
+ghost use Rattle.script_lang.specs.Kinds.{Text, Number, Named, Octets};
+ghost use Rattle.repo_object.specs.Objects.{IsObject};
+ghost use Rattle.repo_member.specs.Groups.{IsKey, IsPlainNodeName, is_name_taken, node_limit};
+ghost use Rattle.live_script.specs.Judging.{counted, cut_object, is_within_input, judged, judged_line};
+ghost use Rattle.live_script.specs.Judging.{nothing_reached, takes};
+ghost use Rattle.live_script.specs.Judging.{with_member_too, with_object};
+ghost use Rattle.live_script.specs.Scripts.{Gives, GivesNobody, IsLine, IsPublication};
+ghost use Rattle.live_script.specs.Stopping.{IsStop};
+
+use crate::members::Members;
+use crate::refusal::Refusal;
+use crate::stop::Stop;
+use crate::totals::Totals;
+use ndn_name::Name;
+use repo_member::{Group, GroupFault};
+use repo_object::{Object, cut};
+use script_lang::{LINES_LIMIT, Line, SCRIPT_LIMIT, Words, read_line};
+use std::alloc::{AllocError, Global};
+use std::marker::Model;
+
+/// What the lines of an input came to so far: the group, and what its members are to publish.
+#[derive(Drop)]
+pub struct Script {
+    alloc: Global,
+    words: Words,
+    // The labels of the members, and the objects of each.
+    labels: Vec<String>,
+    lists: Vec<Vec<Object>>,
+    group: Option<Group>,
+    totals: Totals,
+    // How many lines were taken, and how many octets they have.
+    lines: u32,
+    octets: usize,
+}
+
+// It is seen as how much was taken, what that declares, the group, and the list of each member.
+impl Model for Script {
+    ghost use Rattle.std.specs.Prelude.{map, string_bytes};
+    ghost use Rattle.live_script.specs.Judging.{Reached};
+    ghost use Rattle.live_script.specs.Scripts.{IsKept, group_keys, totals_view};
+
+    ghost Value = { Reached };
+
+    ghost view = { λ s. record {
+      lines = s.lines;
+      octets = s.octets;
+      declared = s.words;
+      keys = group_keys s.group;
+      lists = map (λ l. l.items) s.lists.items;
+    } };
+
+    ghost invariant = { λ s. IsKept (map string_bytes s.labels.items) s.group (totals_view s.totals) (record {
+      lines = s.lines;
+      octets = s.octets;
+      declared = s.words;
+      keys = group_keys s.group;
+      lists = map (λ l. l.items) s.lists.items;
+    }) };
+}
+
+impl Script {
+    /// No line was taken.
+    pub fn new(alloc: Global) -> Script
+        ensures { result ≡ nothing_reached }
+    {
+        Script {
+            alloc,
+            words: Words::new(alloc),
+            labels: Vec::new(alloc),
+            lists: Vec::new(alloc),
+            group: None,
+            totals: Totals::none(),
+            lines: 0,
+            octets: 0,
+        }
+    }
+
+    /// The number of the next line, counted from 1.
+    pub fn next_line(&self) -> u32
+        ensures { result ≡ self.now.lines + 1 }
+    {
+        self.lines + 1
+    }
+
+    /// Takes the next line, its line feed with it, or tells why not.
+    ///
+    /// Of an input that is too long the line suffices up to the octet that is one too many.
+    pub fn take(self, line: &[u8]) -> Result<Script, Stop>
+        ensures taken { IfOk result (λ next. judged self line.now ≡ takes next) }
+        ensures stopped { IfErr result (IsStop (judged self line.now)) }
+    {
+        if !self.has_room(line) {
+            return Err(Stop::Refused(Refusal::Limit));
+        }
+        match read_line(self.alloc, line)? {
+            Some(stated) => Ok(self.take_stated(&stated)?.counted(line)),
+            None => Ok(self.counted(line)),
+        }
+    }
+
+    // Whether the input may have this line too.
+    fn has_room(&self, line: &[u8]) -> bool
+        ensures { result ≡ is_within_input self.now line.now }
+    {
+        self.lines < LINES_LIMIT && line.len() <= SCRIPT_LIMIT - self.octets
+    }
+
+    // The line counts as taken.
+    fn counted(mut self, line: &[u8]) -> Script
+        requires { is_within_input self line.now ≡ true }
+        ensures { counted line.now self ≡ takes result }
+    {
+        self.lines += 1;
+        self.octets += line.len();
+        self
+    }
+
+    // Takes what a line states, and doesn't count the line. Whether it may stand in the input is asked first.
+    fn take_stated(self, line: &Line) -> Result<Script, Stop>
+        requires { IsLine (stated line.now) }
+        ensures taken { IfOk result (λ next. (octets : List ℕ)
+            → judged_line self octets (stated line.now) ≡ counted octets next) }
+        ensures same { IfOk result (λ next. (next.lines ≡ self.lines) × (next.octets ≡ self.octets)) }
+        ensures stopped { IfErr result (λ stop. (octets : List ℕ)
+            → IsStop (judged_line self octets (stated line.now)) stop) }
+    {
+        match line {
+            Line::Group { name } => self.declare_group(line, name),
+            Line::Member { label, name, key } => self.declare_member(line, label, name, key),
+            Line::Publish {
+                m,
+                name,
+                size,
+                content,
+            } => self.publish(line, m, name, *size as usize, content),
+            _ => Err(Stop::Refused(Refusal::NotLive)),
+        }
+    }
+
+    // The group has this name, and nobody is in it yet.
+    fn declare_group(mut self, line: &Line, name: &Name) -> Result<Script, Stop>
+        requires line { IsLine (stated line.now) }
+        requires is { stated line.now ≡ said verb.Group (Named name.now ∷ []) }
+        ensures taken { IfOk result (λ next. (octets : List ℕ)
+            → judged_line self octets (stated line.now) ≡ counted octets next) }
+        ensures same { IfOk result (λ next. (next.lines ≡ self.lines) × (next.octets ≡ self.octets)) }
+        ensures stopped { IfErr result (λ stop. (octets : List ℕ)
+            → IsStop (judged_line self octets (stated line.now)) stop) }
+    {
+        self.words.check(line)?;
+        // Its clause says that the components are a name's.
+        let _octets = name.octets();
+        self.group = Some(Group::new(self.alloc, name)?);
+        Ok(self)
+    }
+
+    // There is one member more, which is to publish nothing yet.
+    fn declare_member(
+        mut self,
+        line: &Line,
+        label: &str,
+        node: &Name,
+        key: &[u8],
+    ) -> Result<Script, Stop>
+        requires line { IsLine (stated line.now) }
+        requires is { stated line.now ≡ said verb.Member (Text label.now ∷ Named node.now ∷ Octets key.now ∷ []) }
+        ensures taken { IfOk result (λ next. (octets : List ℕ)
+            → judged_line self octets (stated line.now) ≡ counted octets next) }
+        ensures same { IfOk result (λ next. (next.lines ≡ self.lines) × (next.octets ≡ self.octets)) }
+        ensures stopped { IfErr result (λ stop. (octets : List ℕ)
+            → IsStop (judged_line self octets (stated line.now)) stop) }
+    {
+        self.words.check(line)?;
+        // Its clause says that the components are a name's.
+        let _octets = node.octets();
+        let Some(group) = &mut self.group else {
+            unreachable!()
+        };
+        add_member(group, node, key)?;
+        self.labels.push(label.to_string(self.alloc)?)?;
+        self.lists.push(Vec::new(self.alloc))?;
+        Ok(self)
+    }
+
+    // A member is to publish one object more, whose segments are the content's pieces of this size.
+    fn publish(
+        mut self,
+        line: &Line,
+        m: &str,
+        name: &Name,
+        size: usize,
+        content: &[u8],
+    ) -> Result<Script, Stop>
+        requires line { IsLine (stated line.now) }
+        requires is { stated line.now ≡ said verb.Publish
+            (Text m.now ∷ Named name.now ∷ Number size ∷ Octets content.now ∷ []) }
+        ensures taken { IfOk result (λ next. (octets : List ℕ)
+            → judged_line self octets (stated line.now) ≡ counted octets next) }
+        ensures same { IfOk result (λ next. (next.lines ≡ self.lines) × (next.octets ≡ self.octets)) }
+        ensures stopped { IfErr result (λ stop. (octets : List ℕ)
+            → IsStop (judged_line self octets (stated line.now)) stop) }
+    {
+        self.words.check(line)?;
+        let object = object_of(self.alloc, name, size, content)?;
+        let Some(totals) = self.totals.with(content.len(), object.contents().len()) else {
+            return Err(Stop::Refused(Refusal::TooLarge));
+        };
+        let Some(member) = self.words.member(m) else {
+            unreachable!()
+        };
+        add_object(&mut self.lists, member as usize, object)?;
+        self.totals = totals;
+        Ok(self)
+    }
+
+    /// The group, the labels and the lists, where a line named the group.
+    pub fn into_members(self) -> Option<Members>
+        ensures some { IfSome result (Gives self) }
+        ensures none { IfNone result (GivesNobody self) }
+    {
+        let Script {
+            labels,
+            lists,
+            group,
+            ..
+        } = self;
+        let Some(group) = group else {
+            return None;
+        };
+        // Read for its clause alone: what holds of every group.
+        let _roster = group.roster();
+        Some(Members {
+            group,
+            labels,
+            lists,
+        })
+    }
+}
+
+// The object of this name whose segments are the content's pieces of this size.
+fn object_of(alloc: Global, name: &Name, size: usize, content: &[u8]) -> Result<Object, AllocError>
+    requires { IsPublication name.now size content.now }
+    ensures is { IfOk result (λ object. object ≡ cut_object name.now size content.now) }
+    ensures object { IfOk result IsObject }
+{
+    // There are few enough segments, so only memory can be wanting.
+    let Ok(contents) = cut(alloc, content, size) else {
+        return Err(AllocError);
+    };
+    Ok(Object::from_parts(name.clone()?, contents))
+}
+
+// The object stands behind the others of the member's list.
+fn add_object(lists: &mut Vec<Vec<Object>>, member: usize, object: Object) -> Result<(), AllocError>
+    requires { member < length lists.old.items }
+    ensures { OnOk result (map (λ l. l.items) lists.new.items
+        ≡ with_object member object (map (λ l. l.items) lists.old.items)) }
+{
+    lists[member].push(object)?;
+    Ok(())
+}
+
+// There is a member more, of a name that nobody has, in a group that isn't full.
+fn add_member(group: &mut Group, node: &Name, key: &[u8]) -> Result<(), AllocError>
+    requires node { IsPlainNodeName node.now }
+    requires key { IsKey key.now }
+    requires apart { is_name_taken group.old node.now ≡ false }
+    requires few { length group.old.members.names < node_limit }
+    ensures { OnOk result (group.new ≡ with_member_too node.now key.now group.old) }
+{
+    match group.add_member(node, key) {
+        Ok(_) => Ok(()),
+        Err(GroupFault::NoMemory) => Err(AllocError),
+        Err(GroupFault::Duplicate | GroupFault::Full) => unreachable!(),
+    }
+}

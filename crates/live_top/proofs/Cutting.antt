@@ -1,0 +1,87 @@
+-- The first line of an input, and what the lines behind it come to.
+use Rattle.std.proofs.Common.{◌≡◌, ◌≢◌, ◌∙◌, ℕ, zero, suc, ◌+◌, ◌<◌, ◌≤◌, Bool, true, false, eqb, cond, List, []}
+use Rattle.std.proofs.Common.{◌∷◌, length, take, drop}
+use Rattle.std.proofs.Common.{get_or, Some, None, position, refl, sym, arith, inl, inr}
+use Rattle.std.specs.List.{position_or_len}
+use Rattle.std.proofs.lemmas.Bool.{ltb-false, or_from}
+use Rattle.std.proofs.lemmas.Bool.Decides.{eqb_tells}
+use Rattle.std.proofs.lemmas.List.{drop_all, take_all}
+use Rattle.std.proofs.lemmas.List.Quantifiers.{position-Some}
+use Rattle.repo_io.specs.Lines.{has_feed, lines}
+use Rattle.repo_io.proofs.LineLaws.{open_line}
+use Rattle.live_script.specs.declared.stop.Stop.{Stop}
+use Rattle.live_script.specs.declared.stop.Stop.TheVariants as stop
+use Rattle.live_script.specs.Stopping.{IsStop}
+use Rattle.live_top.specs.Inputs.{Stops, halt_at}
+use Rattle.live_script.specs.Judging.{Reached, judged, nothing_reached, takes}
+use Rattle.live_top.specs.Outcomes.{Outcome, Taken, outcome_from, outcome_of}
+
+-- ---- the first line
+
+first_feed : (octets : List ℕ) (at : ℕ) → at < length octets → eqb (get_or octets at 0) 10 ≡ true
+    → ((k : ℕ) → k < at → eqb (get_or octets k 0) 10 ≡ false)
+    → lines octets ≡ take (suc at) octets ∷ lines (drop (suc at) octets)
+unfolding lines
+first_feed [] at there feed none = absurd (omega arith)
+first_feed (b ∷ bs) zero there feed none = rw feed refl
+first_feed (b ∷ bs) (suc at) there feed none =
+    let other : eqb b 10 ≡ false = none 0 (omega arith) in
+    let behind = first_feed bs at (omega (arith, there)) feed (λ k lt. none (suc k) (omega (arith, lt))) in
+    rw (other, behind) refl
+
+pub line_found : (octets : List ℕ) (at : ℕ) → Some at ≡ position (λ octet. eqb octet 10) octets
+    → lines octets ≡ take (at + 1) octets ∷ lines (drop (at + 1) octets)
+line_found octets at is =
+    let facts = position-Some (λ octet. eqb octet 10) octets at 0 (sym is) in
+    let one : at + 1 ≡ suc at = omega arith in
+    rw one (first_feed octets at facts.0 facts.1 facts.2)
+
+none_before : (octets : List ℕ) → length octets ≤ position_or_len (λ octet. eqb octet 10) octets
+    → has_feed octets ≡ false
+none_before [] le = refl
+none_before (b ∷ bs) le = elim (eqb_tells b 10) [
+  | inl same ↦ let none = rw same.0 at le in absurd (omega (arith, none))
+  | inr other ↦ let more = rw other.0 at le in or_from (eqb b 10) (has_feed bs) other.0
+      (none_before bs (omega (arith, more)))
+]
+
+none_found : (octets : List ℕ) → position (λ octet. eqb octet 10) octets ≡ None → has_feed octets ≡ false
+none_found octets e = none_before octets (ltb-false _ _ (by_test _ _ e)) where
+  by_test : (test : Bool) (at : ℕ) → cond test (Some at) None ≡ None → test ≡ false
+  by_test true at e = absurd cc
+  by_test false at e = refl
+
+pub last_line : (octets : List ℕ) → octets ≢ [] → None ≡ position (λ octet. eqb octet 10) octets
+    → lines octets ≡ octets ∷ lines []
+unfolding lines
+last_line octets some is = open_line octets some (none_found octets (sym is))
+
+pub whole_line : (octets front back : List ℕ) → front ≡ take (length octets) octets → back ≡ drop (length octets) octets
+    → lines octets ≡ octets ∷ lines [] → lines octets ≡ front ∷ lines back
+whole_line octets front back f b is =
+    let all : front ≡ octets = f ∙ take_all (length octets) octets (omega arith) in
+    let none : back ≡ [] = b ∙ drop_all (length octets) octets (omega arith) in
+    rw (all, none) is
+
+-- ---- what lines come to
+
+-- Octets from which the lines behind some others are still to be taken.
+pub begun : (input : List ℕ) (r : Reached) → r ≡ nothing_reached → outcome_of input ≡ outcome_from r (lines input)
+begun input r is = rw is refl
+
+pub taken_on : (o : Outcome) (r next : Reached) (octets line behind : List ℕ) → o ≡ outcome_from r (lines octets)
+    → lines octets ≡ line ∷ lines behind → judged r line ≡ takes next → o ≡ outcome_from next (lines behind)
+unfolding outcome_from
+taken_on o r next octets line behind so_far cut is = so_far ∙ rw (cut, is) refl
+
+pub stops_at : (o : Outcome) (r : Reached) (octets line behind : List ℕ) (s : Stop)
+    → o ≡ outcome_from r (lines octets) → lines octets ≡ line ∷ lines behind → IsStop (judged r line) s
+    → Stops o (halt_at (r.lines + 1) s)
+unfolding outcome_from
+stops_at o r octets line behind (stop.Refused why) so_far cut is = so_far ∙ rw (cut, is) refl
+stops_at o r octets line behind stop.NoMemory so_far cut is = tt
+
+pub all_taken : (o : Outcome) (r : Reached) (octets : List ℕ) → o ≡ outcome_from r (lines octets) → octets ≡ []
+    → o ≡ Taken r
+unfolding outcome_from lines
+all_taken o r octets so_far none = so_far ∙ rw none refl

@@ -1,0 +1,10 @@
+mod PrintedMembers
+mod PrintedForms
+mod PrintedLines
+mod PrintedClaims
+mod PrintedPublishers
+pub mod Cutting
+pub mod Counting
+pub mod Reading
+mod Running
+mod Fronts

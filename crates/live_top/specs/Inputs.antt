@@ -1,0 +1,42 @@
+-- What reading an input's lines comes to.
+use Rattle.std.specs.Prelude.{◌≡◌, ⊤, ℕ, List, Option, IfSome}
+use Rattle.std.specs.Io.KnownBytes.{IsAtEnd, Keeps, prepend_known}
+use Rattle.repo_io.specs.Outside.{HasRisen}
+use Rattle.repo_io.specs.declared.read_fault.ReadFault.{ReadFault}
+use Rattle.repo_io.specs.declared.read_fault.ReadFault.TheVariants as fault
+use Rattle.live_top.specs.declared.input.Halt.{Halt}
+use Rattle.live_top.specs.declared.input.Halt.TheVariants as halt
+use Rattle.live_script.specs.Judging.{Reached}
+use Rattle.live_script.specs.declared.stop.Stop.{Stop}
+use Rattle.live_script.specs.declared.stop.Stop.TheVariants as stop
+use Rattle.live_top.specs.Outcomes.{Outcome, Refused, Taken, outcome_of}
+
+-- The input was read to its end, and all its lines were taken.
+pub record IsRead (left rest : Option (List ℕ)) (r : Reached) : Type 0 where
+  pub input : List ℕ
+  pub read : Keeps left (prepend_known input rest)
+  pub ended : IsAtEnd rest
+  pub taken : outcome_of input ≡ Taken r
+
+-- An input that comes to this stops so, unless memory ran out. No source fails meanwhile.
+abbrev pub Stops : Outcome → Halt → Type 0
+Stops outcome halt.Failed = ⊥
+Stops outcome (halt.Refused line why) = outcome ≡ Refused line why
+Stops outcome halt.NoMemory = ⊤
+
+-- Why nothing runs where the input could not be read.
+abbrev pub halt_of : ReadFault → Halt
+halt_of fault.Failed = halt.Failed
+halt_of fault.NoMemory = halt.NoMemory
+
+-- Why nothing runs where this line isn't taken.
+abbrev pub halt_at : ℕ → Stop → Halt
+halt_at line (stop.Refused why) = halt.Refused line why
+halt_at line stop.NoMemory = halt.NoMemory
+
+-- A line of the input is the first that is refused, however much of it was read; or the source failed, or memory ran
+-- out.
+abbrev pub IsHaltedAt : Option (List ℕ) → (old new : ℕ) → Halt → Type 0
+IsHaltedAt left old new halt.Failed = HasRisen old new
+IsHaltedAt left old new (halt.Refused line why) = IfSome left (λ input. outcome_of input ≡ Refused line why)
+IsHaltedAt left old new halt.NoMemory = ⊤

@@ -1,0 +1,9 @@
+pub use Rattle.live_script.specs.Judging
+pub use Rattle.live_settle.specs.Rans
+pub use Rattle.repo_io.specs.Outside
+pub use Rattle.repo_io.specs.Statuses
+pub mod Outcomes
+pub mod Inputs
+pub mod Journals
+pub mod Printed
+pub mod Answers

@@ -1,0 +1,41 @@
+-- What an input of a live group comes to.
+use Rattle.std.specs.Prelude.{ℕ, ◌+◌, List, [], ◌∷◌, map, length}
+use Rattle.live_settle.specs.Rans.{numbers_below}
+use Rattle.live_member.specs.Meanings.{Meaning, meaning_of}
+use Rattle.script_lang.specs.Checking.{party_label}
+use Rattle.repo_io.specs.Lines.{lines}
+use Rattle.live_script.specs.declared.refusal.Refusal.{Refusal}
+use Rattle.live_script.specs.Judging.{Reached, Verdict, nothing_reached, judged, refused, takes, unjudged}
+
+-- The first line that is refused, and why; or what all lines came to. That no row judges a line doesn't happen.
+pub data Outcome : Type 0 where
+  Refused : (line : ℕ) → Refusal → Outcome
+  Taken : Reached → Outcome
+  Unjudged : Outcome
+
+abbrev pub outcome_behind : (Reached → Outcome) → ℕ → Verdict → Outcome
+outcome_behind others line (refused why) = Refused line why
+outcome_behind others line (takes next) = others next
+outcome_behind others line unjudged = Unjudged
+
+-- What lines come to behind those before them.
+unfoldable pub outcome_from : Reached → List (List ℕ) → Outcome
+outcome_from r [] = Taken r
+outcome_from r (line ∷ others) = outcome_behind (λ next. outcome_from next others) (r.lines + 1) (judged r line)
+
+abbrev pub outcome_of : List ℕ → Outcome
+outcome_of input = outcome_from nothing_reached (lines input)
+
+-- ---- the group of an input
+
+-- The first draw of each of so many members.
+abbrev pub first_draws : (ℕ → ℕ → ℕ) → ℕ → List ℕ
+first_draws draw members = map (λ m. draw m 0) (numbers_below members)
+
+-- What runs: the group and the lists of the input, where every draw of a member is its first.
+abbrev pub meaning_at : (ℕ → ℕ → ℕ) → Reached → Meaning
+meaning_at draw r = meaning_of r.keys r.lists (first_draws draw (length r.lists))
+
+-- The labels of the members, in order.
+abbrev pub labels_at : Reached → List (List ℕ)
+labels_at r = map party_label r.declared.members

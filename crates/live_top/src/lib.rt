@@ -1,0 +1,13 @@
+//! A run of a live group from a source to a sink: the lines of the input are judged, the group runs in threads, and the
+//! journals and catalogues of its members are written.
+//!
+//! What is promised of it: `docs/promises/live_top.md`.
+#![tactic(auto)]
+
+mod input;
+mod laws;
+mod telling;
+mod top;
+
+pub use laws::{journals_are_printed_whole, publishers_are_members};
+pub use top::run_live;

@@ -1,0 +1,194 @@
+ghost use Rattle.std.specs.Prelude.{◌≡◌, ◌≢◌, ◌↔◌, ◌⊎◌, ◌<◌, ◌^◌, ℕ, true, false, None, IsSome, IfSome, IfOk, length};
+ghost use Rattle.std.specs.Prelude.{map, string_bytes};
+ghost use Rattle.live_member.specs.Meanings.{IsWithinLimits, meaning_of};
+ghost use Rattle.live_settle.specs.Rans.{AreRans};
+ghost use Rattle.repo_io.specs.Statuses.{IsTold};
+ghost use Rattle.repo_io.specs.Outside.{HasRisen};
+ghost use Rattle.live_top.specs.Answers.{HasRun, Refuses, Runs, SaysRefused, WritesFront, is_live, status_of};
+ghost use Rattle.live_script.specs.Refusals.{refusal_text};
+ghost use Rattle.live_top.specs.Outcomes.{first_draws, outcome_of};
+
+use crate::input::{Halt, read_script};
+use crate::telling::live_text;
+use bench_net::Draws;
+use live_group::{Gate, run_group};
+use live_script::{Members, Refusal, Script};
+use live_settle::Ran;
+use repo_io::{Sink, Source, Status, write_whole};
+use repo_member::Group;
+use repo_object::Object;
+use script_report::put_refused;
+use std::alloc::{AllocError, Global};
+use std::sync::Wait;
+use std::thread::Threads;
+
+/// Runs the live group of an input, for the word `live`: reads the lines of its name, its members and what these are to
+/// publish, lets the members run in threads of their own, and writes the journal and the catalogue of each.
+///
+/// Each actor of a member passes the gate before each locked call. Nothing is promised of whether the run ends, or of
+/// the order of what its threads do. `end` is left with the members of a run that is done, in order.
+pub fn run_live<R: Threads + Wait + Sync, S: Source, K: Sink, D: Draws, G: Gate + Sync>(
+    rt: &R,
+    alloc: Global,
+    words: &[String],
+    source: &mut S,
+    sink: &mut K,
+    draws: &D,
+    gate: &G,
+    end: &mut Option<Vec<Ran>>,
+) -> Status
+    requires { end.old ≡ None }
+
+    // The words alone decide on `Usage`. Then nothing is read or written.
+    ensures usage { (result ≡ Status.Usage) ↔ (is_live (map string_bytes words.now) ≡ false) }
+    ensures untouched { result ≡ Status.Usage → (source.new ≡ source.old) × (sink.new ≡ sink.old) }
+
+    // On `Done` and `Refused` the status is what the lines of the input come to: the first that is refused, or that all
+    // are taken. No line brings octets, so none is foreign.
+    ensures told { IsTold result → IfSome (S.left source.old) (λ input. result ≡ status_of (outcome_of input)) }
+    ensures never_foreign { (line : ℕ) → result ≢ Status.Foreign line }
+
+    // On `Done` the members that are left ran as the input says: the journal of each replays to it, from its beginning
+    // with the input's group and lists and the member's first draw for every one, and its catalogue is the join of all
+    // lists. What was written are their journals and then their catalogues.
+    ensures there { result ≡ Status.Done → IsSome end.new }
+    ensures done { result ≡ Status.Done → IfSome end.new (λ rans. HasRun (D.draw draws.now)
+        (S.left source.old) (S.left source.new) (K.out sink.old) (K.out sink.new) rans.items) }
+    ensures none { result ≢ Status.Done → end.new ≡ None }
+
+    // On `Refused` what was written is the refusal's line alone.
+    ensures refused { (line number : ℕ) → result ≡ Status.Refused line number
+        → SaysRefused line number (K.out sink.old) (K.out sink.new) }
+
+    // The other answers have their causes; want of memory may come at any time. Whatever comes, nothing was written, or
+    // a front of a text that such a run may write, and after `WriteFault` not the whole of it.
+    ensures read_fault { result ≡ Status.ReadFault → HasRisen (S.faults source.old) (S.faults source.new) }
+    ensures unwritten { result ≡ Status.ReadFault → sink.new ≡ sink.old }
+    ensures write_fault { result ≡ Status.WriteFault → HasRisen (K.faults sink.old) (K.faults sink.new) }
+    ensures front { IfSome (S.left source.old) (λ input. (sink.new ≡ sink.old)
+        ⊎ WritesFront (D.draw draws.now) (outcome_of input) (K.out sink.old) (K.out sink.new)
+        (result ≡ Status.WriteFault)) }
+    ensures complete { is_live (map string_bytes words.now) ≡ true
+        → ¬ HasRisen (S.faults source.old) (S.faults source.new)
+        → ¬ HasRisen (K.faults sink.old) (K.faults sink.new)
+        → IfSome (S.left source.old)
+        (λ input. (result ≡ status_of (outcome_of input)) ⊎ (result ≡ Status.NoMemory)) }
+{
+    if !is_live(words) {
+        return Status::Usage;
+    }
+    match read_script(alloc, source) {
+        Ok(script) => run_script(rt, alloc, script, sink, draws, gate, end),
+        Err(Halt::Refused { line, why }) => refuse(alloc, line, why, sink),
+        Err(Halt::Failed) => Status::ReadFault,
+        Err(Halt::NoMemory) => Status::NoMemory,
+    }
+}
+
+// Whether the words ask for a live group.
+fn is_live(words: &[String]) -> bool
+    ensures { result ≡ is_live (map string_bytes words.now) }
+{
+    matches!(words, [word] if word.as_str() == "live")
+}
+
+// Writes that the line is refused.
+fn refuse<K: Sink>(alloc: Global, line: u32, why: Refusal, sink: &mut K) -> Status
+    ensures refused { Refuses line why (K.out sink.old) (K.out sink.new) result }
+    ensures no_memory { result ≡ Status.NoMemory → sink.new ≡ sink.old }
+    ensures write_fault { result ≡ Status.WriteFault → HasRisen (K.faults sink.old) (K.faults sink.new) }
+{
+    let Ok(text) = refusal_line(alloc, line, why) else {
+        return Status::NoMemory;
+    };
+    match write_whole(sink, &text) {
+        Ok(()) => Status::Refused {
+            line,
+            number: why.number(),
+        },
+        Err(_) => Status::WriteFault,
+    }
+}
+
+// The line that says so.
+fn refusal_line(alloc: Global, line: u32, why: Refusal) -> Result<Vec<u8>, AllocError>
+    ensures { IfOk result (λ text. text.items ≡ refusal_text line why) }
+{
+    let mut text = Vec::new(alloc);
+    put_refused(
+        &mut text,
+        u64::from(line),
+        u64::from(why.number()),
+        why.word(),
+    )?;
+    Ok(text)
+}
+
+// Runs the group, and writes and leaves what came of it.
+fn run_script<R: Threads + Wait + Sync, K: Sink, D: Draws, G: Gate + Sync>(
+    rt: &R,
+    alloc: Global,
+    script: Script,
+    sink: &mut K,
+    draws: &D,
+    gate: &G,
+    end: &mut Option<Vec<Ran>>,
+) -> Status
+    requires { end.old ≡ None }
+    ensures ran { Runs (D.draw draws.now) script (K.out sink.old) (K.out sink.new) end.new result }
+    ensures no_memory { result ≡ Status.NoMemory → sink.new ≡ sink.old }
+    ensures write_fault { result ≡ Status.WriteFault → HasRisen (K.faults sink.old) (K.faults sink.new) }
+{
+    let Some(members) = script.into_members() else {
+        *end = Some(Vec::new(alloc));
+        return Status::Done;
+    };
+    let Members {
+        group,
+        labels,
+        lists,
+    } = members;
+    let Ok(rans) = run_members(rt, alloc, &group, lists, draws, gate) else {
+        return Status::NoMemory;
+    };
+    let Ok(text) = live_text(alloc, &labels, &rans) else {
+        return Status::NoMemory;
+    };
+    match write_whole(sink, &text) {
+        Ok(()) => {
+            *end = Some(rans);
+            Status::Done
+        }
+        Err(_) => Status::WriteFault,
+    }
+}
+
+// Runs the members of the group, each with its first draw for every one.
+fn run_members<R: Threads + Wait + Sync, D: Draws, G: Gate + Sync>(
+    rt: &R,
+    alloc: Global,
+    group: &Group,
+    lists: Vec<Vec<Object>>,
+    draws: &D,
+    gate: &G,
+) -> Result<Vec<Ran>, AllocError>
+    requires few { length lists.items < 2 ^ 32 }
+    requires within { IsWithinLimits (meaning_of group.now (map (λ l. l.items) lists.items)
+        (first_draws (D.draw draws.now) (length lists.items))) }
+    ensures { IfOk result (λ rans. AreRans (meaning_of group.now (map (λ l. l.items) lists.items)
+        (first_draws (D.draw draws.now) (length lists.items))) rans.items) }
+{
+    let values = first_draws(alloc, draws, lists.len() as u32)?;
+    run_group(rt, alloc, group, lists, &values, gate)
+}
+
+// The first draw of each member.
+fn first_draws<D: Draws>(alloc: Global, draws: &D, members: u32) -> Result<Vec<u32>, AllocError>
+    ensures { IfOk result (λ values. values.items ≡ first_draws (D.draw draws.now) members) }
+{
+    let mut values = Vec::new(alloc);
+    for member in 0..members {
+        values.push(draws.draw(member, 0))?;
+    }
+    Ok(values)
+}
