@@ -5,7 +5,7 @@ Each run has an input of its own, drawn from the seed and the run's number: so m
 segments, which members publish. A run fails where the program doesn't end in time or with status 0, or where
 `check_journals.py` finds a journal that doesn't replay or a catalogue that isn't the join of all lists; its input and
 output are kept then. In the end it tells how long runs took, and over all of them how many publications were told to
-how many members, how many of these news were heard, and how many turns of fetchers brought nothing.
+how many members and how many of these news were not heard, how many claims found no part, and how many entries were refused.
 """
 import argparse
 import contextlib
@@ -35,7 +35,7 @@ class Counts:
     """What came of runs."""
 
     def __init__(self):
-        self.seconds, self.told, self.heard, self.fruitless, self.entries = [], 0, 0, 0, 0
+        self.seconds, self.told, self.heard, self.idle, self.refused, self.entries = [], 0, 0, 0, 0, 0
 
     def of(self, printed, seconds, members, objects):
         """Of one run. A settle lets each member hear each other once more."""
@@ -43,7 +43,8 @@ class Counts:
         self.seconds.append(seconds)
         self.told += objects * (members - 1)
         self.heard += sum(line.startswith("hear ") for line in lines) - members * (members - 1)
-        self.fruitless += sum(line.endswith((" none", " refused")) or line.startswith("lose ") for line in lines)
+        self.idle += sum(line.startswith("claim ") and line.endswith(" none") for line in lines)
+        self.refused += sum(line.endswith(" refused") for line in lines)
         self.entries += sum(int(line.split()[2]) for line in lines if line.startswith("journal "))
         return self
 
@@ -51,7 +52,8 @@ class Counts:
         self.seconds += other.seconds
         self.told += other.told
         self.heard += other.heard
-        self.fruitless += other.fruitless
+        self.idle += other.idle
+        self.refused += other.refused
         self.entries += other.entries
 
 
@@ -103,7 +105,7 @@ def main():
         middle = seconds[len(seconds) // 2]
         print(f"{len(seconds)} runs ended as they must; seconds: least {seconds[0]:.2f}, middle {middle:.2f}, most {seconds[-1]:.2f}")
         print(f"{counts.entries} entries replay; of {counts.told} news {counts.told - counts.heard} were not heard;"
-              f" {counts.fruitless} turns brought nothing")
+              f" {counts.idle} claims found no part, and {counts.refused} entries were refused")
     sys.exit(f"{failed} runs failed" if failed else 0)
 
 
