@@ -72,6 +72,14 @@ impl Name {
         &self.octets
     }
 
+    /// What holds of every name. Costs nothing, and is called for its clauses.
+    pub fn is_sound(&self)
+        ensures name { IsName self.now }
+        ensures short { length (encoding self.now) ≤ NAME_LIMIT }
+    {
+        let _ = &self.octets;
+    }
+
     /// The same name, lent.
     pub fn view(&self) -> NameView<'_>
         ensures { result ≡ self.now }
