@@ -67,7 +67,7 @@ learn_all w m s v p =
 
 -- ---- lists
 
-both_filters : {A B : Type 0} (f : A → B) (p : B → Bool) (g : A → Bool) (xs : List A)
+pub both_filters : {A B : Type 0} (f : A → B) (p : B → Bool) (g : A → Bool) (xs : List A)
     → filter p (map f (filter g xs)) ≡ map f (filter (λ x. g x && p (f x)) xs)
 both_filters f p g [] = refl
 both_filters {A} {B} f p g (x ∷ xs) = go (g x) (both_filters f p g xs) where

@@ -19,7 +19,7 @@ use Rattle.repo_plan.specs.Parts.{Pair, pair_cmp}
 use Rattle.repo_plan.proofs.Orders.{exact_pairs}
 use Rattle.sorted_lists.specs.SortedList.{contains, Rises}
 use Rattle.sorted_lists.proofs.Orders.{greater_back}
-use Rattle.sorted_lists.proofs.Sets.{In, before_more, eq_same, eq_itself, rises_filter}
+use Rattle.sorted_lists.proofs.Sets.{In, before_more, eq_same, eq_itself, eq_turned, rises_filter}
 use Rattle.repo_catalog.specs.declared.entry.Entry.{Entry}
 use Rattle.repo_catalog.specs.Entries.{publication_of, is_of, entry_of, lists, with_entry, with_entries, without}
 use Rattle.repo_catalog.specs.Entries.{without_all, IsCatalogue, AreApart}
@@ -103,20 +103,6 @@ one_more_gone gone p q =
       or_false true = refl
       or_false false = refl
 
-eq_back : (p q : Pair) → eq_by_cmp pair_cmp p q ≡ eq_by_cmp pair_cmp q p
-eq_back p q = go (eq_by_cmp pair_cmp p q) refl (eq_by_cmp pair_cmp q p) refl where
-  go : (a : Bool) → eq_by_cmp pair_cmp p q ≡ a → (b : Bool) → eq_by_cmp pair_cmp q p ≡ b → a ≡ b
-  go true s true t = refl
-  go true s false t =
-      sym (eq_itself exact_pairs p)
-      ∙ ap (λ (z : Pair). eq_by_cmp pair_cmp z p) (eq_same exact_pairs p q s)
-      ∙ t
-  go false s true t =
-      sym s
-      ∙ ap (λ (z : Pair). eq_by_cmp pair_cmp z q) (sym (eq_same exact_pairs q p t))
-      ∙ eq_itself exact_pairs q
-  go false s false t = refl
-
 pub without_none : (es : List Entry) → without_all [] es ≡ es
 without_none [] = refl
 without_none (x ∷ xs) = ap (λ (ys : List Entry). x ∷ ys) (without_none xs)
@@ -128,7 +114,8 @@ without_one_more gone p (x ∷ xs) =
     go (contains pair_cmp gone (publication_of x)) (without_one_more gone p xs)
     ∙ sym (ap (λ (c : Bool). cond (not c) (x ∷ rest) rest)
     (one_more_gone gone p (publication_of x)
-    ∙ ap (λ (b : Bool). contains pair_cmp gone (publication_of x) || b) (eq_back (publication_of x) p))) where
+    ∙ ap (λ (b : Bool). contains pair_cmp gone (publication_of x) || b)
+    (eq_turned exact_pairs (publication_of x) p))) where
       rest : List Entry
       rest = without_all (gone ++ p ∷ []) xs
 

@@ -15,6 +15,7 @@ use Rattle.repo_plan.proofs.Orders.{exact_pairs}
 use Rattle.sorted_lists.proofs.Orders.{less_back, equal_back, greater_back, nat_same, nat_itself, then_second}
 use Rattle.sorted_lists.proofs.Orders.{first_less}
 use Rattle.sorted_lists.proofs.Sets.{In, eq_itself}
+use Rattle.sorted_lists.proofs.TwoOrders.{nat_le}
 use Rattle.repo_catalog.specs.declared.entry.Entry.{Entry}
 use Rattle.repo_catalog.specs.Entries.{publication_of, is_of, entry_of, entry_has_name, is_named_from}
 use Rattle.repo_catalog.specs.Entries.{IsCatalogue}
@@ -44,16 +45,13 @@ next_pair Greater m n = refl
 behind : (e : Entry) (q : Pair) → is_le (pair_cmp (after e) q) ≡ is_lt (pair_cmp (publication_of e) q)
 behind e q = next_pair (nat_cmp e.publisher q.0) e.seq q.1
 
-zero_first : (n : ℕ) → is_le (nat_cmp 0 n) ≡ true
-zero_first n = grind (arith, nat_tests)
-
 zero_pair : (o : Ordering) (n : ℕ) → is_le o ≡ true → is_le (ordering_then o (nat_cmp 0 n)) ≡ true
 zero_pair Less n h = refl
-zero_pair Equal n h = zero_first n
+zero_pair Equal n h = nat_le 0 n (omega arith)
 zero_pair Greater n h = h
 
 pub from_start : (q : Pair) → is_le (pair_cmp (0, 0) q) ≡ true
-from_start q = zero_pair (nat_cmp 0 q.0) q.1 (zero_first q.0)
+from_start q = zero_pair (nat_cmp 0 q.0) q.1 (nat_le 0 q.0 (omega arith))
 
 le_less : (a b c : Pair) → is_le (pair_cmp a b) ≡ true → pair_cmp b c ≡ Less → is_le (pair_cmp a c) ≡ true
 le_less a b c h l = go (pair_cmp a b) refl where
@@ -224,7 +222,7 @@ module _ (name : List Component) (from : Pair) where
 
 -- ---- what the index says of a name
 
-listed_in : (es : List Entry) (e : Entry) → IsCatalogue es → In e es → entry_of (publication_of e) es ≡ Some e
+pub listed_in : (es : List Entry) (e : Entry) → IsCatalogue es → In e es → entry_of (publication_of e) es ≡ Some e
 listed_in es e r i =
     find_first (is_of (publication_of e)) es e r i (eq_itself exact_pairs (publication_of e))
     (λ f j l. ap is_eq (less_back exact_pairs.total (publication_of f) (publication_of e) l))

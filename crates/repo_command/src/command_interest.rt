@@ -37,11 +37,14 @@ pub fn make_command(
 {
     let name = command_name(node, verb_of(command))?;
     let parameters = write_parameters(alloc, command)?;
-    match write_signed(alloc, &name, &parameters, key_name, key) {
-        Ok(octets) => Ok(octets),
-        Err(PacketWriteFault::TooLong { .. }) => unreachable!(),
-        Err(PacketWriteFault::NoMemory) => Err(AllocError),
-    }
+    write_signed(alloc, &name, &parameters, key_name, key).map_err(only_memory)
+}
+
+// Want of memory, which is all that a packet within its limit can meet.
+fn only_memory(fault: PacketWriteFault) -> AllocError
+    requires { fault ≡ PacketWriteFault.NoMemory }
+{
+    AllocError
 }
 
 fn verb_of(command: &Command) -> Verb

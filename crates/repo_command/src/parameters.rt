@@ -199,8 +199,7 @@ fn owned_name(alloc: Global, view: &NameView<'_>) -> Result<Name, CommandRefusal
 {
     match Name::from_view(alloc, view) {
         Ok(name) => {
-            // Its clause says that the components are a name's.
-            let _octets = name.octets();
+            name.is_sound();
             Ok(name)
         }
         Err(NameFault::NameTooLong) => unreachable!(),

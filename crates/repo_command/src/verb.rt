@@ -46,11 +46,16 @@ pub(crate) fn command_name(node: &Name, verb: Verb) -> Result<Name, AllocError>
     ensures { IfOk result (λ name. name ≡ command_name node.now verb) }
 {
     let mut name = node.clone()?;
-    match name.push(types::GENERIC_NAME_COMPONENT, verb.text()) {
-        Ok(()) => Ok(name),
-        Err(NameFault::NameTooLong) => unreachable!(),
-        Err(_) => Err(AllocError),
-    }
+    name.push(types::GENERIC_NAME_COMPONENT, verb.text())
+        .map_err(only_memory)?;
+    Ok(name)
+}
+
+// Want of memory, which is all that a name within the limit can meet.
+fn only_memory(fault: NameFault) -> AllocError
+    requires { fault ≡ NameFault.NoMemory }
+{
+    AllocError
 }
 
 // The verb of a command for the node that has this name.

@@ -9,7 +9,7 @@ use Rattle.std.proofs.lemmas.Bool.{or_parts}
 use Rattle.std.proofs.lemmas.List.{take_more}
 use Rattle.sha2.specs.Sha256.{sha256}
 use Rattle.sorted_lists.specs.SortedList.{keys, contains, value_of, with_value}
-use Rattle.sorted_lists.proofs.Sets.{eq_same, eq_itself, value_of-with_value}
+use Rattle.sorted_lists.proofs.Sets.{eq_turned, value_of-with_value}
 use Rattle.repo_plan.specs.declared.part.Part.{Part}
 use Rattle.repo_plan.specs.declared.shape.Shape.{Shape}
 use Rattle.repo_plan.specs.Parts.{Pair, part_cmp, part_of, parts_behind}
@@ -54,15 +54,6 @@ other_at (x ∷ xs) u zero d h low = (or_parts (eq_by_cmp part_cmp u x.part) _ h
 other_at (x ∷ xs) u (suc i) d h low =
     other_at xs u i d (or_parts (eq_by_cmp part_cmp u x.part) _ h).1 (omega (arith, low))
 
-turned : (a b : Part) → eq_by_cmp part_cmp a b ≡ false → eq_by_cmp part_cmp b a ≡ false
-turned a b h = go (eq_by_cmp part_cmp b a) refl where
-  go : (c : Bool) → eq_by_cmp part_cmp b a ≡ c → c ≡ false
-  go true p =
-      sym (eq_itself exact_parts a)
-      ∙ ap (λ (t : Part). eq_by_cmp part_cmp a t) (sym (eq_same exact_parts b a p))
-      ∙ h
-  go false p = refl
-
 -- a packet that came for a part of which none was stored
 pub fetched_at : (xs : List Tried) (packets : List Packet) (i : ℕ) (d : Tried) (octets : List ℕ)
     → PartsDiffer (map (λ (x : Tried). x.part) xs) → i < length xs
@@ -77,7 +68,9 @@ fetched_at (x ∷ xs) packets (suc i) d octets differ low none packet =
     fetched_at xs (with_fetched x.part (came x).packet packets) i d octets differ.1 (omega (arith, low))
     (still (came x).packet) packet where
       other : eq_by_cmp part_cmp (get_or xs i d).part x.part ≡ false
-      other = turned x.part (get_or xs i d).part (other_at xs x.part i d differ.0 (omega (arith, low)))
+      other =
+          eq_turned exact_parts (get_or xs i d).part x.part
+          ∙ other_at xs x.part i d differ.0 (omega (arith, low))
 
       still : (o : Option (List ℕ)) → value_of part_cmp (with_fetched x.part o packets) (get_or xs i d).part ≡ None
       still None = none

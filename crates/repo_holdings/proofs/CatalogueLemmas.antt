@@ -14,7 +14,7 @@ use Rattle.sorted_lists.specs.Range.{numbers_from}
 use Rattle.repo_plan.specs.Parts.{Pair, pair_cmp, part_cmp, parts_behind}
 use Rattle.repo_plan.proofs.Orders.{exact_pairs}
 use Rattle.sorted_lists.proofs.Sets.{eq_same, eq_itself, rises_with_value, value_of-with_value, rises_keys_filter}
-use Rattle.sorted_lists.proofs.Sets.{value_of-filter}
+use Rattle.sorted_lists.proofs.Sets.{value_of-filter, eq_turned}
 use Rattle.repo_object.specs.Publication.{Listed, shape_said}
 use Rattle.repo_object.specs.Verdict.{said_in}
 use Rattle.repo_catalog.specs.declared.entry.Entry.{Entry}
@@ -200,22 +200,6 @@ with_entry-map e (x ∷ es) k none = go (λ p. with_entry-map e es k.1 p) (pair_
       sym (ap (λ (o : Ordering). cond (is_eq o) (Some x.1) (value_of pair_cmp es (publication_of e))) p) ∙ none in
       rw (← there, p) (ap (λ (rest : List Entry). x.1 ∷ rest) (h later))
 
--- what is asked one way round is so the other way round
-pub other_way : (a b : Pair) → eq_by_cmp pair_cmp a b ≡ false → eq_by_cmp pair_cmp b a ≡ false
-other_way a b h = go (eq_by_cmp pair_cmp b a) refl where
-  go : (c : Bool) → eq_by_cmp pair_cmp b a ≡ c → c ≡ false
-  go true p =
-      sym (eq_itself exact_pairs a) ∙ ap (λ (q : Pair). eq_by_cmp pair_cmp a q) (sym (eq_same exact_pairs b a p)) ∙ h
-  go false p = refl
-
-pub either_way : (a b : Pair) → eq_by_cmp pair_cmp a b ≡ eq_by_cmp pair_cmp b a
-either_way a b = go (eq_by_cmp pair_cmp a b) refl where
-  go : (c : Bool) → eq_by_cmp pair_cmp a b ≡ c → c ≡ eq_by_cmp pair_cmp b a
-  go true p =
-      let same : a ≡ b = eq_same exact_pairs a b p in
-      sym (ap (eq_by_cmp pair_cmp b) same ∙ eq_itself exact_pairs b)
-  go false p = sym (other_way a b p)
-
 -- and what is removed goes
 without_keyed : (pair : Pair) (es : List (Pair × Entry)) → Keyed es
     → without pair (map (λ x. x.1) es) ≡ map (λ x. x.1) (filter (λ e. not (eq_by_cmp pair_cmp pair e.0)) es)
@@ -293,7 +277,7 @@ module _ (old new : List Packet) (pair : Pair) (old_order : Rises part_cmp (keys
       (rises_keys_filter exact_pairs (λ q. not (eq_by_cmp pair_cmp pair q)) (entries_in old)
       (entries_rise old old_order))
       (λ q other. value q ∙ ap (λ (b : Bool). cond (not b) (value_of pair_cmp (entries_in old) q) None)
-      (other_way q pair other))
+      (eq_turned exact_pairs pair q ∙ other))
       (value pair
       ∙ ap (λ (b : Bool). cond (not b) (value_of pair_cmp (entries_in old) pair) None) (eq_itself exact_pairs pair)
       ∙ sym none))

@@ -7,7 +7,7 @@ use Rattle.repo_plan.specs.Parts.{Pair}
 use Rattle.repo_holdings.specs.Records.{Packet}
 use Rattle.repo_holdings.specs.Listed.{stored_content, contents_from}
 
-numbers_last : (first n : ℕ) → numbers_from first (suc n) ≡ numbers_from first n ++ (first + n) ∷ []
+pub numbers_last : (first n : ℕ) → numbers_from first (suc n) ≡ numbers_from first n ++ (first + n) ∷ []
 numbers_last first zero = let e : first ≡ first + 0 = omega arith in ap (λ (k : ℕ). k ∷ []) e
 numbers_last first (suc n) =
     let e : (first + 1) + n ≡ first + suc n = omega arith in

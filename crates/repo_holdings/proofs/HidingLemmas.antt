@@ -14,12 +14,13 @@ use Rattle.sorted_lists.specs.SortedList.{keys, Rises, contains, value_of}
 use Rattle.repo_plan.specs.Parts.{Pair, pair_cmp, part_cmp, pair_of, part_of}
 use Rattle.repo_plan.specs.Plan.{PlanState, is_in, hides_too, uses_room}
 use Rattle.repo_plan.proofs.Orders.{exact_pairs, exact_parts}
-use Rattle.sorted_lists.proofs.Sets.{eq_same, eq_itself, keys-filter, rises_keys_filter, value_of-filter}
+use Rattle.sorted_lists.proofs.Sets.{eq_same, eq_itself, eq_turned, keys-filter, rises_keys_filter, value_of-filter}
 use Rattle.repo_object.specs.Publication.{Listed, shape_said}
 use Rattle.repo_object.specs.Verdict.{said_in}
 use Rattle.repo_store.specs.StoreList.{packets_outside, is_in_any, packets_outside_all}
 use Rattle.repo_catalog.specs.declared.entry.Entry.{Entry}
 use Rattle.repo_catalog.specs.Entries.{publication_of, is_of, without, without_all}
+use Rattle.repo_catalog.proofs.ManyLemmas.{without_none}
 use Rattle.repo_holdings.specs.Records.{Packet}
 use Rattle.repo_holdings.specs.Listed.{stored_at, listing_in, said_at, listing_at, shapes_in, withdrawn_by}
 use Rattle.repo_holdings.specs.Listed.{is_withdrawn, is_withdrawal, whole_at, entry_listed, alone_catalogue}
@@ -28,7 +29,7 @@ use Rattle.repo_holdings.specs.Noted.{NotesState, AreNotes}
 use Rattle.repo_holdings.specs.Gaining.{AreTied, AreKept}
 use Rattle.repo_holdings.specs.Hiding.{outside_all, plan_hides, IsHiding}
 use Rattle.repo_holdings.proofs.SortedMaps.{same_map}
-use Rattle.repo_holdings.proofs.CatalogueLemmas.{shapes_value, shapes_rise, other_way, either_way, unlisted, same_whole}
+use Rattle.repo_holdings.proofs.CatalogueLemmas.{shapes_value, shapes_rise, unlisted, same_whole}
 use Rattle.repo_holdings.proofs.CatalogueLemmas.{same_entry, entry_of_none}
 use Rattle.repo_holdings.proofs.WithdrawnLemmas.{withdrawn_less}
 
@@ -94,13 +95,13 @@ module _ (pair : Pair) (packets : List Packet) where
     pub withdrawn_outside : (q : Pair) → is_withdrawn (packets_outside pair packets) q ≡ is_withdrawn packets q
     withdrawn_outside =
         withdrawn_less packets (packets_outside pair packets) pair r (rises_outside r)
-        (λ q other. others_stay q (other_way q pair other) 0) (nothing_inside 0) object
+        (λ q other. others_stay q (eq_turned exact_pairs pair q ∙ other) 0) (nothing_inside 0) object
 
     pub catalogue_outside : without pair (alone_catalogue packets) ≡ alone_catalogue (packets_outside pair packets)
     catalogue_outside =
         sym (unlisted packets (packets_outside pair packets) pair r (rises_outside r)
-        (λ q other. same_entry packets (packets_outside pair packets) q (others_stay q (other_way q pair other))
-        (withdrawn_outside q))
+        (λ q other. same_entry packets (packets_outside pair packets) q
+        (others_stay q (eq_turned exact_pairs pair q ∙ other)) (withdrawn_outside q))
         (entry_of_none (packets_outside pair packets) pair whole_gone))
 
     pub withdrawals_outside : (q : Pair) → is_withdrawal packets q ≡ false
@@ -190,14 +191,10 @@ entries_more pair pairs (e ∷ es) =
       go : (b : Bool) → is_of pair e ≡ b → (c : Bool) → contains pair_cmp pairs (publication_of e) ≡ c
           → without_all (pair ∷ pairs) es ≡ without_all pairs (without pair es)
           → without_all (pair ∷ pairs) (e ∷ es) ≡ without_all pairs (without pair (e ∷ es))
-      go true a c d h = rw (either_way (publication_of e) pair, a) h
-      go false a true d h = rw (either_way (publication_of e) pair, a, d) h
+      go true a c d h = rw (eq_turned exact_pairs (publication_of e) pair, a) h
+      go false a true d h = rw (eq_turned exact_pairs (publication_of e) pair, a, d) h
       go false a false d h =
-          rw (either_way (publication_of e) pair, a, d) (ap (λ (rest : List Entry). e ∷ rest) h)
-
-pub entries_all : (entries : List Entry) → without_all [] entries ≡ entries
-entries_all [] = refl
-entries_all (e ∷ es) = ap (λ (rest : List Entry). e ∷ rest) (entries_all es)
+          rw (eq_turned exact_pairs (publication_of e) pair, a, d) (ap (λ (rest : List Entry). e ∷ rest) h)
 
 -- none of these publications is a withdrawal
 abbrev pub AreObjects : List Packet → List Pair → Type 0
@@ -218,7 +215,7 @@ objects_left pair pairs packets r all =
 catalogue_outside_all : (pairs : List Pair) (packets : List Packet) → Rises part_cmp (keys packets)
     → AreObjects packets pairs
     → without_all pairs (alone_catalogue packets) ≡ alone_catalogue (outside_all pairs packets)
-catalogue_outside_all [] packets r all = entries_all (alone_catalogue packets)
+catalogue_outside_all [] packets r all = without_none (alone_catalogue packets)
 catalogue_outside_all (pair ∷ pairs) packets r all =
     entries_more pair pairs (alone_catalogue packets)
     ∙ ap (without_all pairs) (catalogue_outside pair packets r (objects_first pair pairs packets all))
@@ -240,7 +237,7 @@ left_of_others [] packets q other x = refl
 left_of_others (pair ∷ pairs) packets q other x =
     let both = or_parts (eq_by_cmp pair_cmp q pair) (contains pair_cmp pairs q) other in
     left_of_others pairs (packets_outside pair packets) q both.1 x
-    ∙ others_stay pair packets q (other_way q pair both.0) x
+    ∙ others_stay pair packets q (eq_turned exact_pairs pair q ∙ both.0) x
 
 none_left : (pairs : List Pair) (packets : List Packet) (q : Pair) (x : ℕ) → stored_at packets q x ≡ None
     → stored_at (outside_all pairs packets) q x ≡ None

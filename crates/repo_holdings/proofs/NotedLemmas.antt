@@ -7,7 +7,7 @@ use Rattle.std.specs.Ordering.{eq_by_cmp}
 use Rattle.ndn_name.specs.Names.{Component}
 use Rattle.sorted_lists.specs.SortedList.{contains, insert_key, value_of, with_value}
 use Rattle.sorted_lists.proofs.Sets.{eq_same, eq_itself, value_of-filter, value_of-with_value}
-use Rattle.sorted_lists.proofs.Sets.{contains-insert_key}
+use Rattle.sorted_lists.proofs.Sets.{contains-insert_key, eq_turned}
 use Rattle.repo_plan.specs.Parts.{Pair, pair_cmp}
 use Rattle.repo_plan.proofs.Orders.{exact_pairs}
 use Rattle.repo_plan.specs.declared.shape.Shape.{Shape}
@@ -21,7 +21,7 @@ use Rattle.repo_holdings.specs.Listed.{stored_at, object_said, listing_in, listi
 use Rattle.repo_holdings.specs.Gaining.{told_of}
 use Rattle.repo_holdings.specs.Noted.{NotesState, AreNotes}
 use Rattle.repo_holdings.specs.Changing.{withdraws_too, AreNotedWith}
-use Rattle.repo_holdings.proofs.CatalogueLemmas.{other_way, same_whole}
+use Rattle.repo_holdings.proofs.CatalogueLemmas.{same_whole}
 
 -- a name is taken from the notes, whose publication is stored wholly
 pub noted_taken : (packets : List Packet) (pair : Pair) (old new : NotesState)
@@ -53,7 +53,7 @@ noted_from before after pair old new are others with = record {
       ap (value_of pair_cmp new.names) same
       ∙ with.name l (ap (listing_at after) (sym same) ∙ listed) (ap (whole_at after) (sym same) ∙ none)
   go q l listed none false p =
-      with.others q (other_way q pair p)
+      with.others q (eq_turned exact_pairs pair q ∙ p)
       ∙ are.names q l (ap (option_and_then listing_in) (sym (others q p 0)) ∙ listed)
       (sym (same_whole before after q (others q p)) ∙ none)
 
@@ -132,4 +132,4 @@ pub others_named : (pair : Pair) (name : List Component) (names after : List (Pa
 others_named pair name names after is q other =
     ap (λ (ns : List (Pair × List Component)). value_of pair_cmp ns q) is
     ∙ value_of-with_value exact_pairs pair name names q
-    ∙ ap (λ (b : Bool). cond b (Some name) (value_of pair_cmp names q)) (other_way pair q other)
+    ∙ ap (λ (b : Bool). cond b (Some name) (value_of pair_cmp names q)) (eq_turned exact_pairs q pair ∙ other)

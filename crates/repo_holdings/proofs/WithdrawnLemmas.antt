@@ -10,7 +10,7 @@ use Rattle.std.specs.declared.cmp.Ordering.{Ordering}
 use Rattle.std.specs.declared.cmp.Ordering.TheVariants.{Less, Equal, Greater}
 use Rattle.sorted_lists.specs.SortedList.{by_order, keys, Rises, value_of, with_value}
 use Rattle.sorted_lists.proofs.Sets.{eq_same, eq_itself, rises_with_value, value_of-with_value, rises_keys_filter}
-use Rattle.sorted_lists.proofs.Sets.{value_of-filter}
+use Rattle.sorted_lists.proofs.Sets.{value_of-filter, eq_turned, or_swap}
 use Rattle.repo_plan.specs.Parts.{Pair, pair_cmp, part_cmp}
 use Rattle.repo_plan.proofs.Orders.{exact_pairs}
 use Rattle.repo_object.specs.Publication.{RecordSays}
@@ -23,17 +23,9 @@ use Rattle.repo_holdings.specs.Gaining.{told_of}
 use Rattle.repo_holdings.specs.Changing.{withdraws_too}
 use Rattle.repo_holdings.proofs.SortedMaps.{absent, same_map}
 use Rattle.repo_holdings.proofs.RecordLemmas.{rises_records, value_of-records}
-use Rattle.repo_holdings.proofs.CatalogueLemmas.{other_way}
 
 abbrev Record : Type 0
 Record = Pair × List ℕ
-
-either_first : (a b c : Bool) → (a || (b || c)) ≡ (b || (a || c))
-either_first true true c = refl
-either_first true false c = refl
-either_first false b c = refl
-
--- ---- one entry of a map more, or less
 
 any_with : (p : Record → Bool) (k : Pair) (v : List ℕ) (es : List Record) → value_of pair_cmp es k ≡ None
     → list_any p (with_value pair_cmp k v es) ≡ (p (k, v) || list_any p es)
@@ -52,7 +44,7 @@ any_with p k v (x ∷ es) none = go (λ h. any_with p k v es h) (pair_cmp k x.0)
   go h Greater e =
       let later : value_of pair_cmp es k ≡ None =
       sym (ap (λ (o : Ordering). cond (is_eq o) (Some x.1) (value_of pair_cmp es k)) e) ∙ none in
-      ap (λ (b : Bool). p x || b) (h later) ∙ either_first (p x) (p (k, v)) (list_any p es)
+      ap (λ (b : Bool). p x || b) (h later) ∙ or_swap (p x) (p (k, v)) (list_any p es)
 
 any_without : (p : Record → Bool) (k : Pair) (es : List Record) → Rises pair_cmp (keys es)
     → ((v : List ℕ) → value_of pair_cmp es k ≡ Some v → p (k, v) ≡ false)
@@ -128,7 +120,7 @@ module _ (old new : List Packet) (pair : Pair) (old_order : Rises part_cmp (keys
       (rises_keys_filter exact_pairs (λ k. not (eq_by_cmp pair_cmp pair k)) (records_in old)
       (rises_records old old_order))
       (λ k other. value k ∙ ap (λ (b : Bool). cond (not b) (value_of pair_cmp (records_in old) k) None)
-      (other_way k pair other))
+      (eq_turned exact_pairs pair k ∙ other))
       (value pair
       ∙ ap (λ (b : Bool). cond (not b) (value_of pair_cmp (records_in old) pair) None) (eq_itself exact_pairs pair)
       ∙ sym none))

@@ -6,6 +6,7 @@ use Rattle.std.specs.Ordering.{nat_cmp, eq_by_cmp}
 use Rattle.std.proofs.lemmas.Bool.{true≢false}
 use Rattle.sorted_lists.specs.SortedList.{Rises, keys, value_of, with_value}
 use Rattle.sorted_lists.proofs.Sets.{value_of-with_value, rises_with_value, eq_same, eq_itself}
+use Rattle.sorted_lists.proofs.Orders.{exact_numbers}
 use Rattle.repo_object.specs.Objects.{NamedContents}
 use Rattle.repo_process.specs.declared.block_state.BlockState.TheVariants.{Kept, Complete}
 use Rattle.repo_process.specs.Processes.{Process, BlockState, has_block, with_block, without_block, is_whole, object_of}
@@ -17,7 +18,7 @@ use Rattle.repo_process.specs.Insertions.{Insertions, with_process, with_changed
 use Rattle.repo_process.proofs.LawLemmas.{block_stays, block_gone, block_comes}
 use Rattle.repo_member.specs.Members.{AreWaiting}
 use Rattle.repo_holdings.proofs.SortedMaps.{same_map}
-use Rattle.repo_member.proofs.InsertionParts.{exact_numbers, Comes, comes_waiting, comes_whole}
+use Rattle.repo_member.proofs.InsertionParts.{Comes, comes_waiting, comes_whole}
 use Rattle.repo_member.proofs.WaitingLemmas.{waiting_with}
 
 -- ---- a process under a number

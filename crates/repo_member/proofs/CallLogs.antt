@@ -17,6 +17,7 @@ use Rattle.repo_command.specs.declared.command.Command.TheVariants.{Insert, Chec
 use Rattle.repo_process.specs.Processes.{Process, BlockState, object_of, closed}
 use Rattle.repo_process.specs.Processes.BlockState.{Unknown, Already, Waiting, Whole}
 use Rattle.repo_process.specs.Insertions.{next_number}
+use Rattle.ndn_packet.proofs.Ends.{slice_get-push}
 use Rattle.repo_member.specs.declared.refusals.HearRefusal.{HearRefusal}
 use Rattle.repo_member.specs.declared.refusals.AcceptRefusal.{AcceptRefusal}
 use Rattle.repo_member.specs.Groups.{GroupKeys, publisher_at}
@@ -157,10 +158,6 @@ at_front [] ys i x h = absurd cc
 at_front (y ∷ xs) ys zero x h = h
 at_front (y ∷ xs) ys (suc i) x h = at_front xs ys i x h
 
-pub at_end : {A : Type 0} (xs : List A) (x : A) → slice_get (xs ++ x ∷ []) (length xs) ≡ Some x
-at_end [] x = refl
-at_end (y ∷ xs) x = at_end xs x
-
 -- what is published stands behind what was
 stays_behind : (g : GroupKeys) (post : Post) (moment draw : ℕ) (calls : List MemberCall) (a : Alone)
     → length a.log < 65535
@@ -171,7 +168,7 @@ stays_behind g post moment draw calls a room =
     ap (λ (b : Bool). slice_get (after_calls g calls (cond b next a)).log (length a.log))
     (lt-ltb (length a.log) 65535 room)
     ∙ ap (λ (log : List Post). slice_get log (length a.log)) grown.log
-    ∙ at_front (a.log ++ post ∷ []) grown.more (length a.log) post (at_end a.log post)
+    ∙ at_front (a.log ++ post ∷ []) grown.more (length a.log) post (slice_get-push a.log post)
 
 pub publications_stay : PublicationsStay
 publications_stay g object moment draw calls a room = stays_behind g (Offers object) moment draw calls a room

@@ -9,7 +9,7 @@ use Rattle.sorted_lists.specs.SortedList.{keys, contains, value_of, with_value}
 use Rattle.repo_plan.specs.Parts.{Pair, pair_cmp, part_cmp, pair_of}
 use Rattle.repo_plan.specs.Plan.{hides, holds, is_asked, claim_of}
 use Rattle.repo_plan.proofs.Orders.{exact_pairs, exact_parts}
-use Rattle.sorted_lists.proofs.Sets.{eq_same, contains-insert_key}
+use Rattle.sorted_lists.proofs.Sets.{eq_same, eq_turned, contains-insert_key}
 use Rattle.repo_object.specs.Objects.{Post}
 use Rattle.repo_object.specs.Objects.Post.{Offers, Withdraws}
 use Rattle.group_model.specs.Publications.{has_unwithdrawn}
@@ -41,7 +41,6 @@ use Rattle.repo_member.specs.Calls.{Command, Block, EndClaims, Reset, Restart, i
 use Rattle.repo_member.specs.Calls.{if_accepted, after_call, after_calls, HeldPacketsStay, HiddenForGood, HiddenIsGone}
 use Rattle.repo_member.specs.Calls.{OwnStored}
 use Rattle.repo_holdings.proofs.GainingLemmas.{put_elsewhere}
-use Rattle.repo_holdings.proofs.CatalogueLemmas.{other_way}
 use Rattle.repo_holdings.proofs.HidingLemmas.{value_outside}
 use Rattle.repo_member.proofs.HeldParts.{IsReached, StaysStored, missing_value}
 use Rattle.repo_member.proofs.HiddenParts.{hidden_one}
@@ -134,7 +133,7 @@ keeps_hidden_one pair a = record {
       or_parts (eq_by_cmp pair_cmp (pair_of t) pair) (contains pair_cmp a.hidden (pair_of t))
       (sym (contains-insert_key exact_pairs pair a.hidden (pair_of t)) ∙ shown) in
       value_outside pair a.store t
-      ∙ ap (λ (b : Bool). cond (not b) (value_of part_cmp a.store t) None) (other_way (pair_of t) pair apart.0)
+      ∙ ap (λ (b : Bool). cond (not b) (value_of part_cmp a.store t) None) (eq_turned exact_pairs pair (pair_of t) ∙ apart.0)
       ∙ h;
 }
 

@@ -78,7 +78,7 @@ pub record KnowsOwn (a : Alone) : Type 0 where
   pub member : a.number < length a.known
   pub own : slice_index a.known a.number ≡ length a.log
 
-long_join : (v w : List ℕ) → length v ≤ length (join v w)
+pub long_join : (v w : List ℕ) → length v ≤ length (join v w)
 unfolding join
 long_join [] w = omega arith
 long_join (n ∷ v) [] = omega arith

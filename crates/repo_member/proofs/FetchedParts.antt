@@ -1,10 +1,10 @@
 -- What a fetch's outcome makes of a member that calls reach.
-use Rattle.std.proofs.Common.{◌≡◌, ℕ, Bool, true, false, not, List, [], ◌∷◌, map, Option, Some, None, option_map}
+use Rattle.std.proofs.Common.{◌≡◌, ℕ, true, false, not, List, [], ◌∷◌, map, Option, Some, None, option_map}
 use Rattle.std.proofs.Common.{is_some, refl, sym, ap, ◌∙◌, subst}
 use Rattle.std.specs.Prelude.{IsOk, IfSome}
 use Rattle.std.specs.List.{All}
 use Rattle.std.specs.Ordering.{eq_by_cmp}
-use Rattle.std.proofs.lemmas.Bool.{true≢false, and_parts, and_from, or_parts, not-true}
+use Rattle.std.proofs.lemmas.Bool.{and_parts, and_from, or_parts, not-true}
 use Rattle.std.proofs.lemmas.List.Elements.{All-head, All-tail}
 use Rattle.repo_plan.specs.declared.part.Part.{Part}
 use Rattle.sorted_lists.specs.SortedList.{contains, value_of}
@@ -13,7 +13,7 @@ use Rattle.repo_plan.specs.Parts.{Pair, part_cmp}
 use Rattle.repo_plan.specs.Plan.{holds, shape_of, is_wanted, is_claimed, is_unclaimed}
 use Rattle.repo_plan.specs.Sound.{CanBeHeld}
 use Rattle.repo_plan.proofs.Orders.{exact_parts}
-use Rattle.sorted_lists.proofs.Sets.{eq_same, eq_itself}
+use Rattle.sorted_lists.proofs.Sets.{eq_turned}
 use Rattle.repo_plan.proofs.Changes.{Keeps, IsWanted, wanted_parts, wanted_from, asked_kept}
 use Rattle.repo_object.specs.declared.job.Job.{Job}
 use Rattle.repo_object.specs.Publication.{RecordSays}
@@ -31,6 +31,7 @@ use Rattle.repo_holdings.proofs.GainingLemmas.{contains-value, put_elsewhere, sh
 use Rattle.repo_member.proofs.PlanChanges.{gains, sound_tried}
 use Rattle.repo_member.proofs.HeldParts.{IsReached, PassesNow, StaysStored, read_still, want_stays, stays_stored}
 use Rattle.repo_member.proofs.HeldParts.{missing_value, not_there, reached_with, reached_gains}
+use Rattle.repo_member.proofs.TruePackets.{is_there}
 
 -- ---- jobs whose outcome can be taken
 
@@ -93,18 +94,6 @@ free_can : (a : Alone) (t : Part) → IsFree a t → CanBeHeld (alone_plan a) t
 free_can a t free =
     record { asked = free.wanted.asked; not_hidden = free.wanted.not_hidden; not_claimed = free.not_claimed }
 
-swapped : (t u : Part) → eq_by_cmp part_cmp t u ≡ false → eq_by_cmp part_cmp u t ≡ false
-swapped t u h = go (eq_by_cmp part_cmp u t) refl where
-  go : (b : Bool) → eq_by_cmp part_cmp u t ≡ b → b ≡ false
-  go true p =
-      absurd
-      (true≢false (sym (eq_itself exact_parts t) ∙ ap (eq_by_cmp part_cmp t) (sym (eq_same exact_parts u t p)) ∙ h))
-  go false p = refl
-
-there_value : (o : Option (List ℕ)) → is_some o ≡ true → (octets : List ℕ) × (o ≡ Some octets)
-there_value None h = absurd (true≢false (sym h))
-there_value (Some octets) h = (octets, refl)
-
 no_shape : (n : Shape) → (let o : Option Shape = None in o) ≡ Some n → ⊥
 no_shape n h = cc
 
@@ -123,7 +112,7 @@ module _ (g : GroupKeys) (a : Alone) (t : Part) (octets : List ℕ) (r : IsReach
   keeps = record {
     knows = λ pair h. h;
     held = λ u h.
-        let there = there_value (value_of part_cmp a.store u) (sym (contains-value a.store u) ∙ h) in
+        let there = is_there (value_of part_cmp a.store u) (sym (contains-value a.store u) ∙ h) in
         contains-value (with_packet t octets a.store) u ∙ ap is_some (stays.still u there.0 there.1);
     shapes =
         λ pair shape h. go pair shape (said_at a.store pair) refl
@@ -144,7 +133,8 @@ module _ (g : GroupKeys) (a : Alone) (t : Part) (octets : List ℕ) (r : IsReach
       let u = job.want.part in
       let its = free_from a u is.0 in
       let missing =
-      put_elsewhere a.store t octets fresh u (swapped t u other) ∙ missing_value a.store u its.wanted.not_held in
+      put_elsewhere a.store t octets fresh u (eq_turned exact_parts u t ∙ other)
+      ∙ missing_value a.store u its.wanted.not_held in
       let wanted = wanted_from (alone_plan (gains t octets a)) u (record {
         asked = asked_kept (alone_plan a) (alone_plan (gains t octets a)) u keeps its.wanted.asked;
         not_held = not_there (with_packet t octets a.store) u missing;

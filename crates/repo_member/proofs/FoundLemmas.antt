@@ -5,6 +5,7 @@ use Rattle.std.proofs.Common.{is_some, arith}
 use Rattle.std.specs.Prelude.{filter, slice_index_or, get_or, nat_le, ◌&&◌}
 use Rattle.std.proofs.lemmas.Bool.{true≢false, and_parts, or_cases, cases_eq, eqb-true, leb-true}
 use Rattle.std.proofs.lemmas.List.{length-map}
+use Rattle.std.proofs.lemmas.Option.{none-some}
 use Rattle.std.specs.List.{list_any}
 use Rattle.std.specs.Option.{option_and_then}
 use Rattle.std.specs.Ordering.{eq_by_cmp, is_eq}
@@ -22,6 +23,7 @@ use Rattle.repo_plan.specs.Plan.{PlanState, holds, knows, is_in, is_asked, can_b
 use Rattle.repo_plan.specs.Plan.{claims_part_in, opening}
 use Rattle.repo_plan.specs.Sound.{PlanIsSound}
 use Rattle.repo_plan.proofs.Orders.{exact_pairs, exact_parts}
+use Rattle.sorted_lists.proofs.Ranges.{length-numbers}
 use Rattle.sorted_lists.proofs.Sets.{In, eq_same, eq_itself, keys-filter, rises_filter, in_filter, contains_in}
 use Rattle.sorted_lists.proofs.Sets.{in_contains, in_map, from_map, each_before}
 use Rattle.repo_plan.proofs.Known.{in_numbers, rises_numbers, from_parts_of, in_parts_of}
@@ -30,7 +32,6 @@ use Rattle.repo_object.specs.Publication.{Listed, RecordSays}
 use Rattle.repo_object.specs.Publication.RecordSays.{Lists}
 use Rattle.repo_store.specs.StoreList.{packets_in, packets_outside}
 use Rattle.repo_store.proofs.StoreLemmas.{lengths_inside}
-use Rattle.repo_process.proofs.ProcessLemmas.{length-numbers}
 use Rattle.repo_catalog.specs.declared.entry.Entry.{Entry}
 use Rattle.repo_catalog.specs.Entries.{publication_of, entry_has_name, all_named, IsCatalogue}
 use Rattle.group_model.proofs.Lists.{from_filter, each_all, in_at}
@@ -60,14 +61,11 @@ pub record IsWhole (packets : List Packet) (pair : Pair) (n : ℕ) : Type 0 wher
   pub few : n ≤ 20000
   pub each : (x : ℕ) → x ≤ parts_counted n → is_some (stored_at packets pair x) ≡ true
 
-none_some : {A : Type 0} (x : A) → (let n : Option A = None in n) ≡ Some x → ⊥
-none_some x h = cc
-
 whole_of_entry : (packets : List Packet) (pair : Pair) (e : Entry) → entry_at packets pair ≡ Some e
     → IsWhole packets pair e.segments
 whole_of_entry packets pair e h = shown (is_withdrawn packets pair) h where
   record_there : (l : Listed) (o : Option (List ℕ)) → option_and_then listing_in o ≡ Some l → is_some o ≡ true
-  record_there l None p = absurd (none_some l p)
+  record_there l None p = absurd (none-some l p)
   record_there l (Some octets) p = refl
 
   entry_segments : Option Entry → ℕ
@@ -78,7 +76,7 @@ whole_of_entry packets pair e h = shown (is_withdrawn packets pair) h where
       → are_stored packets pair (parts_counted l.segments) ≡ b
       → cond b (Some (entry_of_listing packets pair l)) None ≡ Some e
       → IsWhole packets pair e.segments
-  of_listing l p false q h = absurd (none_some e h)
+  of_listing l p false q h = absurd (none-some e h)
   of_listing l p true q h =
       let long : l.segments ≡ e.segments = ap entry_segments h in
       record {
@@ -100,11 +98,11 @@ whole_of_entry packets pair e h = shown (is_withdrawn packets pair) h where
 
   go : (o : Option Listed) → listing_at packets pair ≡ o → option_and_then (entry_listed packets pair) o ≡ Some e
       → IsWhole packets pair e.segments
-  go None p q = absurd (none_some e q)
+  go None p q = absurd (none-some e q)
   go (Some l) p q = of_listing l p (are_stored packets pair (parts_counted l.segments)) refl q
 
   shown : (b : Bool) → cond b None (whole_at packets pair) ≡ Some e → IsWhole packets pair e.segments
-  shown true q = absurd (none_some e q)
+  shown true q = absurd (none-some e q)
   shown false q = go (listing_at packets pair) refl q
 
 -- what stands in a map in order is found

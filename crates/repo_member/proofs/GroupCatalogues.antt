@@ -8,6 +8,8 @@ use Rattle.std.specs.Ordering.{eq_by_cmp}
 use Rattle.std.specs.declared.cmp.Ordering.{Ordering}
 use Rattle.std.proofs.lemmas.Bool.{true≢false, and_parts, and_from, or_cases, or_left, or_right, not-true, eq-eqb}
 use Rattle.std.proofs.lemmas.Bool.{eqb-true}
+use Rattle.std.specs.Cmp.{both_ways}
+use Rattle.std.proofs.lemmas.Option.{same_Some}
 use Rattle.sha2.specs.Sha256.{sha256}
 use Rattle.repo_plan.specs.declared.part.Part.{Part}
 use Rattle.sorted_lists.specs.SortedList.{keys, Rises, value_of}
@@ -46,7 +48,8 @@ use Rattle.repo_holdings.proofs.RecordLemmas.{rises_records, value_of-records}
 use Rattle.repo_holdings.proofs.CatalogueLemmas.{entries_value, entries_rise}
 use Rattle.repo_holdings.proofs.GainingLemmas.{contains-value}
 use Rattle.repo_member.proofs.FoundLemmas.{value_in}
-use Rattle.repo_member.proofs.TruePackets.{record_says, segment_content, published_post, published_by, published_low}
+use Rattle.repo_member.proofs.TruePackets.{is_there, record_says, segment_content, published_post, published_by}
+use Rattle.repo_member.proofs.TruePackets.{published_low}
 
 -- ---- maps in order that have the same entries
 
@@ -101,10 +104,6 @@ joined f first (content ∷ contents) each =
     ap (λ (octets : List ℕ). octets ++ flat_map f (numbers_from (first + 1) (length contents))) here
     ∙ ap (λ (rest : List ℕ). content ++ rest) later
 
-is_there : (o : Option (List ℕ)) → is_some o ≡ true → (octets : List ℕ) × (o ≡ Some octets)
-is_there None h = absurd (true≢false (sym h))
-is_there (Some octets) h = (octets, refl)
-
 -- ---- tests of lists
 
 any_in : {A : Type 0} (p : A → Bool) (xs : List A) → list_any p xs ≡ true → (x : A) × In x xs × (p x ≡ true)
@@ -118,11 +117,6 @@ in_any : {A : Type 0} (p : A → Bool) (xs : List A) (x : A) → In x xs → p x
 in_any p [] x i h = absurd i
 in_any p (y ∷ xs) x (inl same) h = or_left (p y) (list_any p xs) (ap p (sym same) ∙ h)
 in_any p (y ∷ xs) x (inr i) h = or_right (p y) (list_any p xs) (in_any p xs x i h)
-
-same_test : (b c : Bool) → (b ≡ true → c ≡ true) → (c ≡ true → b ≡ true) → b ≡ c
-same_test true c there back = sym (there refl)
-same_test false true there back = back refl
-same_test false false there back = refl
 
 none_entry : (e : Entry) → (let o : Option Entry = None in o) ≡ Some e → ⊥
 none_entry e h = cc
@@ -202,7 +196,7 @@ module _ (g : GroupKeys) (logs : Logs) (a : Alone) (are : AreLogs g logs) (truly
 
   withdrawn_alike : (pair : Pair) → is_withdrawn a.store pair ≡ knows_withdrawn (published logs) m pair
   withdrawn_alike pair =
-      same_test (is_withdrawn a.store pair) (knows_withdrawn (published logs) m pair) (withdrawn_there pair)
+      both_ways (is_withdrawn a.store pair) (knows_withdrawn (published logs) m pair) (withdrawn_there pair)
       (withdrawn_back pair)
 
   -- ---- objects
@@ -361,16 +355,13 @@ module _ (g : GroupKeys) (logs : Logs) (a : Alone) (are : AreLogs g logs) (truly
     go None p = absurd (none_entry e (sym (no_record pair p) ∙ h))
     go (Some octets) p = of_post octets p (post_at logs pair) refl
 
-  same_some : (x y : Entry) → (let o : Option Entry = Some x in o) ≡ Some y → x ≡ y
-  same_some x y h = cc
-
   there_too : (pair : Pair) (e : Entry) → value_of pair_cmp (entries_in a.store) pair ≡ Some e
       → In (pair, e) (map keyed (catalogued logs m))
   there_too pair e h =
       let entry : entry_at a.store pair ≡ Some e = sym (entries_value a.store pair truly.in_order) ∙ h in
       let all = entry_there pair e entry in
       let same : published_entry (at_pair logs pair) ≡ e =
-      same_some (published_entry (at_pair logs pair)) e (sym all.2 ∙ entry) in
+      same_Some (published_entry (at_pair logs pair)) e (sym all.2 ∙ entry) in
       subst (λ (x : Entry). In (pair, x) (map keyed (catalogued logs m))) same
       (in_map keyed (catalogued logs m) (at_pair logs pair)
       (in_filter (is_listed (published logs) m) (published logs) (at_pair logs pair)

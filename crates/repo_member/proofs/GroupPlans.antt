@@ -20,12 +20,13 @@ use Rattle.repo_holdings.specs.KeptValues.{with_kept, kept_values}
 use Rattle.repo_holdings.specs.Records.{Packet, records_in}
 use Rattle.repo_holdings.specs.Listed.{shapes_in}
 use Rattle.repo_object.specs.Publication.{shape_said}
+use Rattle.repo_object.proofs.Publications.{shape_again}
 use Rattle.repo_member.specs.Groups.{GroupKeys, publisher_at}
 use Rattle.repo_member.specs.Alone.{Alone, alone_plan}
 use Rattle.repo_member.specs.InGroup.{AreLogs, StoresTruly, true_packet, in_group, SoundStoresTruly, PlansAlike}
 use Rattle.repo_member.specs.InGroup.{WantsAlike}
 use Rattle.repo_member.proofs.FoundLemmas.{value_in}
-use Rattle.repo_member.proofs.TruePackets.{record_says, shape_published, published_post, published_by, published_low}
+use Rattle.repo_member.proofs.TruePackets.{record_says, published_post, published_by, published_low}
 
 pub sound_stores_truly : SoundStoresTruly
 sound_stores_truly g logs a s packets = record {
@@ -71,7 +72,7 @@ module _ (g : GroupKeys) (logs : Logs) (a : Alone) (are : AreLogs g logs) (truly
       ap (option_map shape_said)
       (record_says publisher e.0.seq post (published_by g logs are (pair_of e.0) there)
       (published_post g logs are (pair_of e.0) there) (published_low g logs are (pair_of e.0) there) e.1 made_first)
-      ∙ ap (λ (shape : Shape). Some shape) (shape_published publisher e.0.seq post))
+      ∙ ap (λ (shape : Shape). Some shape) (shape_again publisher e.0.seq post))
 
 pub plans_alike : PlansAlike
 plans_alike g logs a are truly =

@@ -9,7 +9,7 @@ use Rattle.std.specs.Option.{option_and_then}
 use Rattle.std.specs.Ordering.{eq_by_cmp}
 use Rattle.std.proofs.lemmas.Bool.{true≢false, and_parts, or_cases, leb-true, eqb-true}
 use Rattle.std.proofs.lemmas.List.{length-replicate, get_or-replicate}
-use Rattle.std.proofs.lemmas.Option.{slice_get-get_or}
+use Rattle.std.proofs.lemmas.Option.{none-some, slice_get-get_or}
 use Rattle.svs_vector.specs.Vectors.{join}
 use Rattle.svs_vector.proofs.JoinLemmas.{length-join, join-at}
 use Rattle.svs_sync.specs.KeptVector.{Keeper}
@@ -31,7 +31,7 @@ use Rattle.repo_object.specs.Wants.{WantedPart, want_record, want_index, want_se
 use Rattle.repo_object.specs.Verdict.{Passes, may_say, said_in, index_in, content_in, content_within, ring_verdict}
 use Rattle.repo_object.specs.Verdict.{publisher_key}
 use Rattle.repo_object.proofs.Passing.{passes}
-use Rattle.repo_object.proofs.Publications.{packets-length, record_said}
+use Rattle.repo_object.proofs.Publications.{packets-length, record_said, shape_again}
 use Rattle.group_model.specs.Publications.{no_post}
 use Rattle.repo_process.specs.Insertions.{Insertions}
 use Rattle.repo_store.specs.StoreList.{with_packet}
@@ -52,7 +52,6 @@ use Rattle.repo_holdings.proofs.AskedLemmas.{asked_segment}
 use Rattle.repo_member.proofs.MemberLemmas.{knows_more, want_part, want_lists}
 use Rattle.repo_member.proofs.OwnLemmas.{is_publisher, logged_own}
 use Rattle.repo_member.proofs.ChangeLemmas.{rises_put}
-use Rattle.repo_member.proofs.TruePackets.{shape_published}
 use Rattle.repo_member.proofs.PlanChanges.{sound_known, gains, tied_gained, sound_gained}
 
 -- a packet that passes for the want of its part, as what is stored gives it
@@ -209,9 +208,6 @@ reached_learns g a told wide not_ahead r =
 
 -- ---- own parts
 
-none_some : {A : Type 0} (x : A) → (let n : Option A = None in n) ≡ Some x → ⊥
-none_some x h = cc
-
 -- an own part that is asked for and not hidden was published
 module _ (g : GroupKeys) (a : Alone) (t : Part) (r : IsReached g a) (own : t.publisher ≡ a.number)
     (asked : is_asked (alone_plan a) t ≡ true) (shown : hides (alone_plan a) (pair_of t) ≡ false) where
@@ -253,7 +249,7 @@ module _ (g : GroupKeys) (a : Alone) (t : Part) (r : IsReached g a) (own : t.pub
   shaped =
       shape_stored (alone_plan a) a.store (pair_of t) r.tied
       ∙ ap (option_map shape_said) said
-      ∙ ap (λ (shape : Shape). Some shape) (shape_published by t.seq post)
+      ∙ ap (λ (shape : Shape). Some shape) (shape_again by t.seq post)
 
   within : t.part < length (packets by t.seq post)
   within =
@@ -277,7 +273,7 @@ module _ (g : GroupKeys) (a : Alone) (t : Part) (r : IsReached g a) (own : t.pub
   pub own_stored : (value_of part_cmp a.store t ≡ None) → ⊥
   own_stored missing =
       let octets = slice_index_or (packets by t.seq post) t.part [] in
-      none_some octets
+      none-some octets
       (sym missing ∙ r.own t own shown ∙ logged_own g a t post own (omega (arith, known.0)) there
       ∙ slice_get-get_or (packets by t.seq post) t.part [] within)
 
@@ -306,7 +302,7 @@ pub read_still : {A : Type 0} (read : List ℕ → Option A) (old new : List Pac
 read_still {A} read old new pair x v stays h = go (stored_at old pair x) refl h where
   go : (o : Option (List ℕ)) → stored_at old pair x ≡ o → option_and_then read o ≡ Some v
       → option_and_then read (stored_at new pair x) ≡ Some v
-  go None p q = absurd (none_some v q)
+  go None p q = absurd (none-some v q)
   go (Some octets) p q = ap (option_and_then read) (stays.still (part_of pair x) octets p) ∙ q
 
 -- an index packet that is stored stays
@@ -422,7 +418,7 @@ module _ (g : GroupKeys) (a : Alone) (t : Part) (octets : List ℕ) (r : IsReach
     go : (q : Part) (found : List ℕ) (b : Bool) → eq_by_cmp part_cmp q t ≡ b → value_of part_cmp a.store q ≡ Some found
         → value_of part_cmp (with_packet t octets a.store) q ≡ Some found
     go q found true p h =
-        absurd (none_some found
+        absurd (none-some found
         (sym (ap (value_of part_cmp a.store) (eq_same exact_parts q t p) ∙ missing_value a.store t fresh) ∙ h))
     go q found false p h = put_elsewhere a.store t octets fresh q p ∙ h
 

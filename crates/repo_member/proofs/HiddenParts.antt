@@ -11,7 +11,7 @@ use Rattle.repo_plan.specs.Parts.{Pair, pair_cmp, part_cmp, pair_of}
 use Rattle.repo_plan.specs.Plan.{PlanState, knows, hides, is_in, claims_part_in, hides_too}
 use Rattle.repo_plan.specs.Sound.{PlanIsSound}
 use Rattle.repo_plan.proofs.Orders.{exact_pairs}
-use Rattle.sorted_lists.proofs.Sets.{In, eq_same, contains-insert_key, from_map}
+use Rattle.sorted_lists.proofs.Sets.{In, eq_same, eq_turned, contains-insert_key, from_map}
 use Rattle.repo_plan.proofs.Changes.{same_holdings, sound_hides}
 use Rattle.repo_object.specs.Wants.{WantedPart}
 use Rattle.repo_object.specs.Verdict.{ring_verdict}
@@ -24,7 +24,6 @@ use Rattle.repo_holdings.specs.Listed.{alone_catalogue}
 use Rattle.repo_member.specs.Groups.{GroupKeys}
 use Rattle.repo_member.specs.Alone.{Alone, alone_plan, want_of}
 use Rattle.repo_member.specs.Deleting.{catalogued_named, alone_hides, alone_deletes}
-use Rattle.repo_holdings.proofs.CatalogueLemmas.{other_way}
 use Rattle.repo_holdings.proofs.HidingLemmas.{value_outside, rises_outside, keys_outside, shapes_outside}
 use Rattle.repo_holdings.proofs.HidingLemmas.{others_stay, tied_hides}
 use Rattle.repo_member.proofs.FoundLemmas.{IsReadFrom, entry_listed_whole, whole_known, whole_unclaimed}
@@ -113,7 +112,7 @@ reached_hides g pair a can r = record {
   posts = r.posts;
   own = λ t own shown.
       let before = shown_before pair a (pair_of t) shown in
-      value_other pair a.store t (other_way (pair_of t) pair before.0) ∙ r.own t own before.1;
+      value_other pair a.store t (eq_turned exact_pairs pair (pair_of t) ∙ before.0) ∙ r.own t own before.1;
   others = λ t octets away h. others t octets away (is_in pair t) refl (sym (value_outside pair a.store t) ∙ h);
   insertions = r.insertions;
 } where

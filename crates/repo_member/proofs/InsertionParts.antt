@@ -5,51 +5,32 @@ use Rattle.std.specs.Prelude.{nat_le, nat_lt, unwrap_or, IfOk}
 use Rattle.std.specs.List.{All}
 use Rattle.std.specs.Ordering.{nat_cmp, eq_by_cmp}
 use Rattle.std.proofs.lemmas.Bool.{true≢false, and_parts, leb-true, ltb-true}
-use Rattle.std.proofs.lemmas.Cmp.{nat_cmp_total}
 use Rattle.std.proofs.lemmas.List.{length-map}
 use Rattle.std.proofs.lemmas.List.Elements.{All-cons, All-nil}
 use Rattle.ndn_name.specs.Names.{Component, IsName}
 use Rattle.sorted_lists.specs.SortedList.{value_of, with_value}
-use Rattle.sorted_lists.proofs.Orders.{Exact, nat_same, nat_itself}
+use Rattle.sorted_lists.proofs.Orders.{exact_numbers}
+use Rattle.sorted_lists.proofs.Ranges.{length-numbers}
 use Rattle.sorted_lists.proofs.Sets.{In, value_of-with_value}
 use Rattle.repo_object.specs.Objects.{is_object_name, IsContent, IsObject}
 use Rattle.repo_command.specs.declared.command.Command.{Command}
 use Rattle.repo_command.specs.declared.command.Command.TheVariants.{Insert, Check, Delete}
-use Rattle.repo_command.specs.declared.command_refusal.CommandRefusal.{CommandRefusal}
 use Rattle.repo_command.specs.Commands.{is_command, CommandIsSpelled}
-use Rattle.repo_command.specs.Verdict.{command_verdict}
-use Rattle.repo_command.proofs.TakenLemmas.{taken_commands}
 use Rattle.repo_object.specs.Objects.Post.{Offers}
 use Rattle.repo_process.specs.Processes.{Process, BlockState, starting, indexes, has_index, has_block, is_whole}
 use Rattle.repo_process.specs.Processes.{with_block, object_of, closed, with_it, block_in, block_state}
 use Rattle.repo_process.specs.Processes.BlockState.{Unknown, Already, Waiting, Whole}
 use Rattle.repo_process.specs.Insertions.{Insertions, next_number, starts, with_process}
-use Rattle.repo_process.proofs.ProcessLemmas.{length-numbers}
 use Rattle.group_model.proofs.Lists.{each_all}
-use Rattle.repo_member.specs.Groups.{GroupKeys, node_at}
+use Rattle.repo_member.specs.Groups.{GroupKeys}
 use Rattle.repo_member.specs.Alone.{Alone, alone_publishes, alone_clears}
-use Rattle.repo_member.specs.Commanded.{coded, order_of, alone_starts, alone_obeys, alone_after_order}
+use Rattle.repo_member.specs.Commanded.{order_of, alone_starts, alone_obeys, alone_after_order}
 use Rattle.repo_member.specs.Blocks.{IsWithinLimits, AreWithinLimits, alone_block, alone_keeps, after_block}
 use Rattle.repo_member.specs.Blocks.{alone_blocks}
+use Rattle.repo_member.proofs.OrderLemmas.{orders_within}
 use Rattle.repo_member.proofs.HeldParts.{IsReached, reached_insertions}
 use Rattle.repo_member.proofs.PublishedParts.{reached_publishes}
 use Rattle.repo_member.proofs.HiddenParts.{reached_deletes}
-
-pub exact_numbers : Exact nat_cmp
-exact_numbers = record { total = nat_cmp_total; same = nat_same; itself = nat_itself }
-
--- ---- whose command octets are
-
-pub coded_order : (v : Result (ℕ × Command) CommandRefusal) (order : ℕ × Command) → coded v ≡ Ok order → v ≡ Ok order
-coded_order (Ok o) order h = cc
-coded_order (Err refusal) order h = absurd cc
-
--- it is within the limits of commands
-pub order_within : (g : GroupKeys) (number : ℕ) (octets : List ℕ) (order : ℕ × Command)
-    → order_of g number octets ≡ Ok order → is_command order.1 ≡ true
-order_within g number octets order h =
-    (taken_commands (node_at g number) g.clients.ring octets order.0 order.1
-    (coded_order (command_verdict (node_at g number) g.clients.ring octets) order h)).0
 
 -- ---- processes within their limits
 
@@ -81,7 +62,7 @@ begun_within name first last valid is =
       contents = λ index content found. absurd cc;
     }
 
-closed_within : (p : Process) → IsWithinLimits p → IsWithinLimits (closed p)
+pub closed_within : (p : Process) → IsWithinLimits p → IsWithinLimits (closed p)
 closed_within p is =
     record { name = is.name; named = is.named; few = is.few; contents = λ index content found. absurd cc }
 
@@ -226,7 +207,7 @@ pub reached_order : (g : GroupKeys) (octets : List ℕ) (a : Alone)
 reached_order g octets a spelled r = go (order_of g a.number octets) refl spelled where
   go : (order : Result (ℕ × Command) ℕ) → order_of g a.number octets ≡ order → IfOk order (λ o. CommandIsSpelled o.1)
       → IsReached g (alone_after_order order a)
-  go (Ok order) e k = reached_obeys g order.1 a k (order_within g a.number octets order e) r
+  go (Ok order) e k = reached_obeys g order.1 a k (orders_within g a.number octets order.0 order.1 e) r
   go (Err code) e k = r
 
 pub reached_blocks : (g : GroupKeys) (process index : ℕ) (content : List ℕ) (moment draw : ℕ) (a : Alone)

@@ -107,12 +107,12 @@ orders_beyond g number client command group there known spelled short is =
 -- ---- what is taken is within the limits
 
 -- an order is the check's
-passed : (r : Result (ℕ × Command) CommandRefusal) (order : ℕ × Command) → coded r ≡ Ok order → r ≡ Ok order
-passed (Ok taken) order e = let same : taken ≡ order = cc in ap (λ (o : ℕ × Command). Ok o) same
-passed (Err refusal) order e = absurd cc
+coded_order : (r : Result (ℕ × Command) CommandRefusal) (order : ℕ × Command) → coded r ≡ Ok order → r ≡ Ok order
+coded_order (Ok taken) order e = let same : taken ≡ order = cc in ap (λ (o : ℕ × Command). Ok o) same
+coded_order (Err refusal) order e = absurd cc
 
 pub orders_within : (g : GroupKeys) (number : ℕ) (octets : List ℕ) (client : ℕ) (command : Command)
     → order_of g number octets ≡ Ok (client, command) → is_command command ≡ true
 orders_within g number octets client command e =
     (taken_commands (node_at g number) g.clients.ring octets client command
-    (passed (command_verdict (node_at g number) g.clients.ring octets) (client, command) e)).0
+    (coded_order (command_verdict (node_at g number) g.clients.ring octets) (client, command) e)).0

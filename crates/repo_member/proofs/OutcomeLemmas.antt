@@ -129,7 +129,7 @@ module _ (g : GroupKeys) (a : Alone) (job : Job) (part : Option CheckedPart) (n 
 
 -- ---- the outcome as a whole
 
-parts_came : (xs : List Tried) → map (λ (x : Tried). x.part) xs ≡ map (λ (y : Fetched). y.part) (map came xs)
+pub parts_came : (xs : List Tried) → map (λ (x : Tried). x.part) xs ≡ map (λ (y : Fetched). y.part) (map came xs)
 parts_came [] = refl
 parts_came (x ∷ xs) = ap (λ (ts : List Part). x.part ∷ ts) (parts_came xs)
 
@@ -244,7 +244,7 @@ module _ (m : Inside) (a : Alone) (view : alone m ≡ a) (mid : HoldingsState) (
 
 -- ---- what is planned can be taken, whatever came of it
 
-apart_in_order : (ts : List Part) → Rises part_cmp ts → PartsDiffer ts
+pub apart_in_order : (ts : List Part) → Rises part_cmp ts → PartsDiffer ts
 apart_in_order [] rises = tt
 apart_in_order (t ∷ ts) rises = (not_behind exact_parts t ts rises.0, apart_in_order ts rises.1)
 

@@ -10,7 +10,7 @@ use Rattle.std.proofs.lemmas.Bool.{true≢false, or_cases, cases_eq, cases_lt, e
 use Rattle.std.proofs.lemmas.Bool.{false_from_ne_true}
 use Rattle.std.proofs.lemmas.List.{length-map, length-set, length_push}
 use Rattle.std.proofs.lemmas.List.Folds.{list_any-append}
-use Rattle.std.proofs.lemmas.Option.{slice_get_within, get_or_from_slice_get}
+use Rattle.std.proofs.lemmas.Option.{same_Some, slice_get_within, get_or_from_slice_get}
 use Rattle.repo_object.specs.Objects.{Post as Published, IsPost, offered, withdraws_number}
 use Rattle.repo_object.specs.Objects.Post.{Offers, Withdraws}
 use Rattle.repo_object.proofs.Places.{slice_get-front}
@@ -41,13 +41,10 @@ mapped f [] i x h = absurd cc
 mapped f (y ∷ xs) zero x h = let same : y ≡ x = cc in ap (λ z. Some (f z)) same
 mapped f (y ∷ xs) (suc i) x h = mapped f xs i x h
 
-same_some : {A : Type 0} (x y : A) → (let o : Option A = Some x in o) ≡ Some y → x ≡ y
-same_some x y h = cc
-
 -- the last element
 at_last : {A : Type 0} (xs : List A) (x y : A) (i : ℕ) → i ≡ length xs → slice_get (xs ++ x ∷ []) i ≡ Some y → x ≡ y
 at_last xs x y i e h =
-    same_some x y (sym (slice_get-push xs x) ∙ ap (slice_get (xs ++ x ∷ [])) (sym e) ∙ h)
+    same_Some x y (sym (slice_get-push xs x) ∙ ap (slice_get (xs ++ x ∷ [])) (sym e) ∙ h)
 
 any_at : {A : Type 0} (p : A → Bool) (xs : List A) → list_any p xs ≡ true
     → (i : ℕ) × (x : A) × (slice_get xs i ≡ Some x) × (p x ≡ true)
@@ -149,7 +146,7 @@ before_marked log (Withdrawal seq) i x kept inside is h = elim (cases_eq i (seq 
       let old : Post = get_or log (seq - 1) (Withdrawal 0) in
       let low : seq - 1 < length log = omega (arith, here, inside) in
       let same : marked old ≡ x =
-      same_some (marked old) x
+      same_Some (marked old) x
       (sym (set_here log (seq - 1) (marked old) low)
       ∙ ap (slice_get (set log (seq - 1) (marked old))) (sym here) ∙ h) in
       subst (IsMarked (posts_of log ++ Withdraws seq ∷ []) (i + 1)) same

@@ -28,9 +28,12 @@ pub use Rattle.repo_member.proofs.CommandEvents.{issue_is_event, issue_is_answer
 pub use Rattle.repo_member.proofs.OrderLemmas.{made_orders_are_taken, orders_beyond}
 pub use Rattle.repo_member.proofs.OutcomeLemmas.{members_take_all, holder_jobs_are_planned, holder_jobs_are_outcomes}
 pub use Rattle.repo_member.proofs.OutcomeLemmas.{jobs_are_planned, planned_jobs_are_outcomes}
+pub use Rattle.repo_member.proofs.OutcomeLemmas.{parts_came, apart_in_order}
+pub use Rattle.repo_member.proofs.InsertionParts.{closed_within, block_within, object_within}
 pub use Rattle.repo_member.proofs.CallLogs.{logs_go_on, publications_stay, withdrawals_stay, logged_packets_stay}
-pub use Rattle.repo_member.proofs.CallVectors.{numbers_never_fall, known_is_the_join}
+pub use Rattle.repo_member.proofs.CallVectors.{numbers_never_fall, known_is_the_join, long_join}
 pub use Rattle.repo_member.proofs.CallReach.{in_every_member, claims_once}
 pub use Rattle.repo_member.proofs.CallPackets.{held_packets_stay, hidden_for_good, hidden_is_gone, own_stored}
-pub use Rattle.repo_member.proofs.GroupLemmas.{client_is, client_plain, same_name, none_found}
+pub use Rattle.repo_member.proofs.GroupLemmas.{client_is, client_plain, same_name, none_found, none_have_keys}
+pub use Rattle.repo_member.proofs.OwnLemmas.{is_publisher}
 pub use Rattle.repo_holdings.proofs.GainingLemmas.{contains-value}

@@ -17,6 +17,7 @@ use Rattle.repo_object.specs.Objects.{Post, IsPost, Publisher}
 use Rattle.repo_object.specs.Publication.{published_record, packets}
 use Rattle.repo_object.specs.Wants.{WantedPart}
 use Rattle.repo_object.specs.Verdict.{ring_verdict}
+use Rattle.ndn_packet.proofs.Ends.{slice_get-push}
 use Rattle.repo_holdings.specs.declared.told.Told.{Told}
 use Rattle.repo_holdings.specs.Gaining.{AreTied, told_of, shape_told}
 use Rattle.repo_store.specs.StoreList.{with_packet}
@@ -33,7 +34,6 @@ use Rattle.repo_member.proofs.MemberLemmas.{knows_more}
 use Rattle.repo_member.proofs.PostLemmas.{are_posts_more}
 use Rattle.repo_member.proofs.OwnLemmas.{is_publisher, logged_own, packets_are, next_to_last}
 use Rattle.repo_member.proofs.ChangeLemmas.{rises_puts}
-use Rattle.repo_member.proofs.CallLogs.{at_end}
 use Rattle.repo_member.proofs.PlanChanges.{sound_known, sound_puts}
 use Rattle.repo_member.proofs.HeldParts.{IsReached, want_same, missing_value, not_there}
 
@@ -178,7 +178,7 @@ module _ (g : GroupKeys) (post : Post) (moment draw : ℕ) (a : Alone) (is_post 
         ∙ puts_value pair 0 made a.store (λ y h. new.not_held y) q.part
         ∙ ap (λ (n : ℕ). slice_get (packets by n post) q.part) (sym same)
         ∙ sym (logged_own g (alone_publishes g post moment draw a) q post own (omega (arith, same))
-        (ap (slice_get (a.log ++ post ∷ [])) last ∙ at_end a.log post))
+        (ap (slice_get (a.log ++ post ∷ [])) last ∙ slice_get-push a.log post))
     | inr other ↦ aside q (of_another q other) ∙ r.own q own shown ∙ logged_before q other
   ]
 

@@ -1,12 +1,12 @@
 -- The digest of a published segment stands where its record or its index packet lists it.
 use Rattle.std.proofs.Common.{◌≡◌, ℕ, zero, suc, ◌+◌, ◌-◌, ◌*◌, ◌<◌, ◌≤◌, Bool, true, false, cond, not, ◌==◌, ◌||◌}
 use Rattle.std.proofs.Common.{List, []}
-use Rattle.std.proofs.Common.{◌∷◌, map, length, take, drop, slice_get, Option, Some, None, option_map, is_some}
+use Rattle.std.proofs.Common.{◌∷◌, map, length, take, drop, slice_get, Option, Some, option_map}
 use Rattle.std.proofs.Common.{unwrap_or, refl}
 use Rattle.std.proofs.Common.{sym, ap, ◌∙◌, subst, ◌/◌, arith}
 use Rattle.std.specs.Prelude.{nat_le}
 use Rattle.std.specs.Option.{option_and_then}
-use Rattle.std.proofs.lemmas.Bool.{true≢false, eqb-true, ne_eqb, lt-leb}
+use Rattle.std.proofs.lemmas.Bool.{eqb-true, ne_eqb, lt-leb}
 use Rattle.std.proofs.lemmas.Option.{slice_get-map}
 use Rattle.sha2.specs.Sha256.{sha256}
 use Rattle.repo_plan.specs.declared.part.Part.{Part}
@@ -29,7 +29,7 @@ use Rattle.repo_holdings.proofs.GainingLemmas.{contains-value}
 use Rattle.repo_member.specs.Groups.{GroupKeys, publisher_at}
 use Rattle.repo_member.specs.Alone.{Alone}
 use Rattle.repo_member.specs.InGroup.{in_group, AreLogs, StoresTruly}
-use Rattle.repo_member.proofs.TruePackets.{published_post, published_by, published_low}
+use Rattle.repo_member.proofs.TruePackets.{is_there, published_post, published_by, published_low}
 
 -- ---- places of lists
 
@@ -44,10 +44,6 @@ at_take zero xs i h = absurd (omega (arith, h))
 at_take (suc n) [] i h = refl
 at_take (suc n) (x ∷ xs) zero h = refl
 at_take (suc n) (x ∷ xs) (suc i) h = at_take n xs i (omega (arith, h))
-
-is_there : (o : Option (List ℕ)) → is_some o ≡ true → (octets : List ℕ) × (o ≡ Some octets)
-is_there None h = absurd (true≢false (sym h))
-is_there (Some octets) h = (octets, refl)
 
 -- ---- a segment
 

@@ -30,6 +30,7 @@ use Rattle.group_model.proofs.Gains.{Publishes, AreTried, sound_takes, sound_gai
 use Rattle.group_model.proofs.Gains.{tried_once_more}
 use Rattle.group_model.proofs.Deletions.{sound_deletes}
 use Rattle.group_model.proofs.Settles.{no_claim}
+use Rattle.group_model.proofs.Runs.{zeros, all_zeros}
 use Rattle.repo_holdings.specs.Records.{Packet}
 use Rattle.repo_member.specs.Deleting.{catalogued_named}
 use Rattle.repo_holdings.specs.Hiding.{outside_all}
@@ -63,14 +64,6 @@ nothing_in : (n p : ℕ) → last_of (replicate n []) p ≡ 0
 nothing_in zero p = refl
 nothing_in (suc n) zero = refl
 nothing_in (suc n) (suc p) = nothing_in n p
-
-abbrev zeros : ℕ → List ℕ
-zeros n = replicate n 0
-
-all_zeros : (n p : ℕ) → get_or (zeros n) p 0 ≡ 0
-all_zeros zero p = refl
-all_zeros (suc n) zero = refl
-all_zeros (suc n) (suc p) = all_zeros n p
 
 none_logged : (n p : ℕ) → get_or (replicate n (let l : List Post = [] in l)) p [] ≡ []
 none_logged zero p = refl

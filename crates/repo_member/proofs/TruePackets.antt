@@ -1,16 +1,16 @@
 -- Packets that are those of what was published: what they say, and their contents.
 use Rattle.std.proofs.Common.{◌≡◌, inl, inr, ℕ, ◌+◌, ◌-◌, ◌^◌, ◌<◌, List, [], length, get_or, Option, Some}
-use Rattle.std.proofs.Common.{Result}
+use Rattle.std.proofs.Common.{None, is_some, true, Result}
 use Rattle.std.proofs.Common.{Ok, Err, refl, sym, ap, ◌∙◌, subst, arith}
 use Rattle.std.specs.Prelude.{unwrap_or}
-use Rattle.std.proofs.lemmas.Bool.{cases_lt}
+use Rattle.std.proofs.lemmas.Bool.{true≢false, cases_lt}
 use Rattle.std.proofs.lemmas.List.{get_or_past}
-use Rattle.std.proofs.lemmas.Option.{slice_get-get_or, unwrap_or-slice_get}
+use Rattle.std.proofs.lemmas.Option.{same_Some, slice_get-get_or, unwrap_or-slice_get}
 use Rattle.ndn_name.specs.declared.fault.PacketFault.{PacketFault}
 use Rattle.ndn_data.specs.Data.{Data, data_of}
 use Rattle.repo_plan.specs.Parts.{Pair, index_packets}
-use Rattle.repo_object.specs.Objects.{NamedContents, Post, IsObject, IsPost, Publisher, IsPublisher, shape_in}
-use Rattle.repo_object.specs.Objects.Post.{Offers, Withdraws}
+use Rattle.repo_object.specs.Objects.{NamedContents, Post, IsObject, IsPost, Publisher, IsPublisher}
+use Rattle.repo_object.specs.Objects.Post.{Offers}
 use Rattle.repo_object.specs.Publication.{record_packet, published_record, packet_at}
 use Rattle.repo_object.specs.Verdict.{content_within, said_in}
 use Rattle.repo_object.proofs.Publications.{record_said, content_again}
@@ -18,27 +18,22 @@ use Rattle.group_model.specs.Publications.{Logs, no_post, post_at, last_of}
 use Rattle.group_model.specs.Sound.{IsPublished}
 use Rattle.repo_member.specs.Groups.{GroupKeys, publisher_at}
 use Rattle.repo_holdings.specs.Listed.{content_read, packet_content}
-use Rattle.repo_object.specs.Publication.{shape_said}
 use Rattle.repo_member.specs.InGroup.{AreLogs}
 use Rattle.repo_member.proofs.OwnLemmas.{is_publisher}
 
+-- what is stored there, where something is
+pub is_there : (o : Option (List ℕ)) → is_some o ≡ true → (octets : List ℕ) × (o ≡ Some octets)
+is_there None h = absurd (true≢false (sym h))
+is_there (Some octets) h = (octets, refl)
+
 -- ---- the packets of a publication
-
-same_some : (a b : List ℕ) → (let o : Option (List ℕ) = Some a in o) ≡ Some b → a ≡ b
-same_some a b h = cc
-
--- a record tells which parts its publication has
-pub shape_published : (publisher : Publisher) (seq : ℕ) (post : Post)
-    → shape_said (published_record publisher seq post) ≡ shape_in post
-shape_published publisher seq (Offers object) = refl
-shape_published publisher seq (Withdraws withdrawn) = refl
 
 -- part 0 is the record
 pub record_says : (publisher : Publisher) (seq : ℕ) (post : Post) → IsPublisher publisher → IsPost seq post
     → seq < 2 ^ 16 → (octets : List ℕ) → packet_at publisher seq post 0 ≡ Some octets
     → said_in octets ≡ Some (published_record publisher seq post)
 record_says publisher seq post is_publisher is_post low octets h =
-    ap said_in (sym (same_some (record_packet publisher seq (published_record publisher seq post)) octets h))
+    ap said_in (sym (same_Some (record_packet publisher seq (published_record publisher seq post)) octets h))
     ∙ record_said publisher is_publisher seq post is_post low
 
 read_content : (r : Result Data PacketFault) → content_read r ≡ unwrap_or (content_within r) []

@@ -49,9 +49,6 @@ first_position p xs j d l here before =
     ap (λ (n : ℕ). cond (nat_lt n (length xs)) (Some n) None) (first_place p xs j d l here before)
     ∙ ap (λ (b : Bool). cond b (Some j) None) (lt-ltb j (length xs) l)
 
-same_octets : (a b : List ℕ) → a ≡ b → bytes_eq a b ≡ true
-same_octets a b h = (bytes_eq-Decides a b).1 h
-
 -- ---- keys by number
 
 module _ (nodes : NodeKeys) (have : HaveKeys nodes) (j : ℕ) (there : j < length nodes.names) where
@@ -86,7 +83,7 @@ module _ (nodes : NodeKeys) (have : HaveKeys nodes) (j : ℕ) (there : j < lengt
   number_at =
       first_position (λ (q : Ring.NamedKey). bytes_eq (encoding (key_name (get_or nodes.names j []))) q.name) nodes.ring
       j (pair [] []) (omega (arith, there, long))
-      (same_octets (encoding (key_name (get_or nodes.names j []))) (get_or nodes.ring j (pair [] [])).name
+      ((bytes_eq-Decides (encoding (key_name (get_or nodes.names j []))) (get_or nodes.ring j (pair [] [])).name).1
       (sym (ring_at j there)))
       (λ k l. false_from_ne_true
       (bytes_eq (encoding (key_name (get_or nodes.names j []))) (get_or nodes.ring k (pair [] [])).name) (λ found.
@@ -95,7 +92,7 @@ module _ (nodes : NodeKeys) (have : HaveKeys nodes) (j : ℕ) (there : j < lengt
       found in
       let e : encoding (get_or nodes.names k []) ≡ encoding (get_or nodes.names j []) =
       same_key k (same ∙ ring_at k (omega (arith, l, there))) in
-      true≢false (sym (same_octets (encoding (get_or nodes.names k [])) (encoding (get_or nodes.names j [])) e)
+      true≢false (sym ((bytes_eq-Decides (encoding (get_or nodes.names k [])) (encoding (get_or nodes.names j []))).1 e)
       ∙ apart_from_distinct has_same_octets nodes.names k j [] have.roster.different l there)))
 
 pub keys_are_found : KeysAreFound

@@ -11,6 +11,7 @@ use Rattle.repo_plan.specs.Parts.{Pair, pair_cmp}
 use Rattle.repo_plan.specs.Plan.{knows}
 use Rattle.repo_plan.proofs.Orders.{exact_pairs}
 use Rattle.sorted_lists.proofs.Sets.{In, eq_same, contains-insert_key, value_of-with_value}
+use Rattle.sorted_lists.proofs.Orders.{exact_numbers}
 use Rattle.repo_process.specs.Processes.{Process, starting, has_block, is_whole}
 use Rattle.repo_process.specs.Insertions.{Insertions, starts, with_process}
 use Rattle.group_model.proofs.Lists.{at_in}
@@ -20,7 +21,6 @@ use Rattle.repo_holdings.specs.HoldingsState.{HoldingsState, AreInOrder}
 use Rattle.repo_holdings.specs.Hiding.{with_hidden, hides_all}
 use Rattle.repo_member.specs.Posts.{posts_of, IsKeptLog}
 use Rattle.repo_member.specs.Members.{alone, AreWaiting, IsMember}
-use Rattle.repo_member.proofs.InsertionParts.{exact_numbers}
 
 -- ---- insertion processes
 

@@ -56,6 +56,13 @@ impl Nodes {
         Ok(())
     }
 
+    // What holds of all node names and keys. Costs nothing, and is called for its clause.
+    pub(crate) fn is_sound(&self)
+        ensures { HaveKeys self.now }
+    {
+        let _ = &self.names;
+    }
+
     pub(crate) fn names(&self) -> &Roster
         ensures names { result.now ≡ self.now.names }
         ensures keys { HaveKeys self.now }

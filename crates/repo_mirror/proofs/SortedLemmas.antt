@@ -1,8 +1,8 @@
 -- What came of a fetch, sorted into what is kept and what is passed over.
-use Rattle.std.proofs.Common.{◌≡◌, inl, inr, ℕ, Bool, true, false, cond, not, ◌||◌, List, [], ◌∷◌, ◌++◌, map, take}
-use Rattle.std.proofs.Common.{drop, refl, sym, ap, ◌∙◌, subst, Option, Some, None, option_map, unwrap_or}
+use Rattle.std.proofs.Common.{◌≡◌, inl, inr, ℕ, Bool, true, false, cond, not, ◌||◌, List, [], ◌∷◌, ◌++◌, map}
+use Rattle.std.proofs.Common.{refl, sym, ap, ◌∙◌, subst, Option, Some, None, option_map, unwrap_or}
 use Rattle.std.specs.Prelude.{◌==◌}
-use Rattle.std.specs.List.{insert, filter}
+use Rattle.std.specs.List.{filter}
 use Rattle.std.specs.Ordering.{eq_by_cmp}
 use Rattle.std.proofs.lemmas.Bool.{true≢false, or_left, or_right, or_cases, or_from, false_from_ne_true, eqb-true}
 use Rattle.std.proofs.lemmas.List.{append_assoc, map-append}
@@ -20,11 +20,6 @@ use Rattle.repo_holdings.specs.Taking.{Fetched, PartsDiffer, came}
 use Rattle.repo_watch.specs.declared.pattern.Pattern.{Pattern}
 use Rattle.repo_mirror.specs.Passing.{is_told_kept, is_packet_kept, is_fetched_kept, that_are_kept, not_kept}
 use Rattle.repo_mirror.specs.Passing.{passed_over}
-
--- ---- sets in order
-
-pub inserted : (xs : List Pair) (i : ℕ) (k : Pair) → (take i xs ++ k ∷ []) ++ drop i xs ≡ insert xs i k
-inserted xs i k = append_assoc (take i xs) (k ∷ []) (drop i xs)
 
 -- one key may come before the others
 pub first_or_last : (k : Pair) (ks xs : List Pair) → Rises pair_cmp xs
@@ -211,9 +206,3 @@ module _ (pattern : Pattern) where
   kept_apart xs d t z h =
       contains-insert_keys exact_pairs (not_kept pattern xs) [] (pair_of t)
       ∙ or_from (contains pair_cmp (not_kept pattern xs) (pair_of t)) false (kept_not_passed xs d t z h) refl
-
--- the parts of what came of tried parts
-pub parts_tried : (xs : List Tried)
-    → map (λ (x : Tried). x.part) xs ≡ map (λ (y : Fetched). y.part) (map came xs)
-parts_tried [] = refl
-parts_tried (x ∷ xs) = ap (λ (ts : List Part). x.part ∷ ts) (parts_tried xs)

@@ -3,6 +3,7 @@ use Rattle.std.proofs.Common.{◌≡◌, inl, inr, ℕ, Bool, true, false, cond,
 use Rattle.std.proofs.Common.{get_or, refl, sym, ap, ◌∙◌, subst, arith, Option, Some, None, is_some, option_map}
 use Rattle.std.proofs.Common.{unwrap_or}
 use Rattle.std.specs.Prelude.{◌==◌, filter}
+use Rattle.std.specs.Cmp.{both_ways}
 use Rattle.std.specs.List.{All}
 use Rattle.std.proofs.lemmas.Bool.{true≢false, and_parts, and_from, or_cases, or_left, or_right, not-true, eq-eqb}
 use Rattle.std.proofs.lemmas.Bool.{eqb-true, cases_Bool}
@@ -11,7 +12,6 @@ use Rattle.sorted_lists.specs.SortedList.{contains}
 use Rattle.repo_plan.specs.Parts.{Pair, pair_cmp, part_cmp, pair_of, part_of, record_of, parent}
 use Rattle.repo_plan.proofs.Orders.{exact_parts, exact_pairs}
 use Rattle.sorted_lists.proofs.Sets.{In, contains_in, in_contains, in_map, from_map, in_filter, contains-insert_keys}
-use Rattle.sorted_lists.proofs.RunOrder.{both_ways}
 use Rattle.sorted_lists.proofs.Members.{in_at}
 use Rattle.repo_object.specs.Objects.{Post, Publisher}
 use Rattle.repo_object.specs.Objects.Post.{Offers, Withdraws}

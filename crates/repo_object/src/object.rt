@@ -70,8 +70,7 @@ impl Object {
         requires contents { All (λ c. IsContent c.items) contents.items }
         ensures { result ≡ record { name = name; contents = map (λ c. c.items) contents.items } }
     {
-        // Its clause says that the components are a name's.
-        let _octets = name.octets();
+        name.is_sound();
         Object { name, contents }
     }
 

@@ -51,8 +51,7 @@ impl Insertion {
         requires few { last - first < 200 }
         ensures { IfOk result (λ insertion. insertion ≡ starting name.now first last) }
     {
-        // Its clause says that the components are a name's.
-        let _octets = name.octets();
+        name.is_sound();
         Ok(Insertion {
             name: name.clone()?,
             first,

@@ -254,6 +254,7 @@ impl Member {
             Err(_) => return Err(AllocError),
         };
         let content = write_answer(alloc, answer)?;
+        g.is_sound();
         let key_name = key_name(g.roster().name(self.number))?;
         let key = g.members().key(self.number);
         match write_signed(alloc, &name, None, &content, &key_name, key) {

@@ -64,6 +64,7 @@ impl Member {
             return Err(WantFault::FetcherIdle);
         };
         let stored = self.held.parent_for(part, None);
+        g.is_sound();
         Ok(
             self.held
                 .want(alloc, g.roster(), g.name(), part, stored.as_ref())?,
@@ -146,6 +147,7 @@ impl Member {
         ensures { IfOk result (λ jobs. jobs.items ≡ map (job_for g.now self.now)
             (take most (filter (is_after after) (unclaimed (alone_plan self.now))))) }
     {
+        g.is_sound();
         self.held.jobs(alloc, g.roster(), g.name(), after, most)
     }
 
@@ -164,6 +166,7 @@ impl Member {
     {
         let alloc = *self.log.allocator();
         let stored = self.held.parent_for(part, None);
+        g.is_sound();
         let want = self
             .held
             .want(alloc, g.roster(), g.name(), part, stored.as_ref())?;

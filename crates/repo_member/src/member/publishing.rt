@@ -214,6 +214,7 @@ impl Member {
             return Ok(None);
         };
         let alloc = *self.log.allocator();
+        g.is_sound();
         let node = g.roster().name(self.number);
         let key = g.members().key(self.number);
         packet_in(alloc, post, part.seq, part.part, node, g.name(), key)
@@ -236,6 +237,7 @@ impl Member {
             prepared.told prepared.packets.items prepared.sync.items) }
     {
         let alloc = *self.log.allocator();
+        g.is_sound();
         let node = g.roster().name(self.number);
         let key = g.members().key(self.number);
         let packets = digested_packets_of(alloc, object, self.next_seq(), node, g.name(), key)?;
@@ -260,6 +262,7 @@ impl Member {
             prepared.told prepared.packets.items prepared.sync.items) }
     {
         let alloc = *self.log.allocator();
+        g.is_sound();
         let node = g.roster().name(self.number);
         let key = g.members().key(self.number);
         let seq = self.next_seq();

@@ -220,6 +220,7 @@ pub(super) fn sync_of(
     requires width { length vector.now ≡ length g.now.members.names }
     ensures { IfOk result (λ sync. sync.items ≡ sync_of g.now number vector.now) }
 {
+    g.is_sound();
     let key_name = key_name(g.roster().name(number))?;
     let key = g.members().key(number);
     make_sync(alloc, g.name(), vector, g.roster(), &key_name, key)

@@ -1,11 +1,11 @@
 use Rattle.std.proofs.Common.{◌≡◌, ◌∙◌, ap, length, take, List}
+use Rattle.std.specs.Cmp.{both_ways}
 use Rattle.std.specs.Ordering.{eq_by_cmp, is_eq}
 use Rattle.std.proofs.lemmas.Cmp.{tied_itself}
 use Rattle.ndn_name.specs.Names.{Component}
 use Rattle.ndn_name.specs.CanonicalOrder.{canonical_cmp, canonical_cmp_total, IsPrefix}
 use Rattle.ndn_name.proofs.Prefixes.{canonical_cmp-equal}
 use Rattle.sorted_lists.proofs.Orders.{equal_from_is_eq}
-use Rattle.sorted_lists.proofs.RunOrder.{both_ways}
 use Rattle.repo_watch.specs.Patterns.{begins_with}
 use Rattle.mirror_tests.proofs.mirror.begins_with.Goals as goal
 

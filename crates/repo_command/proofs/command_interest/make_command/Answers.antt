@@ -1,16 +1,16 @@
 use Rattle.std.proofs.Common.{length, ap, ◌∙◌, arith}
 use Rattle.ndn_interest.specs.WrittenInterest.{written_interest}
+use Rattle.repo_object.proofs.Packing.{only_memory_of_packet}
 use Rattle.repo_command.specs.Verbs.{verb_of, command_name}
 use Rattle.repo_command.proofs.LengthLemmas.{command-size}
 use Rattle.repo_command.proofs.command_interest.make_command.Goals as goal
 
-pub unreachable-requires : goal.unreachable-requires
-unreachable-requires c =
+pub map_err-requires : goal.map_err-requires
+map_err-requires c =
     let node = c.args.node.now in
     let short =
     command-size node c.args.command.now c.args.key_name.now c.args.key.now c.requires.node c.requires.name
     c.requires.key_name in
-    let long = ((c.write_signed.ensures.too_long c.in-Err-TooLong.field-0-0).0 (cc)).0 in
     let parameters = c.deref.ensures.value ∙ c.in_ok-parameters.ensures in
     let name = c.in_ok-name.ensures ∙ ap (command_name node) c.verb_of.ensures in
     let same =
@@ -18,4 +18,5 @@ unreachable-requires c =
     ∙ ap (λ octets. length
     (written_interest (command_name node (verb_of c.args.command.now)) octets c.args.key_name.now c.args.key.now))
     parameters in
-    omega (arith, long, same, short)
+    only_memory_of_packet c.write_signed.result _ (λ n e. ((c.write_signed.ensures.too_long n).0 e).0)
+    (omega (arith, same, short))

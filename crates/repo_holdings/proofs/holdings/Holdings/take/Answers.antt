@@ -4,13 +4,12 @@ use Rattle.sorted_lists.specs.SortedList.{contains}
 use Rattle.repo_plan.specs.Parts.{Pair, pair_cmp}
 use Rattle.repo_catalog.specs.declared.entry.Entry.{Entry}
 use Rattle.repo_catalog.specs.Entries.{EntryList, with_entries, without_all}
-use Rattle.repo_catalog.proofs.ManyLemmas.{apart_none}
+use Rattle.repo_catalog.proofs.ManyLemmas.{apart_none, without_none}
 use Rattle.repo_holdings.specs.HoldingsState.{HoldingsState}
 use Rattle.repo_holdings.specs.Taking.{AreListedWith}
 use Rattle.repo_holdings.specs.declared.holdings.Holdings.TheInside.{Inside}
 use Rattle.repo_holdings.specs.HoldingsFields.{IsHoldings}
 use Rattle.repo_holdings.proofs.CatalogueLemmas.{alone_in_order}
-use Rattle.repo_holdings.proofs.HidingLemmas.{entries_all}
 use Rattle.repo_holdings.proofs.TakingLemmas.{takable_still, octets_fit}
 use Rattle.repo_holdings.proofs.holdings.Holdings.take.Goals as goal
 
@@ -29,7 +28,7 @@ nothing_waits : (m : Inside) → IsHoldings m
 nothing_waits m is = record {
   listed =
       ap (λ (gone : List Pair). without_all gone (with_entries m.fresh.items m.catalogue.entries)) is.none_gone
-      ∙ entries_all (with_entries m.fresh.items m.catalogue.entries)
+      ∙ without_none (with_entries m.fresh.items m.catalogue.entries)
       ∙ ap (λ (fs : List Entry). with_entries fs m.catalogue.entries) is.none_fresh
       ∙ is.kept.listed;
   withdrawn = λ q h.

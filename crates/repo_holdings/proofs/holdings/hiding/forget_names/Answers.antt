@@ -1,11 +1,10 @@
 use Rattle.std.proofs.Common.{ℕ, Bool, cond, not, None, get_or, ap, ◌∙◌}
 use Rattle.std.specs.Ordering.{eq_by_cmp}
 use Rattle.sorted_lists.specs.SortedList.{value_of}
-use Rattle.sorted_lists.proofs.Sets.{value_of-filter}
+use Rattle.sorted_lists.proofs.Sets.{value_of-filter, eq_turned}
 use Rattle.repo_plan.specs.Parts.{Pair, pair_cmp}
 use Rattle.repo_plan.proofs.Orders.{exact_pairs}
 use Rattle.repo_holdings.specs.Noted.{NotesState}
-use Rattle.repo_holdings.proofs.CatalogueLemmas.{other_way}
 use Rattle.repo_holdings.proofs.HidingLemmas.{is_none_of}
 use Rattle.repo_holdings.proofs.holdings.hiding.forget_names.Goals as goal
 
@@ -22,6 +21,7 @@ loop-publication-preserved c =
           ap (λ (n : NotesState). value_of pair_cmp n.names q) left
           ∙ value_of-filter exact_pairs (λ (k : Pair). not (eq_by_cmp pair_cmp pair k)) c.loop-publication.notes.names q
           ∙ ap (λ (b : Bool). cond (not b) (value_of pair_cmp c.loop-publication.notes.names q) None)
-          (other_way q pair (is_none_of c.args.publications.now q other i (0, 0) c.loop-publication-test.true))
+          (eq_turned exact_pairs pair q
+          ∙ is_none_of c.args.publications.now q other i (0, 0) c.loop-publication-test.true)
           ∙ inv.others q other;
     }

@@ -5,15 +5,15 @@ use Rattle.sorted_lists.specs.SortedList.{Rises, contains}
 use Rattle.repo_plan.specs.Parts.{Pair, pair_cmp}
 use Rattle.repo_catalog.specs.declared.entry.Entry.{Entry}
 use Rattle.repo_catalog.specs.Entries.{EntryList, publication_of, without_all}
+use Rattle.repo_catalog.proofs.ManyLemmas.{without_none}
 use Rattle.repo_holdings.proofs.CatalogueLemmas.{fun_ext}
-use Rattle.repo_holdings.proofs.HidingLemmas.{entries_all}
 use Rattle.repo_holdings.proofs.PairLists.{apart_permuted, contains_permuted, sorted_pairs_rise}
 use Rattle.repo_holdings.proofs.holdings.taking.remove_gone.Goals as goal
 
 none_there : (pairs : List Pair) (catalogue : EntryList) → length pairs ≡ 0
     → catalogue ≡ record catalogue { entries = without_all pairs catalogue.entries }
 none_there [] catalogue h =
-    ap (λ (entries : List Entry). record catalogue { entries = entries }) (sym (entries_all catalogue.entries))
+    ap (λ (entries : List Entry). record catalogue { entries = entries }) (sym (without_none catalogue.entries))
 none_there (pair ∷ pairs) catalogue h = absurd (omega (arith, h))
 
 pub returns-then-is_empty-clause-removed : goal.returns-then-is_empty-clause-removed

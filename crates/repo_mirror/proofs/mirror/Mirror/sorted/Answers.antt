@@ -20,13 +20,13 @@ use Rattle.repo_object.specs.Verdict.{CheckedPart}
 use Rattle.repo_holdings.specs.Taking.{Fetched, came, CanBeTaken, PartsDiffer}
 use Rattle.repo_holdings.specs.declared.holdings.taking.Tried.{Tried}
 use Rattle.repo_member.specs.Outcomes.{outcome_of}
-use Rattle.repo_member.proofs.OutcomeLemmas.{nothing_left}
+use Rattle.repo_member.proofs.OutcomeLemmas.{nothing_left, parts_came}
 use Rattle.repo_watch.specs.declared.pattern.Pattern.{Pattern}
 use Rattle.repo_mirror.specs.MirrorState.{MirrorState, fetch_plan}
 use Rattle.repo_mirror.specs.Passing.{is_fetched_kept, that_are_kept, not_kept, IsUnknownIn}
 use Rattle.repo_mirror.proofs.MirrorLemmas.{reading}
 use Rattle.repo_mirror.proofs.SortedLemmas.{kept_step, passed_still, kept_still, passed_step, passed_record}
-use Rattle.repo_mirror.proofs.SortedLemmas.{kept_differ, kept_apart, parts_tried}
+use Rattle.repo_mirror.proofs.SortedLemmas.{kept_differ, kept_apart}
 use Rattle.repo_mirror.proofs.JobLemmas.{wants_lists, lent_if, lent_octets, outcome_differs, first_job}
 use Rattle.repo_mirror.proofs.JobLemmas.{fetched, first_outcome, came_is, can_be_taken, wanted_unknown}
 use Rattle.repo_mirror.proofs.mirror.Mirror.sorted.Goals as goal
@@ -220,7 +220,7 @@ returns-clause-takable g c =
       each = c.loop-job.invariant.can;
       apart =
           subst PartsDiffer
-          (sym (parts_tried c.loop-job.kept.items
+          (sym (parts_came c.loop-job.kept.items
           ∙ ap (map (λ (y : Fetched). y.part)) (returns-clause-kept g c)))
           (kept_differ m.pattern all
           (outcome_differs m c.args.jobs.now c.args.parts.now c.args.attempts.now c.requires.outcome.each
@@ -245,7 +245,7 @@ returns-clause-others g c = λ k d low.
     (c.loop-job.invariant.can k d low).asked in
     let among : contains part_cmp (map (λ (y : Fetched). y.part) (that_are_kept m.pattern all)) x.part ≡ true =
     subst (λ (ts : List Part). contains part_cmp ts x.part ≡ true)
-    (parts_tried kept ∙ ap (map (λ (y : Fetched). y.part)) (returns-clause-kept g c))
+    (parts_came kept ∙ ap (map (λ (y : Fetched). y.part)) (returns-clause-kept g c))
     (contains_in exact_parts (map (λ (y : Tried). y.part) kept) x.part
     (in_map (λ (y : Tried). y.part) kept x (in_at kept k d low))) in
     true≢false
