@@ -1,13 +1,18 @@
 -- What is told, in order, and what was told with others that are told too.
-use Rattle.std.proofs.Common.{◌≡◌, Bool, true, false, cond, List, [], ◌∷◌, map, ◌∙◌}
+use Rattle.std.proofs.Common.{◌≡◌, ℕ, ◌+◌, ◌<◌, Bool, true, false, cond, not, ◌&&◌, List, [], ◌∷◌, ◌++◌, map, length}
+use Rattle.std.proofs.Common.{get_or, drop, refl, sym, ap, subst, ◌∙◌, append_assoc}
 use Rattle.std.specs.List.{filter}
+use Rattle.std.specs.Ordering.{is_lt}
 use Rattle.std.proofs.lemmas.Bool.{or_left, or_right}
+use Rattle.std.proofs.lemmas.List.{at_drop_more, drop-map}
 use Rattle.sorted_lists.specs.SortedList.{insert_keys, contains, IsBefore, Rises}
-use Rattle.sorted_lists.proofs.Sets.{contains-insert_keys}
+use Rattle.sorted_lists.proofs.Sets.{contains-filter, contains-insert_keys}
+use Rattle.sorted_lists.proofs.Inserted.{rises_parts}
 use Rattle.repo_plan.specs.Parts.{Pair, pair_cmp}
 use Rattle.repo_plan.proofs.Orders.{exact_pairs}
 use Rattle.repo_catalog.specs.declared.entry.Entry.{Entry}
-use Rattle.repo_catalog.specs.Entries.{publication_of}
+use Rattle.repo_catalog.specs.Entries.{publication_of, IsCatalogue}
+use Rattle.repo_watch.specs.Watching.{Watching, is_for, is_news, news, told_behind}
 
 module _ (p : Entry → Bool) where
   before_passing : (k : Pair) (es : List Entry) → IsBefore pair_cmp k (map publication_of es)
@@ -40,3 +45,59 @@ pub told_gained : (pairs told : List Pair) (q : Pair) → contains pair_cmp pair
 told_gained pairs told q h =
     contains-insert_keys exact_pairs pairs told q
     ∙ or_left (contains pair_cmp pairs q) (contains pair_cmp told q) h
+
+-- ---- news, entry by entry
+
+-- what was told up to a publication makes no difference to the entries behind it
+news_behind : (w : Watching) (k : Pair) (es : List Entry) → IsBefore pair_cmp k (map publication_of es)
+    → news (record w { told = told_behind k w.told }) es ≡ news w es
+news_behind w k [] b = refl
+news_behind w k (e ∷ es) b =
+    ap (λ (c : Bool). map publication_of (cond c (e ∷ filter (is_news v) es) (filter (is_news v) es))) same
+    ∙ go (is_news w e) (news_behind w k es b.1) where
+      v : Watching
+      v = record w { told = told_behind k w.told }
+
+      same : is_news v e ≡ is_news w e
+      same =
+          ap (λ (c : Bool). is_for w.pattern e && not c)
+          (contains-filter exact_pairs (λ x. is_lt (pair_cmp k x)) w.told (publication_of e)
+          ∙ ap (λ (c : Bool). c && contains pair_cmp w.told (publication_of e)) (ap is_lt b.0))
+
+      go : (c : Bool) → news v es ≡ news w es
+          → map publication_of (cond c (e ∷ filter (is_news v) es) (filter (is_news v) es))
+          ≡ map publication_of (cond c (e ∷ filter (is_news w) es) (filter (is_news w) es))
+      go true h = ap (λ (ps : List Pair). publication_of e ∷ ps) h
+      go false h = h
+
+-- a step of a walk over the entries and what was told: what is left of both gives the same as before, where the
+-- entry is told if it is news
+pub walked : (w : Watching) (entries : List Entry) (i : ℕ) (e : Entry) (pairs next all left : List Pair)
+    → i < length entries → e ≡ get_or entries i e → IsCatalogue entries → left ≡ told_behind (publication_of e) w.told
+    → next ≡ cond (is_news w e) (pairs ++ publication_of e ∷ []) pairs → pairs ++ news w (drop i entries) ≡ all
+    → next ++ news (record w { told = left }) (drop (i + 1) entries) ≡ all
+walked w entries i e pairs next all left l is r behind told so_far =
+    ap (λ (ps : List Pair). ps ++ news (record w { told = left }) later) told
+    ∙ ap (λ (ps : List Pair). cond (is_news w e) (pairs ++ publication_of e ∷ []) pairs ++ ps)
+    (ap (λ (ps : List Pair). news (record w { told = ps }) later) behind
+    ∙ news_behind w (publication_of e) later before)
+    ∙ go (is_news w e)
+    ∙ ap (λ (es : List Entry). pairs ++ news w es) (sym here)
+    ∙ so_far where
+      later : List Entry
+      later = drop (i + 1) entries
+
+      here : drop i entries ≡ e ∷ later
+      here = at_drop_more (λ (es : List Entry). es) entries i e l ∙ ap (λ (x : Entry). x ∷ later) (sym is)
+
+      before : IsBefore pair_cmp (publication_of e) (map publication_of later)
+      before =
+          (subst (λ (es : List Entry). Rises pair_cmp (map publication_of es)) here
+          (subst (Rises pair_cmp) (drop-map publication_of i entries)
+          (rises_parts exact_pairs i (map publication_of entries) r).1)).0
+
+      go : (c : Bool)
+          → cond c (pairs ++ publication_of e ∷ []) pairs ++ news w later
+          ≡ pairs ++ map publication_of (cond c (e ∷ filter (is_news w) later) (filter (is_news w) later))
+      go true = append_assoc pairs (publication_of e ∷ []) (news w later)
+      go false = refl

@@ -1,5 +1,6 @@
 -- Watchers: what each asks for and was told, and what a call makes of them.
 use Rattle.std.specs.Prelude.{ℕ, zero, suc, Bool, not, ◌&&◌, List, [], ◌∷◌, ◌++◌, map, filter, Option, Some, None}
+use Rattle.std.specs.Ordering.{is_lt}
 use Rattle.repo_plan.specs.Parts.{Pair, pair_cmp}
 use Rattle.sorted_lists.specs.SortedList.{contains, insert_keys}
 use Rattle.repo_catalog.specs.declared.entry.Entry.{Entry}
@@ -35,6 +36,10 @@ news w entries = map publication_of (filter (is_news w) entries)
 -- The watcher once it was told that.
 abbrev pub told_news : Watching → List Entry → Watching
 told_news w entries = record w { told = insert_keys pair_cmp (news w entries) w.told }
+
+-- Those of the publications in order that stand behind this one.
+abbrev pub told_behind : Pair → List Pair → List Pair
+told_behind pair told = filter (λ other. is_lt (pair_cmp pair other)) told
 
 -- ---- by number, from 1 on
 

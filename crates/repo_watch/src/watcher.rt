@@ -1,10 +1,10 @@
 ghost use Rattle.std.specs.Prelude.{◌≡◌, map, IfOk, OnOk, OnErr};
-ghost use Rattle.repo_catalog.specs.Entries.{publication_of};
-ghost use Rattle.repo_watch.specs.Watching.{watching, is_news, news, told_news};
+ghost use Rattle.repo_catalog.specs.Entries.{publication_of, IsCatalogue};
+ghost use Rattle.repo_watch.specs.Watching.{watching, news, told_news};
 
 use crate::filter::Filter;
 use crate::pattern::Pattern;
-use crate::told::{is_told, merged};
+use crate::told::{add, pass};
 use repo_catalog::{Catalogue, Entry};
 use std::alloc::{AllocError, Global};
 use std::marker::Model;
@@ -53,34 +53,32 @@ impl Watcher {
         ensures err { OnErr result (self.new ≡ self.old) }
     {
         let pairs = self.news(alloc, filter, catalogue.entries())?;
-        self.told = merged(alloc, &self.told, &pairs)?;
+        add(alloc, &mut self.told, &pairs)?;
         Ok(pairs)
     }
 
-    // The publications of these entries that the pattern is for and that were not told.
+    // The publications of these entries that the pattern is for and that were not told, in one pass over both. The rule
+    // is asked of those alone that were not told.
     fn news(
         &self,
         alloc: Global,
         filter: &Filter,
         entries: &[Entry],
     ) -> Result<Vec<(u32, u16)>, AllocError>
+        requires { IsCatalogue entries.now }
         ensures { IfOk result (λ pairs. pairs.items ≡ news self.now entries.now) }
     {
         let mut pairs = Vec::new(alloc);
+        let mut told = self.told.as_slice();
         for entry in entries {
-            if self.is_news(filter, entry) {
-                pairs.push((entry.publisher, entry.seq))?;
+            let pair = (entry.publisher, entry.seq);
+            let (was_told, behind) = pass(told, pair);
+            if !was_told && filter.wants(&self.pattern, entry.publisher, &entry.name) {
+                pairs.push(pair)?;
             }
+            told = behind;
         }
         Ok(pairs)
-    }
-
-    // Whether the pattern is for the entry, and it was not told.
-    fn is_news(&self, filter: &Filter, entry: &Entry) -> bool
-        ensures { result ≡ is_news self.now entry.now }
-    {
-        filter.wants(&self.pattern, entry.publisher, &entry.name)
-            && !is_told(&self.told, (entry.publisher, entry.seq))
     }
 }
 
