@@ -55,7 +55,7 @@ use Rattle.bench_world.specs.Serving.{judged_packet, found, came_of, keyed}
 use Rattle.bench_world.specs.EventValues.{answer_told}
 use Rattle.bench_world.specs.Answerable.{AreAllClear, IsKept}
 use Rattle.bench_world.proofs.States.{member_at, many_logs, sound_state}
-use Rattle.bench_world.proofs.Coming.{publisher_there, post_within, packet_is, its_octets, claim_published}
+use Rattle.bench_world.proofs.ClaimedPackets.{publisher_there, post_within, packet_is, its_octets, claim_published}
 
 -- ---- names
 

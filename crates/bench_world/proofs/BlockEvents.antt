@@ -5,12 +5,11 @@ use Rattle.std.specs.Prelude.{nat_le, ◌↔◌, IsTrue}
 use Rattle.std.specs.List.{All}
 use Rattle.std.specs.Ordering.{nat_cmp, eq_by_cmp}
 use Rattle.std.proofs.lemmas.Bool.{cases_eq, cases_Bool, false_from_ne_true, leb-true, leb-false, le-leb, lt-ltb}
-use Rattle.std.proofs.lemmas.Cmp.{nat_cmp_total}
 use Rattle.std.proofs.lemmas.List.{length-map, length-set, map-set, set-set, set-get_or, get_or-set_same}
 use Rattle.std.proofs.lemmas.List.{get_or-set_other}
 use Rattle.bench_net.specs.SentList.{SentPacket}
 use Rattle.sorted_lists.specs.SortedList.{value_of}
-use Rattle.sorted_lists.proofs.Orders.{Exact, nat_same, nat_itself}
+use Rattle.sorted_lists.proofs.Orders.{exact_numbers}
 use Rattle.sorted_lists.proofs.Sets.{value_of-with_value}
 use Rattle.repo_object.specs.Objects.{IsObject, contents_of}
 use Rattle.repo_object.specs.Objects.Post.{Offers}
@@ -45,9 +44,6 @@ use Rattle.bench_world.specs.Worlds.{MembersAreNumbered, AreTrueMembers, sync_in
 use Rattle.bench_world.proofs.Objects.{log_is, sent_is, world_sent, state_sent}
 use Rattle.bench_world.proofs.States.{truly, number_is, member_is, old_at, in_world, member_at, member_within, many}
 use Rattle.bench_world.proofs.States.{logs_are, set_truly, set_numbers, changed_state, stepped_at}
-
-exact_numbers : Exact nat_cmp
-exact_numbers = record { total = nat_cmp_total; same = nat_same; itself = nat_itself }
 
 -- ---- a member with another insertion process
 

@@ -1,25 +1,14 @@
 -- The names of the keys of a group's clients.
-use Rattle.std.proofs.Common.{◌≡◌, ℕ, ◌+◌, ◌≤◌, ◌<◌, List, [], ◌∷◌, length, Some, option_map, refl, sym, ap, ◌∙◌, arith}
+use Rattle.std.proofs.Common.{◌≡◌, ℕ, ◌<◌, List, [], length, Some, option_map, sym, ap, ◌∙◌}
 use Rattle.std.specs.Prelude.{slice_get, Ok}
-use Rattle.std.proofs.lemmas.List.{length-append}
 use Rattle.std.proofs.lemmas.Option.{slice_get-get_or, slice_get-map}
-use Rattle.ndn_tlv.specs.Spelling.{element, number}
 use Rattle.ndn_name.specs.Names.{Component, encoding, name_of}
-use Rattle.ndn_name.proofs.Encodings.{encoding-push, name_of-encoding}
+use Rattle.ndn_name.proofs.Encodings.{name_of-encoding}
 use Rattle.ndn_sign.specs.Ring.{NamedKey}
 use Rattle.repo_object.specs.Objects.{key_name}
 use Rattle.repo_object.proofs.NameLemmas.{IsName-key}
 use Rattle.repo_member.specs.Groups.{GroupKeys, HaveKeys, client_at}
 use Rattle.repo_member.proofs.PublicLaws.{client_is, client_plain}
-
-pub key_short : (node : List Component) → length (encoding node) ≤ 200 → length (encoding (key_name node)) ≤ 205
-unfolding number
-key_short node short =
-    let long : length (encoding (key_name node)) ≡ length (encoding node) + length (element 8 (75 ∷ 69 ∷ 89 ∷ [])) =
-    ap length (encoding-push node (8, 75 ∷ 69 ∷ 89 ∷ []))
-    ∙ length-append (encoding node) (element 8 (75 ∷ 69 ∷ 89 ∷ [])) in
-    let five : length (element 8 (75 ∷ 69 ∷ 89 ∷ [])) ≡ 5 = refl in
-    omega (arith, long, five, short)
 
 module _ (g : GroupKeys) (keys : HaveKeys g.clients) (client : ℕ) (there : client < length g.clients.names) where
   abbrev name_in : List Component → List ℕ

@@ -2,6 +2,7 @@
 use Rattle.std.proofs.Common.{◌≡◌, ℕ, ◌+◌, ◌-◌, ◌≤◌, ◌<◌, ◌==◌, Bool, true, false, cond, List, map, length, get_or, set}
 use Rattle.std.proofs.Common.{Option, Some, None, option_map, refl, sym, ap, ◌∙◌, subst, arith}
 use Rattle.std.specs.Prelude.{slice_get, slice_index, nat_le, nat_lt, ◌&&◌, Ok, Err, IsOkAnd}
+use Rattle.std.proofs.Math.Bool.{and-false}
 use Rattle.std.proofs.lemmas.Bool.{eqb-true, eqb-false, le-leb, leb-false, leb-true, ltb-true, false_from_ne_true}
 use Rattle.std.proofs.lemmas.List.{length-map, map-set, get_or-map}
 use Rattle.std.proofs.lemmas.Option.{slice_get-get_or, slice_get_past}
@@ -36,10 +37,6 @@ data AtNumber (of : SentPacket → List ℕ) (packets : List SentPacket) (k : �
       → AtNumber of packets k
   Nowhere : (nat_le 1 k && nat_le k (length packets)) ≡ false → read_at of packets k ≡ None → AtNumber of packets k
 
-and_false : (b : Bool) → (b && false) ≡ false
-and_false true = refl
-and_false false = refl
-
 at_number : (of : SentPacket → List ℕ) (packets : List SentPacket) (k : ℕ) → AtNumber of packets k
 at_number of packets k = go (k == 0) (nat_le k (length packets)) refl refl where
   read : Bool → Option (List ℕ)
@@ -57,7 +54,7 @@ at_number of packets k = go (k == 0) (nat_le k (length packets)) refl refl where
         (slice_get-get_or packets (k - 1) no_packet (omega (arith, one, last))))
     inside false q one =
         let out : length packets < k = leb-false k (length packets) q in
-        Nowhere (ap (λ (b : Bool). nat_le 1 k && b) q ∙ and_false (nat_le 1 k))
+        Nowhere (ap (λ (b : Bool). nat_le 1 k && b) q ∙ and-false (nat_le 1 k))
         (ap read p
         ∙ ap (option_map of) (slice_get_past packets (k - 1) (omega (arith, one, out))))
 

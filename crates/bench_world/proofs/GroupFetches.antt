@@ -2,9 +2,9 @@
 use Rattle.std.proofs.Common.{◌≡◌, inl, inr, ℕ, suc, zero, ◌+◌, ◌<◌, Bool, true, false, cond, ◌||◌, List, [], ◌∷◌, map}
 use Rattle.std.proofs.Common.{length, get_or, set, take, Option, Some, None, refl, sym, ap, ◌∙◌, subst, arith}
 use Rattle.std.specs.Prelude.{is_some, unwrap_or, find, filter, sum, sum_by, IfSome}
-use Rattle.std.specs.List.{All}
+use Rattle.std.specs.List.{All, remove, insert}
 use Rattle.std.proofs.lemmas.Bool.{cases_eq}
-use Rattle.std.proofs.lemmas.List.{get_or-set_same, get_or-set_other, length-set, length-map, map-set}
+use Rattle.std.proofs.lemmas.List.{get_or-set_same, get_or-set_other, get_or_default, length-set, length-map, map-set}
 use Rattle.std.proofs.lemmas.List.Elements.{filter_agree}
 use Rattle.std.proofs.lemmas.List.Sums.{sum_by-cons}
 use Rattle.repo_plan.specs.declared.part.Part.{Part}
@@ -34,11 +34,13 @@ use Rattle.bench_world.specs.Fetching.{attempt_at, fetched_one, fetched_all}
 use Rattle.bench_world.specs.Serving.{outside}
 use Rattle.bench_world.specs.Truth.{stores}
 use Rattle.bench_world.specs.Worlds.{nobody, alone_at, others_than, in_groups, AreTrueMembers, MembersAreNumbered}
-use Rattle.bench_world.proofs.Brought.{lends_true}
-use Rattle.bench_world.proofs.Gathered.{lends_held}
-use Rattle.bench_world.proofs.GatheredAll.{member_of}
+use Rattle.bench_world.proofs.PhaseOutcomes.{lends_true}
+use Rattle.bench_world.proofs.MemberGathering.{lends_held}
+use Rattle.bench_world.proofs.AllGathering.{member_of}
 use Rattle.bench_world.proofs.NextParts.{all_from_in, next_unclaimed}
-use Rattle.bench_world.proofs.PutBack.{others_true}
+use Rattle.bench_world.proofs.Phases.{from_packet}
+use Rattle.bench_world.proofs.TrueOthers.{others_true}
+use Rattle.bench_world.proofs.TakenOut.{put_in, put_back}
 
 module _ (passes : Part → ℕ → Bool) (others : List Alone) (tries : ℕ) (held : HoldingsState) where
   pub asked_same : (ts : List Part) → asked_for (fetched_all passes others tries held ts) ≡ ts
@@ -120,6 +122,25 @@ tried_sum f (x ∷ xs) all =
     let two = sum_by-cons f x.part (asked_for xs) in
     one ∙ (λ i. head i + rest i) ∙ sym two
 
+-- What comes of the parts that a member asks these for.
+abbrev pub fetched_of : (ℕ → ℕ → ℕ → ℕ → ℕ → ℕ → Bool) → (j tries loss : ℕ) → List Alone → Alone → List Fetched
+fetched_of passes j tries loss lent a =
+    fetched_all (attempt_comes passes j (Some loss)) lent tries (alone_holdings a) (next_parts None (alone_holdings a))
+
+-- Where the member of a number takes what came of the others, all are as after the event; else they are as before.
+pub record HasFetchedAt (passes : ℕ → ℕ → ℕ → ℕ → ℕ → ℕ → Bool) (draw : ℕ → ℕ → ℕ) (g : GroupKeys) (w : World)
+    (members : List Alone) (j tries loss : ℕ) (lent new : List Alone) (old left : Alone) : Type 0 where
+  pub after : left ≡ alone_takes (fetched_of passes j tries loss lent old) old
+      → in_groups new ≡ (after_fetch (outside g draw passes) w j tries loss).members
+  pub truly : left ≡ alone_takes (fetched_of passes j tries loss lent old) old → AreTrueMembers g (logs w) new
+  pub numbers : left ≡ alone_takes (fetched_of passes j tries loss lent old) old → MembersAreNumbered new
+  pub planned : length (next_parts None (alone_holdings old)) ≡ length (planned_parts w j)
+  pub came : that_came (fetched_of passes j tries loss lent old) ≡ fetched_parts (outside g draw passes) w j tries loss
+  pub attempts : sum (map (λ (x : Fetched). x.attempts) (fetched_of passes j tries loss lent old))
+      ≡ attempts_made (outside g draw passes) w j tries loss
+  pub len : length new ≡ length members
+  pub same : left ≡ old → new ≡ members
+
 module _ (passes : ℕ → ℕ → ℕ → ℕ → ℕ → ℕ → Bool) (draw : ℕ → ℕ → ℕ) (g : GroupKeys) (w : World)
     (are : AreLogs g (logs w)) (members : List Alone) (begun : in_groups members ≡ w.members)
     (numbers : MembersAreNumbered members) (truly : AreTrueMembers g (logs w) members)
@@ -177,10 +198,10 @@ module _ (passes : ℕ → ℕ → ℕ → ℕ → ℕ → ℕ → Bool) (draw :
   planned_same =
       ap (take 4096) (behind_none (unclaimed (alone_plan here)) ∙ sym (open_parts_alike w j g here is_member is_true))
 
-  pub planned_are : length (next_parts None holdings) ≡ length (planned_parts w j)
+  planned_are : length (next_parts None holdings) ≡ length (planned_parts w j)
   planned_are = ap length planned_same
 
-  pub came_are : that_came fetched ≡ fetched_parts out w j tries loss
+  came_are : that_came fetched ≡ fetched_parts out w j tries loss
   came_are =
       came_same way others tries holdings (next_parts None holdings)
       ∙ filter_agree (λ t. is_some (attempt_at way others tries holdings t))
@@ -199,7 +220,7 @@ module _ (passes : ℕ → ℕ → ℕ → ℕ → ℕ → ℕ → Bool) (draw :
     tried = tried_are;
   }
 
-  pub attempts_are : sum (map (λ (x : Fetched). x.attempts) fetched) ≡ attempts_made out w j tries loss
+  attempts_are : sum (map (λ (x : Fetched). x.attempts) fetched) ≡ attempts_made out w j tries loss
   attempts_are =
       tried_sum (attempts_for out w j tries loss) fetched tried_are
       ∙ ap (sum_by (attempts_for out w j tries loss)) outcome.asked
@@ -213,10 +234,6 @@ module _ (passes : ℕ → ℕ → ℕ → ℕ → ℕ → ℕ → Bool) (draw :
   fetched_member : in_group (alone_takes fetched here) ≡ fetches out w j tries loss (member w j)
   fetched_member =
       sym fetched_in ∙ get_or-set_same w.members j (fetches out w j tries loss (member w j)) no_member is_member.there
-
-  from_packet : (b : Bool) (o : Option (List ℕ)) (octets : List ℕ) → cond b o None ≡ Some octets → o ≡ Some octets
-  from_packet true o octets e = e
-  from_packet false o octets e = absurd cc
 
   fetched_truly : IsTrueMember g (logs w) (alone_takes fetched here)
   fetched_truly =
@@ -237,7 +254,7 @@ module _ (passes : ℕ → ℕ → ℕ → ℕ → ℕ → ℕ → Bool) (draw :
             })
 
   module _ (new : List Alone) (new_is : new ≡ set members j (alone_takes fetched here)) where
-    pub members_are : in_groups new ≡ (after_fetch out w j tries loss).members
+    members_are : in_groups new ≡ (after_fetch out w j tries loss).members
     members_are =
         ap in_groups new_is
         ∙ map-set in_group members j (alone_takes fetched here)
@@ -256,7 +273,7 @@ module _ (passes : ℕ → ℕ → ℕ → ℕ → ℕ → ℕ → Bool) (draw :
     elsewhere : (i : ℕ) → (i ≡ j → ⊥) → alone_at new i ≡ alone_at members i
     elsewhere i other = ap (λ (ms : List Alone). alone_at ms i) new_is ∙ get_or-set_other members j i _ nobody other
 
-    pub fetched_all_truly : AreTrueMembers g (logs w) new
+    fetched_all_truly : AreTrueMembers g (logs w) new
     fetched_all_truly i l = elim (cases_eq i j) [
       | inl same ↦
           subst (λ (k : ℕ). IsTrueMember g (logs w) (alone_at new k)) (sym same)
@@ -264,7 +281,7 @@ module _ (passes : ℕ → ℕ → ℕ → ℕ → ℕ → ℕ → Bool) (draw :
       | inr other ↦ subst (IsTrueMember g (logs w)) (sym (elsewhere i other)) (truly i (omega (arith, l, new_len)))
     ]
 
-    pub fetched_numbers : MembersAreNumbered new
+    fetched_numbers : MembersAreNumbered new
     fetched_numbers i l = elim (cases_eq i j) [
       | inl same ↦
           ap (λ (k : ℕ). (alone_at new k).number) same
@@ -274,3 +291,33 @@ module _ (passes : ℕ → ℕ → ℕ → ℕ → ℕ → ℕ → Bool) (draw :
           ∙ sym same
       | inr other ↦ ap (λ (a : Alone). a.number) (elsewhere i other) ∙ numbers i (omega (arith, l, new_len))
     ]
+
+  -- ---- it is taken out of all, fetches of the others, and is put back
+
+  module _ (mid lent new : List Alone) (old left : Alone) (old_is : old ≡ get_or members j old)
+      (taken : mid ≡ remove members j) (lent_is : lent ≡ mid) (put : new ≡ insert mid j left) where
+    old_at : old ≡ here
+    old_at = old_is ∙ get_or_default members j old nobody there
+
+    came_is : fetched_of passes j tries loss lent old ≡ fetched
+    came_is =
+        (λ i. fetched_all way ((lent_is ∙ taken) i) tries (alone_holdings (old_at i))
+        (next_parts None (alone_holdings (old_at i))))
+
+    put_new : left ≡ alone_takes (fetched_of passes j tries loss lent old) old
+        → new ≡ set members j (alone_takes fetched here)
+    put_new takes =
+        put_in members mid new j left there taken put
+        ∙ ap (set members j) (takes ∙ (λ i. alone_takes (came_is i) (old_at i)))
+
+    pub fetched_at : HasFetchedAt passes draw g w members j tries loss lent new old left
+    fetched_at = record {
+      after = λ takes. members_are new (put_new takes);
+      truly = λ takes. fetched_all_truly new (put_new takes);
+      numbers = λ takes. fetched_numbers new (put_new takes);
+      planned = ap (λ (a : Alone). length (next_parts None (alone_holdings a))) old_at ∙ planned_are;
+      came = ap that_came came_is ∙ came_are;
+      attempts = ap (λ (xs : List Fetched). sum (map (λ (x : Fetched). x.attempts) xs)) came_is ∙ attempts_are;
+      len = ap length (put_in members mid new j left there taken put) ∙ length-set members j left;
+      same = λ stays. put_back nobody members mid new j left there taken put (stays ∙ old_at);
+    }

@@ -2,6 +2,7 @@
 use Rattle.std.proofs.Common.{◌≡◌, ◌⊎◌, inl, inr, ℕ, ◌+◌, ◌<◌, ◌==◌, Bool, true, false, cond, ◌&&◌, ◌||◌, List, [], ◌∷◌}
 use Rattle.std.proofs.Common.{map, length, get_or, set, Some, None, refl, sym, ap, ◌∙◌, subst, arith}
 use Rattle.std.specs.Prelude.{nat_lt, slice_index, Result, Ok, Err}
+use Rattle.std.specs.Cmp.{both_ways}
 use Rattle.std.specs.List.{All, list_any}
 use Rattle.std.specs.Str.{bytes_eq}
 use Rattle.std.proofs.lemmas.Bool.{true≢false, eq-eqb, eqb-true, or_cases, and_parts}
@@ -42,19 +43,14 @@ made told = record { sender = told.0; vector = told.1 }
 
 -- ---- what was sent
 
-both_true : (a b : Bool) → (a ≡ true → b ≡ true) → (b ≡ true → a ≡ true) → a ≡ b
-both_true true b f g = sym (f refl)
-both_true false true f g = g refl
-both_true false false f g = refl
-
 same_test : (sender : ℕ) (v : List ℕ) (p : SentPacket)
     → ((sender == p.sender) && bytes_eq v p.vector) ≡ ((p.sender == sender) && bytes_eq p.vector v)
 same_test sender v p =
     let one : (sender == p.sender) ≡ (p.sender == sender) =
-    both_true (sender == p.sender) (p.sender == sender) (λ h. eq-eqb p.sender sender (sym (eqb-true sender p.sender h)))
+    both_ways (sender == p.sender) (p.sender == sender) (λ h. eq-eqb p.sender sender (sym (eqb-true sender p.sender h)))
     (λ h. eq-eqb sender p.sender (sym (eqb-true p.sender sender h))) in
     let two : bytes_eq v p.vector ≡ bytes_eq p.vector v =
-    both_true (bytes_eq v p.vector) (bytes_eq p.vector v)
+    both_ways (bytes_eq v p.vector) (bytes_eq p.vector v)
     (λ h. (bytes_eq-Decides p.vector v).1 (sym ((bytes_eq-Decides v p.vector).0 h)))
     (λ h. (bytes_eq-Decides v p.vector).1 (sym ((bytes_eq-Decides p.vector v).0 h))) in
     λ i. one i && two i

@@ -4,6 +4,7 @@ use Rattle.std.proofs.Common.{length, length-append, get_or, Option, None, Some,
 use Rattle.std.proofs.Common.{if◌then◌else◌}
 use Rattle.std.specs.Prelude.{Result, Ok, Err, slice_get, ◌==◌}
 use Rattle.std.specs.List.{list_any, All}
+use Rattle.std.proofs.Math.Bool.{or-false}
 use Rattle.std.proofs.lemmas.Bool.{true≢false}
 use Rattle.std.proofs.lemmas.List.{map-append, get_or_append_left}
 use Rattle.std.proofs.lemmas.List.Elements.{All-head, All-tail, All-push}
@@ -33,10 +34,6 @@ that_is_same a b =
 
 -- ---- one command more is put in
 
-or_false : (b : Bool) → (b || false) ≡ b
-or_false true = refl
-or_false false = refl
-
 module _ (ks : List IssuedCommand) (new : IssuedCommand) where
   abbrev more : List IssuedCommand
   more = insert_key is_same ks new
@@ -65,14 +62,14 @@ module _ (ks : List IssuedCommand) (new : IssuedCommand) where
           let yes : list_any (is_same c) ks ≡ true =
           ap (λ (x : IssuedCommand). list_any (is_same x) ks) (same_is c new e) ∙ there in
           rw yes refl
-      found false e there = sym (or_false (list_any (is_same c) ks))
+      found false e there = sym (or-false (list_any (is_same c) ks))
 
       by : (b : Bool) → list_any (is_same new) ks ≡ b
           → list_any (is_same c) (if b then ks else ks ++ new ∷ []) ≡ (list_any (is_same c) ks || is_same c new)
       by true e = found (is_same c new) refl e
       by false e =
           list_any-append (is_same c) ks (new ∷ [])
-          ∙ ap (λ (b : Bool). list_any (is_same c) ks || b) (or_false (is_same c new))
+          ∙ ap (λ (b : Bool). list_any (is_same c) ks || b) (or-false (is_same c new))
 
   same_before : (made : List ℕ) → All (λ k. k < length ks) made → commands_made more made ≡ commands_made ks made
   same_before [] within = refl
@@ -100,7 +97,7 @@ module _ (ks : List IssuedCommand) (new : IssuedCommand) where
     answers_more answers c =
         ap (list_any (is_that (c.member, c.client, c.command))) made_more
         ∙ list_any-append (is_that (c.member, c.client, c.command)) (commands_made ks old) (issued_of new ∷ [])
-        ∙ (λ i. answers c i || (ap (λ (t : Bool). t || false) (that_is_same c new) ∙ or_false (is_same c new)) i)
+        ∙ (λ i. answers c i || (ap (λ (t : Bool). t || false) (that_is_same c new) ∙ or-false (is_same c new)) i)
         ∙ sym (put c)
 
 -- What the fields are then.

@@ -22,13 +22,21 @@ use Rattle.bench_world.specs.Settling.{IsPartlySettled, ArePartlySettled}
 use Rattle.bench_world.specs.Truth.{TriedFew, AllTriedFew}
 use Rattle.bench_world.specs.Worlds.{nobody, alone_at, in_groups, AllCountsStay, AreTrueMembers, MembersAreNumbered}
 use Rattle.bench_world.proofs.KnownByAll.{knowns, joined_width}
-use Rattle.bench_world.proofs.Gathered.{partly_begun}
-use Rattle.bench_world.proofs.GatheredAll.{member_of}
+use Rattle.bench_world.proofs.MemberGathering.{partly_begun}
+use Rattle.bench_world.proofs.AllGathering.{member_of}
 
 nobody_there : (ms : List Alone) (j : ℕ) → length ms ≤ j → alone_at ms j ≡ nobody
 nobody_there [] j l = refl
 nobody_there (m ∷ ms) zero l = absurd (omega (arith, l))
 nobody_there (m ∷ ms) (suc j) l = nobody_there ms j (omega (arith, l))
+
+-- All claims have ended, and each member has learnt what all know.
+pub record HaveLearnt (g : GroupKeys) (w : World) (members new : List Alone) : Type 0 where
+  pub learnt : in_groups new ≡ map (learnt_member w) w.members
+  pub truly : AreTrueMembers g (logs w) new
+  pub numbers : MembersAreNumbered members → MembersAreNumbered new
+  pub tried : AllTriedFew members → AllTriedFew new
+  pub counts : AllCountsStay members new
 
 module _ (g : GroupKeys) (w : World) (are : AreLogs g (logs w)) (group : IsSoundGroup w) (members : List Alone)
     (begun : in_groups members ≡ w.members) (truly : AreTrueMembers g (logs w) members) where
@@ -91,7 +99,7 @@ module _ (g : GroupKeys) (w : World) (are : AreLogs g (logs w)) (group : IsSound
     module _ (new : List Alone) (len : length new ≡ length members)
         (each : (j : ℕ) → j < length members
         → alone_at new j ≡ alone_learns all (alone_ends_claims (alone_at members j))) where
-      pub learnt_all : in_groups new ≡ map (learnt_member w) w.members
+      learnt_all : in_groups new ≡ map (learnt_member w) w.members
       learnt_all = ext_get_or no_member (in_groups new) (map (learnt_member w) w.members)
           (length-map new in_group ∙ len ∙ sym many ∙ sym (length-map w.members (learnt_member w))) (λ i l.
           let inside_new : i < length new = subst (λ (n : ℕ). i < n) (length-map new in_group) l in
@@ -105,24 +113,24 @@ module _ (g : GroupKeys) (w : World) (are : AreLogs g (logs w)) (group : IsSound
           (sym (member_of members i inside) ∙ ap (λ (ms : List Member). get_or ms i no_member) begun)
           ∙ sym (get_or-map (learnt_member w) w.members i no_member no_member (omega (arith, inside, many))))
 
-      pub learnt_truly : AreTrueMembers g (logs w) new
+      learnt_truly : AreTrueMembers g (logs w) new
       learnt_truly j l =
           let inside : j < length members = omega (arith, l, len) in
           subst (IsTrueMember g (logs w)) (sym (each j inside))
           (learns_true g (logs w) all (alone_ends_claims (alone_at members j)) (true_vector j inside)
           (ends_claims_true g (logs w) (alone_at members j) (truly j inside)))
 
-      pub learnt_numbers : MembersAreNumbered members → MembersAreNumbered new
+      learnt_numbers : MembersAreNumbered members → MembersAreNumbered new
       learnt_numbers numbers j l =
           let inside : j < length members = omega (arith, l, len) in
           ap (λ (a : Alone). a.number) (each j inside) ∙ numbers j inside
 
-      pub learnt_tried : AllTriedFew members → AllTriedFew new
+      learnt_tried : AllTriedFew members → AllTriedFew new
       learnt_tried tried j l =
           let inside : j < length members = omega (arith, l, len) in
           subst (λ (a : Alone). TriedFew (alone_holdings a)) (sym (each j inside)) (tried j inside)
 
-      pub learnt_counts : AllCountsStay members new
+      learnt_counts : AllCountsStay members new
       learnt_counts j = elim (cases_lt j (length members)) [
         | inl inside ↦ record {
           machine = ap (λ (a : Alone). a.machine) (each j inside);
@@ -133,6 +141,15 @@ module _ (g : GroupKeys) (w : World) (are : AreLogs g (logs w)) (group : IsSound
             nobody_there new j (omega (arith, outside, len)) ∙ sym (nobody_there members j outside) in
             record { machine = ap (λ (a : Alone). a.machine) same; attempts = ap (λ (a : Alone). a.attempts) same }
       ]
+
+      pub have_learnt : HaveLearnt g w members new
+      have_learnt = record {
+        learnt = learnt_all;
+        truly = learnt_truly;
+        numbers = learnt_numbers;
+        tried = learnt_tried;
+        counts = learnt_counts;
+      }
 
 -- What counts stays over two changes.
 pub counts_then : (a b c : List Alone) → AllCountsStay a b → AllCountsStay b c → AllCountsStay a c

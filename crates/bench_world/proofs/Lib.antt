@@ -1,16 +1,17 @@
 mod Bounded
+mod EitherAnswer
+mod PacketSizes
 pub mod SetSums
 pub mod NextParts
 pub mod Attempts
-pub mod Brought
+pub mod PhaseOutcomes
 pub mod OneByOne
 pub mod KnownByAll
-mod CheckedSizes
 pub mod Phases
-pub mod Gathers
-pub mod Gathered
-pub mod PutBack
-pub mod GatheredAll
+pub mod Rounds
+pub mod MemberGathering
+pub mod TrueOthers
+pub mod AllGathering
 pub mod Learnt
 pub mod GroupFetches
 mod States
@@ -18,7 +19,7 @@ mod MirrorFetches
 mod MirrorCounts
 mod MirrorAsks
 mod MirrorSettling
-mod MirrorGathers
+mod MirrorGathering
 mod MirrorStates
 mod Openings
 mod Claims
@@ -27,10 +28,10 @@ mod Timers
 mod Objects
 mod BlockEvents
 mod Readers
-mod Answered
+mod AnswersAndFeeds
 mod Hearings
 mod Summaries
-mod Gainings
+mod FetchesAndSettles
 mod MirrorWorlds
 mod Resets
 mod RefusedMembers
@@ -40,8 +41,8 @@ mod ClientKeys
 mod Orders
 mod IssuedLemmas
 mod Stepping
-pub mod Coming
+pub mod ClaimedPackets
 mod TakenOut
-mod Asked
+mod ClaimsAmongOthers
 mod Answerable
 pub mod SettledAgain

@@ -1,7 +1,8 @@
 -- What a mirror asks for, and what comes of it, is what its group says.
-use Rattle.std.proofs.Common.{◌≡◌, ℕ, ◌+◌, Bool, true, false, cond, ◌&&◌, ◌||◌, List, map, take, Option, Some, None}
-use Rattle.std.proofs.Common.{refl, sym, ap, ◌∙◌, subst}
+use Rattle.std.proofs.Common.{◌≡◌, ℕ, ◌+◌, Bool, true, cond, ◌||◌, List, map, take, Option, Some, None, refl, sym, ap}
+use Rattle.std.proofs.Common.{◌∙◌, subst}
 use Rattle.std.specs.Prelude.{◌↔◌, not, is_some, unwrap_or, find, filter, sum, sum_by, slice_index_or}
+use Rattle.std.proofs.Math.Bool.{and-true}
 use Rattle.std.proofs.lemmas.List.Elements.{filter_agree}
 use Rattle.repo_plan.specs.declared.part.Part.{Part}
 use Rattle.sorted_lists.specs.SortedList.{contains, value_of}
@@ -32,7 +33,7 @@ use Rattle.bench_world.specs.MirrorFetching.{mirror_wants, mirror_asks, mirror_a
 use Rattle.bench_world.specs.MirrorFetching.{mirror_counts, HasFetched}
 use Rattle.bench_world.specs.MirrorsHold.{for_mirror}
 use Rattle.bench_world.specs.Worlds.{in_groups, AreTrueMembers}
-use Rattle.bench_world.proofs.Gathered.{lends_held}
+use Rattle.bench_world.proofs.MemberGathering.{lends_held}
 use Rattle.bench_world.proofs.GroupFetches.{asked_same, came_some, came_same, tried_same, tried_sum}
 use Rattle.bench_world.proofs.MirrorCounts.{counts}
 use Rattle.bench_world.proofs.MirrorFetches.{tries_each, kept_parts, kept_tries, fetched_comes, fetched_come}
@@ -47,10 +48,7 @@ module _ (passes : ℕ → ℕ → ℕ → ℕ → ℕ → ℕ → Bool) (g : Gr
 
   -- No fetcher claims anything of a mirror.
   unclaimed_is : (t : Part) → is_unclaimed (fetch_plan m) t ≡ is_wanted (fetch_plan m) t
-  unclaimed_is t = go (is_wanted (fetch_plan m) t) where
-    go : (b : Bool) → (b && true) ≡ b
-    go true = refl
-    go false = refl
+  unclaimed_is t = and-true (is_wanted (fetch_plan m) t)
 
   all_are : unclaimed (fetch_plan m) ≡ mirror_wants w m
   all_are =

@@ -24,13 +24,13 @@ use Rattle.repo_member.specs.Groups.{GroupKeys}
 use Rattle.repo_member.specs.Alone.{Alone}
 use Rattle.repo_member.specs.Outcomes.{AreFetchedOf}
 use Rattle.repo_member.specs.InGroup.{AreTries, asked_for, true_packet}
-use Rattle.bench_world.specs.declared.mirroring.Filtering.{Filtering}
+use Rattle.bench_world.specs.declared.holder.Filtering.{Filtering}
 use Rattle.bench_world.specs.Lending.{lent, lends}
 use Rattle.bench_world.specs.Gathering.{next_parts}
 use Rattle.bench_world.specs.Fetching.{attempt_at, fetched_one, fetched_all}
 use Rattle.bench_world.specs.Holders.{CameForHolder}
 use Rattle.bench_world.specs.Worlds.{AreTrueMembers}
-use Rattle.bench_world.proofs.Brought.{lends_true}
+use Rattle.bench_world.proofs.PhaseOutcomes.{lends_true}
 use Rattle.bench_world.proofs.NextParts.{all_from_in, next_unclaimed, next_rise}
 
 -- ---- jobs

@@ -26,7 +26,7 @@ use Rattle.repo_member.specs.InGroup.{AreLogs}
 use Rattle.repo_mirror.specs.MirrorState.{MirrorState, fetch_plan}
 use Rattle.repo_mirror.specs.TrueMirrors.{mirror_in_group, IsTrueMirror}
 use Rattle.repo_mirror.proofs.PublicLaws.{mirrors_want_alike, mirrors_list_alike, mirrors_learn_true}
-use Rattle.bench_world.specs.declared.mirroring.Filtering.{Filtering}
+use Rattle.bench_world.specs.declared.holder.Filtering.{Filtering}
 use Rattle.bench_world.specs.Lending.{lends}
 use Rattle.bench_world.specs.Gathering.{one_each, Counts, GainsParts, NothingLeft}
 use Rattle.bench_world.specs.MirrorSteps.{no_mirror, mirror_at, mirror_learns}
@@ -35,7 +35,7 @@ use Rattle.bench_world.specs.MirrorSettles.{HasSettled, ListsItsJoin, held_by, h
 use Rattle.bench_world.specs.MirrorSettles.{ArePartlySettledMirrors, SettledSoFar}
 use Rattle.bench_world.specs.MirrorsHold.{held_is}
 use Rattle.bench_world.specs.Worlds.{in_groups, AreTrueMembers}
-use Rattle.bench_world.proofs.Gathered.{lends_held}
+use Rattle.bench_world.proofs.MemberGathering.{lends_held}
 use Rattle.bench_world.proofs.KnownByAll.{nobody_knows}
 use Rattle.bench_world.proofs.Learnt.{long, all_is_settled, true_vector}
 use Rattle.bench_world.proofs.SetSums.{ones}
@@ -197,6 +197,16 @@ module _ (g : GroupKeys) (w : World) (are : AreLogs g (logs w)) (group : IsSound
 
 -- ---- one mirror after another
 
+-- One mirror more has come a part of the way, or has settled.
+pub record HasOneMore (g : GroupKeys) (w : World) (begun : List MirrorState) (j : ℕ) (ms new : List MirrorState)
+    : Type 0 where
+  pub len : length new ≡ length begun
+  pub truly : (i : ℕ) → i < length new → IsTrueMirror g (logs w) (mirror_at new i)
+  pub partly : ArePartlySettledMirrors w begun new
+  pub settled : HasSettled w (mirror_at ms j) (mirror_at new j) → SettledSoFar g w begun (j + 1) new
+  pub held : (parts n : ℕ) → parts + held_by_all begun ≡ held_by_all ms
+      → n + held_by (mirror_at ms j) ≡ held_by (mirror_at new j) → parts + n + held_by_all begun ≡ held_by_all new
+
 module _ (g : GroupKeys) (w : World) (begun : List MirrorState) where
   pub settled_none : ((i : ℕ) → i < length begun → IsTrueMirror g (logs w) (mirror_at begun i))
       → SettledSoFar g w begun 0 begun
@@ -223,17 +233,17 @@ module _ (g : GroupKeys) (w : World) (begun : List MirrorState) where
     long_new : length new ≡ length ms
     long_new = ap length others ∙ length-set ms j (mirror_at new j)
 
-    pub more_len : length new ≡ length begun
+    more_len : length new ≡ length begun
     more_len = long_new ∙ so_far.len
 
-    pub more_truly : (i : ℕ) → i < length new → IsTrueMirror g (logs w) (mirror_at new i)
+    more_truly : (i : ℕ) → i < length new → IsTrueMirror g (logs w) (mirror_at new i)
     more_truly i l = elim (cases_eq i j) [
       | inl same ↦ subst (λ (k : ℕ). IsTrueMirror g (logs w) (mirror_at new k)) (sym same) truly_new
       | inr other ↦
           subst (IsTrueMirror g (logs w)) (sym (other_at i other)) (so_far.truly i (omega (arith, l, long_new)))
     ]
 
-    pub more_partly : ArePartlySettledMirrors w begun new
+    more_partly : ArePartlySettledMirrors w begun new
     more_partly i l = elim (cases_eq i j) [
       | inl same ↦
           subst (λ (k : ℕ). IsPartlySettledMirror w (mirror_at begun k) (mirror_at new k)) (sym same)
@@ -242,7 +252,7 @@ module _ (g : GroupKeys) (w : World) (begun : List MirrorState) where
           subst (IsPartlySettledMirror w (mirror_at begun i)) (sym (other_at i other)) (so_far.partly i l)
     ]
 
-    pub more_settled : HasSettled w (mirror_at ms j) (mirror_at new j) → SettledSoFar g w begun (j + 1) new
+    more_settled : HasSettled w (mirror_at ms j) (mirror_at new j) → SettledSoFar g w begun (j + 1) new
     more_settled one = record {
       len = more_len;
       truly = more_truly;
@@ -258,7 +268,7 @@ module _ (g : GroupKeys) (w : World) (begun : List MirrorState) where
       still = λ i l. other_at i (λ same. omega (arith, l, same)) ∙ so_far.still i (omega (arith, l));
     }
 
-    pub more_held : (parts n : ℕ) → parts + held_by_all begun ≡ held_by_all ms
+    more_held : (parts n : ℕ) → parts + held_by_all begun ≡ held_by_all ms
         → n + held_by (mirror_at ms j) ≡ held_by (mirror_at new j) → parts + n + held_by_all begun ≡ held_by_all new
     more_held parts n before one =
         let changed : held_by_all (set ms j (mirror_at new j)) + held_by (mirror_at ms j)
@@ -266,3 +276,12 @@ module _ (g : GroupKeys) (w : World) (begun : List MirrorState) where
         sum_by-set held_by ms j (mirror_at new j) no_mirror inside in
         let e : held_by_all new ≡ held_by_all (set ms j (mirror_at new j)) = ap held_by_all others in
         omega (arith, before, one, changed, e)
+
+    pub one_more : HasOneMore g w begun j ms new
+    one_more = record {
+      len = more_len;
+      truly = more_truly;
+      partly = more_partly;
+      settled = more_settled;
+      held = more_held;
+    }

@@ -15,7 +15,7 @@ use Rattle.bench_world.specs.MirrorSteps.{no_mirror, mirror_at}
 use Rattle.bench_world.specs.MirrorSettles.{HasSettled, HaveSettled, ListsItsJoin}
 use Rattle.bench_world.specs.MirrorSettles.{IsPartlySettledMirror, ArePartlySettledMirrors}
 use Rattle.bench_world.specs.Worlds.{GroupState, IsTrueState, MirrorTriedFew, logs_around, only_members, world_of}
-use Rattle.bench_world.proofs.Gainings.{sound_only}
+use Rattle.bench_world.proofs.FetchesAndSettles.{sound_only}
 use Rattle.bench_world.proofs.KnownByAll.{knowns}
 use Rattle.bench_world.proofs.Learnt.{all_is_settled}
 use Rattle.bench_world.proofs.MirrorSettling.{lists_join}

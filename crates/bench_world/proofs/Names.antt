@@ -15,6 +15,7 @@ use Rattle.svs_sync.specs.declared.sync_refusal.SyncRefusal.{SyncRefusal}
 use Rattle.repo_plan.specs.declared.part.Part.{Part}
 use Rattle.repo_plan.specs.Parts.{Pair, pair_of}
 use Rattle.sorted_lists.specs.Range.{numbers_from}
+use Rattle.sorted_lists.proofs.Ranges.{length-numbers}
 use Rattle.repo_object.specs.declared.part_refusal.PartRefusal.{PartRefusal}
 use Rattle.repo_object.specs.Verdict.{ring_verdict}
 use Rattle.repo_process.specs.Processes.{BlockState}
@@ -33,7 +34,6 @@ use Rattle.group_model.proofs.Lists.{from_filter}
 use Rattle.group_model.proofs.Members.{known_published}
 use Rattle.group_model.proofs.Parts.{publisher_within, in_published}
 use Rattle.group_model.proofs.PublicLaws.{tests_those, claims_first}
-use Rattle.group_model.proofs.Runs.{length_numbers}
 use Rattle.repo_member.specs.Groups.{GroupKeys}
 use Rattle.repo_member.specs.Verdicts.{group_verdict}
 use Rattle.repo_member.specs.InGroup.{true_packet}
@@ -116,7 +116,7 @@ module _ (n : ℕ) where
     of_sums f =
         length-map (all_totals w) f
         ∙ length-map (numbers_from 0 (length w.members)) (λ j. catalogue_totals (catalogue_at w j))
-        ∙ length_numbers 0 (length w.members)
+        ∙ length-numbers 0 (length w.members)
         ∙ many
 
     is_member : (pair : Pair) → IsPublished (logs w) pair → pair.0 < n

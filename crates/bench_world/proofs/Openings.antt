@@ -1,16 +1,16 @@
 -- A world in which nothing has happened.
-use Rattle.std.proofs.Common.{◌≡◌, ℕ, suc, zero, ◌+◌, ◌<◌, List, [], ◌∷◌, ◌++◌, map, length, get_or, replicate, None}
+use Rattle.std.proofs.Common.{◌≡◌, ℕ, suc, zero, ◌+◌, ◌<◌, List, [], ◌∷◌, ◌++◌, map, length, replicate, None}
 use Rattle.std.proofs.Common.{refl, sym, ap, ◌∙◌, subst, arith}
 use Rattle.std.proofs.lemmas.List.{length-map, map-append, get_or-map}
 use Rattle.svs_sync.specs.Suppression.{periodic}
 use Rattle.sorted_lists.specs.Range.{numbers_from}
+use Rattle.sorted_lists.proofs.Ranges.{length-numbers, number_at}
 use Rattle.repo_object.specs.Objects.{Post}
 use Rattle.bench_net.specs.SentList.{SentPacket}
 use Rattle.group_model.specs.Publications.{Logs}
 use Rattle.group_model.specs.Member.{Member}
 use Rattle.group_model.specs.World.{Tally, logs_of, opening_world}
 use Rattle.group_model.specs.Limits.{IsWithinSteps}
-use Rattle.group_model.proofs.Runs.{length_numbers}
 use Rattle.group_model.proofs.PublicLaws.{within_opening}
 use Rattle.repo_member.specs.Groups.{GroupKeys, IsGroup}
 use Rattle.repo_member.specs.Alone.{Alone}
@@ -45,12 +45,6 @@ next_number n made more is e =
     let next : suc n ≡ n + 1 = omega arith in
     e ∙ (λ i. is i ++ sym last i ∷ []) ∙ sym (numbers_push 0 n) ∙ ap (numbers_from 0) next
 
-pub number_at : (s n i : ℕ) → i < n → get_or (numbers_from s n) i 0 ≡ s + i
-number_at s zero i l = absurd (omega (arith, l))
-number_at s (suc n) zero l = omega arith
-number_at s (suc n) (suc i) l =
-    number_at (s + 1) n i (omega (arith, l)) ∙ (let e : s + 1 + i ≡ s + suc i = omega arith in e)
-
 -- ---- logs
 
 no_logs : (f : ℕ → Member) (xs : List ℕ) → ((x : ℕ) → (f x).log ≡ []) → logs_of (map f xs) ≡ replicate (length xs) []
@@ -62,7 +56,7 @@ module _ (g : GroupKeys) (is : IsGroup g) (draw : ℕ → ℕ → ℕ) where
       → alone_at (begun_all (length g.members.names) draw) j ≡ begun_one (length g.members.names) draw j
   begun_at j l =
       let long : length (numbers_from 0 (length g.members.names)) ≡ length g.members.names =
-      length_numbers 0 (length g.members.names) in
+      length-numbers 0 (length g.members.names) in
       let z : 0 + j ≡ j = omega arith in
       get_or-map (begun_one (length g.members.names) draw) (numbers_from 0 (length g.members.names)) j 0 nobody
       (omega (arith, l, long))
@@ -71,7 +65,7 @@ module _ (g : GroupKeys) (is : IsGroup g) (draw : ℕ → ℕ → ℕ) where
   many : length (begun_all (length g.members.names) draw) ≡ length g.members.names
   many =
       length-map (numbers_from 0 (length g.members.names)) (begun_one (length g.members.names) draw)
-      ∙ length_numbers 0 (length g.members.names)
+      ∙ length-numbers 0 (length g.members.names)
 
   in_groups_begun : (xs : List ℕ)
       → in_groups (map (begun_one (length g.members.names) draw) xs)
@@ -85,7 +79,7 @@ module _ (g : GroupKeys) (is : IsGroup g) (draw : ℕ → ℕ → ℕ) where
       ap logs_of (in_groups_begun (numbers_from 0 (length g.members.names)))
       ∙ no_logs (λ j. in_group (begun_one (length g.members.names) draw j)) (numbers_from 0 (length g.members.names))
       (λ x. refl)
-      ∙ ap (λ (k : ℕ). replicate k (let l : List Post = [] in l)) (length_numbers 0 (length g.members.names))
+      ∙ ap (λ (k : ℕ). replicate k (let l : List Post = [] in l)) (length-numbers 0 (length g.members.names))
 
   pub opening_is : (ms : List Alone) (sent : List SentPacket) → ms ≡ begun_all (length g.members.names) draw → sent ≡ []
       → world_of (record {

@@ -4,7 +4,6 @@ use Rattle.std.proofs.Common.{None, refl, sym, ap, ◌∙◌, subst, arith}
 use Rattle.std.specs.Prelude.{is_some, unwrap_or, filter, count_by, sum_by, slice_get, slice_index_or}
 use Rattle.std.specs.List.{All}
 use Rattle.std.proofs.lemmas.List.{length-map, length-replicate}
-use Rattle.std.proofs.lemmas.Option.{none-some}
 use Rattle.std.proofs.lemmas.List.Sums.{length-filter}
 use Rattle.std.proofs.lemmas.Bool.{and_parts}
 use Rattle.ndn_sign.specs.Ring.{NamedKey}
@@ -36,8 +35,31 @@ use Rattle.bench_world.specs.Lending.{lent, lends, attempt_comes, lent_answer}
 use Rattle.bench_world.specs.Gathering.{next_parts, lent_one, lent_all}
 use Rattle.bench_world.specs.Fetching.{attempt_at, fetched_one, fetched_all}
 use Rattle.bench_world.proofs.NextParts.{few_next, next_unclaimed, from_slice_get}
-use Rattle.bench_world.proofs.Brought.{lends_true, were_tried, none_counted, first_lengths, counted, octets_sum}
-use Rattle.bench_world.proofs.Brought.{fetched_is, lent_is, came_lent, want_part}
+use Rattle.bench_world.proofs.PhaseOutcomes.{lends_true, were_tried, none_counted, first_lengths, counted, octets_sum}
+use Rattle.bench_world.proofs.PhaseOutcomes.{fetched_is, lent_is, came_lent, want_part}
+
+-- What came where something passed is that.
+pub from_packet : (b : Bool) (o : Option (List ℕ)) (octets : List ℕ) → cond b o None ≡ Some octets → o ≡ Some octets
+from_packet true o octets e = e
+from_packet false o octets e = absurd cc
+
+-- What came of a fetch's phase, and how often each part was tried.
+pub record FetchComes (g : GroupKeys) (logs : Logs) (h : HoldingsState) (came : List Fetched) (jobs : List Job)
+    (values : List (Option CheckedPart)) (counts : List ℕ) : Type 0 where
+  pub outcome : IsOutcomeOf g h jobs values counts
+  pub is : outcome_of jobs values counts ≡ came
+  pub parts : count_by is_some values ≡ length (that_came came)
+  pub octets : sum_by octets_in values ≡ sum_by (size_of g logs) (that_came came)
+  pub attempts : counts ≡ map (λ (x : Fetched). x.attempts) came
+  pub many : length counts ≡ length jobs
+
+-- What came of a phase of a settle, in which no attempt is counted.
+pub record GatherComes (g : GroupKeys) (logs : Logs) (h : HoldingsState) (others : List Alone) (ts : List Part)
+    (jobs : List Job) (values : List (Option CheckedPart)) (zeros : List ℕ) : Type 0 where
+  pub outcome : IsOutcomeOf g h jobs values zeros
+  pub is : outcome_of jobs values zeros ≡ lent_all others ts
+  pub parts : count_by is_some values ≡ length (filter (lends others) ts)
+  pub octets : sum_by octets_in values ≡ sum_by (size_of g logs) (filter (lends others) ts)
 
 module _ (passes : ℕ → ℕ → ℕ → ℕ → ℕ → ℕ → Bool) (g : GroupKeys) (logs : Logs) (h : HoldingsState) (others : List Alone)
     (asker : ℕ) (loss : Option ℕ) (are : AreLogs g logs) (truly : IsTrueHolder g logs h)
@@ -114,7 +136,7 @@ module _ (passes : ℕ → ℕ → ℕ → ℕ → ℕ → ℕ → Bool) (g : Gr
         subst (λ (js : List Job). AreFirst (lent_answer passes others asker loss) g.members.ring tries js values counts)
         jobs_are first_here
 
-    pub count_attempts : length counts ≡ length jobs
+    count_attempts : length counts ≡ length jobs
     count_attempts = (first_lengths (lent_answer passes others asker loss) g tries jobs values counts first_here).1
 
     count_parts : length values ≡ length jobs
@@ -122,27 +144,27 @@ module _ (passes : ℕ → ℕ → ℕ → ℕ → ℕ → ℕ → Bool) (g : Gr
 
     -- ---- a fetch
 
-    pub fetch_outcome : IsOutcomeOf g h jobs values counts
+    fetch_outcome : IsOutcomeOf g h jobs values counts
     fetch_outcome =
         holder_jobs_are_outcomes g h jobs values counts planned
         (were_tried (lent_answer passes others asker loss) g tries jobs values counts (can_be_tried_here tries few)
         first_here)
 
-    pub fetch_is : outcome_of jobs values counts
+    fetch_is : outcome_of jobs values counts
         ≡ fetched_all (attempt_comes passes asker loss) others tries h (next_parts after h)
     fetch_is =
         ap (λ (js : List Job). outcome_of js values counts) jobs_are
         ∙ fetched_is passes g logs h others asker loss are truly all tries (next_parts after h) wanted values counts
         first_planned
 
-    pub fetch_parts : count_by is_some values
+    fetch_parts : count_by is_some values
         ≡ length (that_came (fetched_all (attempt_comes passes asker loss) others tries h (next_parts after h)))
     fetch_parts =
         sym (length-filter is_some values)
         ∙ counted jobs values counts count_parts count_attempts
         ∙ ap (λ (xs : List Fetched). length (that_came xs)) fetch_is
 
-    pub fetch_octets : sum_by octets_in values
+    fetch_octets : sum_by octets_in values
         ≡ sum_by (size_of g logs)
         (that_came (fetched_all (attempt_comes passes asker loss) others tries h (next_parts after h)))
     fetch_octets =
@@ -154,13 +176,9 @@ module _ (passes : ℕ → ℕ → ℕ → ℕ → ℕ → ℕ → Bool) (g : Gr
         ∙ size_lent r.0 octets r.1
         (from_packet (is_some (attempt_at (attempt_comes passes asker loss) others tries h r.0)) (lent others r.0)
         octets (sym (ap (λ (y : Fetched). y.packet) r.2) ∙ e)))
-        ∙ ap (λ (xs : List Fetched). sum_by (size_of g logs) (that_came xs)) fetch_is where
-          from_packet : (b : Bool) (o : Option (List ℕ)) (octets : List ℕ) → cond b o None ≡ Some octets
-              → o ≡ Some octets
-          from_packet true o octets e = e
-          from_packet false o octets e = absurd (none-some octets e)
+        ∙ ap (λ (xs : List Fetched). sum_by (size_of g logs) (that_came xs)) fetch_is
 
-    pub fetch_attempts : counts
+    fetch_attempts : counts
         ≡ map (λ (x : Fetched). x.attempts)
         (fetched_all (attempt_comes passes asker loss) others tries h (next_parts after h))
     fetch_attempts =
@@ -176,6 +194,17 @@ module _ (passes : ℕ → ℕ → ℕ → ℕ → ℕ → ℕ → Bool) (g : Gr
           attempts_in (j ∷ js) (p ∷ ps) (c ∷ cs) e f =
               ap (λ (xs : List ℕ). c ∷ xs) (attempts_in js ps cs (omega (arith, e)) (omega (arith, f)))
 
+    pub fetch_comes : FetchComes g logs h
+        (fetched_all (attempt_comes passes asker loss) others tries h (next_parts after h)) jobs values counts
+    fetch_comes = record {
+      outcome = fetch_outcome;
+      is = fetch_is;
+      parts = fetch_parts;
+      octets = fetch_octets;
+      attempts = fetch_attempts;
+      many = count_attempts;
+    }
+
   -- ---- a phase of a settle
 
   module _ (none : loss ≡ None) (asked : List Job) (asked_are : asked ≡ jobs_of g h after 4096)
@@ -185,35 +214,38 @@ module _ (passes : ℕ → ℕ → ℕ → ℕ → ℕ → ℕ → Bool) (g : Gr
     count_zeros : length zeros ≡ length jobs
     count_zeros = ap length zeros_are ∙ length-replicate (length jobs) 0
 
-    pub gain_outcome : IsOutcomeOf g h jobs values zeros
-    gain_outcome =
+    gather_outcome : IsOutcomeOf g h jobs values zeros
+    gather_outcome =
         subst (IsOutcomeOf g h jobs values) (sym zeros_are)
         (holder_jobs_are_outcomes g h jobs values (replicate (length jobs) 0) planned
         (none_counted (lent_answer passes others asker loss) g 1 jobs values ns (can_be_tried_here 1 (omega arith))
         (first_here 1 (omega arith) asked asked_are parts values values_are ns ns refl first)))
 
-    pub gain_is : outcome_of jobs values zeros ≡ lent_all others (next_parts after h)
-    gain_is =
+    gather_is : outcome_of jobs values zeros ≡ lent_all others (next_parts after h)
+    gather_is =
         ap (outcome_of jobs values) zeros_are
         ∙ ap (λ (js : List Job). outcome_of js values (replicate (length js) 0)) jobs_are
         ∙ lent_is passes g logs h others asker loss are truly all none (next_parts after h) wanted values ns
         (first_planned 1 (omega arith) asked asked_are parts values values_are ns ns refl first)
 
-    pub gain_parts : count_by is_some values ≡ length (filter (lends others) (next_parts after h))
-    gain_parts =
+    gather_parts : count_by is_some values ≡ length (filter (lends others) (next_parts after h))
+    gather_parts =
         sym (length-filter is_some values)
         ∙ counted jobs values zeros
         (count_parts 1 (omega arith) asked asked_are parts values values_are ns ns refl first) count_zeros
-        ∙ ap (λ (xs : List Fetched). length (that_came xs)) gain_is
+        ∙ ap (λ (xs : List Fetched). length (that_came xs)) gather_is
         ∙ ap length (came_lent others (next_parts after h))
 
-    pub gain_octets : sum_by octets_in values ≡ sum_by (size_of g logs) (filter (lends others) (next_parts after h))
-    gain_octets =
+    gather_octets : sum_by octets_in values ≡ sum_by (size_of g logs) (filter (lends others) (next_parts after h))
+    gather_octets =
         octets_sum (size_of g logs) jobs values zeros
         (count_parts 1 (omega arith) asked asked_are parts values values_are ns ns refl first) count_zeros
         (λ x octets i e.
-        let r = from_map (lent_one others) (next_parts after h) x (subst (In x) gain_is i) in
+        let r = from_map (lent_one others) (next_parts after h) x (subst (In x) gather_is i) in
         ap (size_of g logs) (ap (λ (y : Fetched). y.part) r.2)
         ∙ size_lent r.0 octets r.1 (sym (ap (λ (y : Fetched). y.packet) r.2) ∙ e))
-        ∙ ap (λ (xs : List Fetched). sum_by (size_of g logs) (that_came xs)) gain_is
+        ∙ ap (λ (xs : List Fetched). sum_by (size_of g logs) (that_came xs)) gather_is
         ∙ ap (sum_by (size_of g logs)) (came_lent others (next_parts after h))
+
+    pub gather_comes : GatherComes g logs h others (next_parts after h) jobs values zeros
+    gather_comes = record { outcome = gather_outcome; is = gather_is; parts = gather_parts; octets = gather_octets }

@@ -1,19 +1,17 @@
 -- What is read of a world.
-use Rattle.std.proofs.Common.{◌≡◌, ℕ, ◌+◌, ◌<◌, Bool, true, false, ◌||◌, cond, List, [], ◌∷◌, length, get_or, Option}
-use Rattle.std.proofs.Common.{Some, None, refl, sym, ap, ◌∙◌, arith}
+use Rattle.std.proofs.Common.{◌≡◌, ℕ, ◌+◌, ◌<◌, Bool, cond, List, length, get_or, Option, Some, None, refl, sym, ap}
+use Rattle.std.proofs.Common.{◌∙◌, arith}
 use Rattle.std.specs.Prelude.{is_some}
-use Rattle.std.specs.Ordering.{eq_by_cmp}
 use Rattle.repo_plan.specs.declared.part.Part.{Part}
 use Rattle.sorted_lists.specs.SortedList.{keys, value_of, contains}
 use Rattle.repo_plan.specs.Parts.{part_cmp}
 use Rattle.group_model.specs.Member.{Member, member_holds}
 use Rattle.group_model.specs.Events.{Event}
 use Rattle.group_model.specs.World.{member}
-use Rattle.repo_member.specs.Records as records
 use Rattle.repo_member.specs.Alone.{Alone}
 use Rattle.repo_member.specs.InGroup.{true_packet}
 use Rattle.repo_member.specs.TrueMembers.{true_packets}
-use Rattle.repo_member.proofs.PublicLaws.{stores_those}
+use Rattle.repo_member.proofs.PublicLaws.{stores_those, contains-value}
 use Rattle.bench_world.specs.Worlds.{GroupState, IsTrueState, logs_around, world_of, drawing}
 use Rattle.bench_world.proofs.States.{truly, member_is, stepped}
 
@@ -21,15 +19,6 @@ pub counted_state : (s : GroupState) → IsTrueState s → s.steps < 100000 → 
 counted_state s is few =
     stepped s is few (drawing (λ _ _. 0)) (λ t. omega arith) Event.Traffic tt s.members s.sent s.moment s.tally refl
     is.numbers is.members is.sent refl
-
-contains-value : (packets : List records.Packet) (t : Part)
-    → contains part_cmp (keys packets) t ≡ is_some (value_of part_cmp packets t)
-contains-value [] t = refl
-contains-value (e ∷ es) t = go (eq_by_cmp part_cmp t e.0) (contains-value es t) where
-  go : (b : Bool) → contains part_cmp (keys es) t ≡ is_some (value_of part_cmp es t)
-      → (b || contains part_cmp (keys es) t) ≡ is_some (cond b (Some e.1) (value_of part_cmp es t))
-  go true h = refl
-  go false h = h
 
 module _ (s : GroupState) (is : IsTrueState s) (m : ℕ) (there : m < length s.members) (old : Alone)
     (old_is : old ≡ get_or s.members m old) where

@@ -15,7 +15,7 @@ use Rattle.repo_member.proofs.PublicLaws.{resets_true}
 use Rattle.bench_world.specs.Serving.{outside, keyed}
 use Rattle.bench_world.specs.Worlds.{GroupState, IsTrueState, alone_at, in_groups, logs_around, world_of}
 use Rattle.bench_world.proofs.States.{member_within, changed_state, sound_state, within_more}
-use Rattle.bench_world.proofs.Answered.{sizes_short}
+use Rattle.bench_world.proofs.PacketSizes.{size_short}
 
 pub all_few : (s : GroupState) → IsTrueState s → (j : ℕ) → (alone_at s.members j).machine.draws < 2 ^ 62
 all_few s is j =
@@ -70,7 +70,7 @@ module _ (s : GroupState) (is : IsTrueState s) (few : s.steps < 100000) (draw : 
   pub reset_state : IsTrueState (record mid { members = new })
   reset_state =
       let within : IsWithinSteps (s.steps + 1) (after_settle out (world_of s)) =
-      within_more s is few out (λ t. sizes_short s.keys (logs_around s.members) is.are t) Event.Settle tt in
+      within_more s is few out (λ t. size_short s.keys (logs_around s.members) is.are t) Event.Settle tt in
       changed_state mid truly new mid.sent mid.moment mid.tally mid.steps len
       (λ j l. ap (λ (a : Alone). a.number) (each j (omega (arith, l, len))) ∙ truly.numbers j (omega (arith, l, len)))
       (λ j l. subst (IsTrueMember mid.keys (logs_around mid.members)) (sym (each j (omega (arith, l, len))))

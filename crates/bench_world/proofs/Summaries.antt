@@ -1,12 +1,13 @@
 -- What all catalogues of a world come to.
-use Rattle.std.proofs.Common.{◌≡◌, ℕ, suc, ◌+◌, ◌*◌, ◌≤◌, ◌<◌, Bool, true, false, cond, List, [], ◌∷◌}
-use Rattle.std.proofs.Common.{◌++◌, map, length, get_or, refl, sym, ap, ◌∙◌, subst, arith}
-use Rattle.std.specs.Prelude.{sum_by, filter, unwrap_or}
+use Rattle.std.proofs.Common.{◌≡◌, ℕ, ◌+◌, ◌*◌, ◌≤◌, ◌<◌, List, [], ◌∷◌, ◌++◌, map, length, get_or, refl}
+use Rattle.std.proofs.Common.{sym, ap, ◌∙◌, subst, arith}
+use Rattle.std.specs.Prelude.{sum_by, unwrap_or}
 use Rattle.std.specs.List.{All, concat}
 use Rattle.std.proofs.lemmas.List.{ext_get_or, length-append, length-map, get_or-map, get_or_default}
 use Rattle.std.proofs.lemmas.List.Elements.{All-head, All-tail}
 use Rattle.std.proofs.lemmas.List.Sums.{sum_by-le}
 use Rattle.sorted_lists.specs.Range.{numbers_from}
+use Rattle.sorted_lists.proofs.Ranges.{length-numbers, number_at}
 use Rattle.sorted_lists.proofs.Sets.{In, from_map}
 use Rattle.repo_object.specs.Objects.{IsContent, Post, IsPost, offered}
 use Rattle.repo_object.specs.Objects.Post.{Offers, Withdraws}
@@ -16,18 +17,17 @@ use Rattle.group_model.specs.Member.{Member, is_listed, catalogued, catalogue}
 use Rattle.group_model.specs.Replies.{CatalogueTotals}
 use Rattle.group_model.specs.World.{catalogue_at, member}
 use Rattle.group_model.specs.Steps.{all_totals, catalogue_totals}
-use Rattle.group_model.proofs.Runs.{length_numbers}
 use Rattle.group_model.proofs.Parts.{IsIn, in_published}
 use Rattle.group_model.proofs.Lists.{from_filter, in_at}
+use Rattle.group_model.proofs.Tries.{filter_short}
 use Rattle.repo_member.specs.Alone.{Alone}
 use Rattle.repo_member.specs.InGroup.{in_group}
 use Rattle.repo_member.specs.Listed.{alone_catalogue}
 use Rattle.repo_member.proofs.PublicLaws.{catalogues_alike}
 use Rattle.bench_world.specs.Sums.{totals_in, HasFewTotals}
 use Rattle.bench_world.specs.Worlds.{GroupState, IsTrueState, nobody, alone_at, in_groups, logs_around, world_of}
-use Rattle.bench_world.proofs.Coming.{post_within}
+use Rattle.bench_world.proofs.ClaimedPackets.{post_within}
 use Rattle.bench_world.proofs.States.{in_world, true_in}
-use Rattle.bench_world.proofs.Openings.{number_at}
 
 -- ---- how much entries come to
 
@@ -47,13 +47,6 @@ concat_few (c ∷ cs) h =
     let first : length c ≤ 8000 = (All-head IsContent c cs h).1 in
     let rest : length (concat cs) ≤ length cs * 8000 = concat_few cs (All-tail IsContent c cs h) in
     omega (arith, long, first, rest)
-
-few_filter : {A : Type 0} (p : A → Bool) (xs : List A) → length (filter p xs) ≤ length xs
-few_filter p [] = omega arith
-few_filter p (x ∷ xs) = go (p x) (few_filter p xs) where
-  go : (b : Bool) → length (filter p xs) ≤ length xs → length (cond b (x ∷ filter p xs) (filter p xs)) ≤ suc (length xs)
-  go true h = omega (arith, h)
-  go false h = omega (arith, h)
 
 -- The contents of what is published have few segments and octets.
 few_segments : (n : ℕ) (post : Post) → IsPost n post → length (unwrap_or (offered post) no_object).contents ≤ 20000
@@ -81,7 +74,7 @@ module _ (s : GroupState) (is : IsTrueState s) where
       let steps : length (published (logs_around s.members)) ≤ s.steps = is.within.published in
       let most : s.steps ≤ 100000 = is.steps in
       let kept : length (catalogued (logs_around s.members) m) ≤ length (published (logs_around s.members)) =
-      few_filter (is_listed all m) (published (logs_around s.members)) in
+      filter_short (is_listed all m) (published (logs_around s.members)) in
       let same : length (catalogue (logs_around s.members) m) ≡ length (catalogued (logs_around s.members) m) =
       length-map (catalogued (logs_around s.members) m) published_entry in
       let segments : sum_by (λ e. e.segments) (catalogue (logs_around s.members) m)
@@ -114,7 +107,7 @@ module _ (s : GroupState) (is : IsTrueState s) where
   totals_are =
       let many : length (in_groups s.members) ≡ length s.members = length-map s.members in_group in
       let long : length (numbers_from 0 (length (in_groups s.members))) ≡ length (in_groups s.members) =
-      length_numbers 0 (length (in_groups s.members)) in
+      length-numbers 0 (length (in_groups s.members)) in
       let f : ℕ → CatalogueTotals = λ j. catalogue_totals (catalogue_at (world_of s) j) in
       let left : length (map totals_in s.members) ≡ length s.members = length-map s.members totals_in in
       let right : length (all_totals (world_of s)) ≡ length (numbers_from 0 (length (in_groups s.members))) =

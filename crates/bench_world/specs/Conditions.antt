@@ -37,7 +37,7 @@ pub record CanWant (g : GroupKeys) (ls : Logs) (f : ℕ) (a : Alone) : Type 0 wh
   pub fetcher : IsFetcher f
 
 -- It claims the part of this want, which this publisher has.
-pub record CanTake (g : GroupKeys) (ls : Logs) (f : ℕ) (w : WantedPart) (p a : Alone) : Type 0 where
+pub record CanAccept (g : GroupKeys) (ls : Logs) (f : ℕ) (w : WantedPart) (p a : Alone) : Type 0 where
   pub logs : AreLogs g ls
   pub publisher : IsTrueMember g ls p
   pub number : p.number ≡ w.part.publisher
@@ -55,8 +55,8 @@ pub record CanGetAt (g : GroupKeys) (ls : Logs) (f m : ℕ) (ms : List Alone) : 
   pub there : m < length ms
   pub fetcher : IsFetcher f
 
--- It may ask member `q` for it.
-pub record CanAskAt (g : GroupKeys) (ls : Logs) (f m q : ℕ) (ms : List Alone) : Type 0 where
+-- Member `q` may answer it.
+pub record CanAnswerAt (g : GroupKeys) (ls : Logs) (f m q : ℕ) (ms : List Alone) : Type 0 where
   pub get : CanGetAt g ls f m ms
   pub other : q < length ms
 

@@ -7,7 +7,7 @@ use Rattle.group_model.specs.Member.{insert_keys}
 use Rattle.repo_mirror.specs.MirrorState.{MirrorState, mirror_holdings}
 use Rattle.repo_mirror.specs.Passing.{mirror_takes}
 use Rattle.repo_mirror.specs.TrueMirrors.{IsTrueMirror}
-use Rattle.bench_world.specs.declared.mirroring.Filtering.{Filtering}
+use Rattle.bench_world.specs.declared.holder.Filtering.{Filtering}
 use Rattle.bench_world.specs.Holders.{HolderWords}
 
 -- The parts that it keeps, and the records that it passed over, in order.

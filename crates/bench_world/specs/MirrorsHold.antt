@@ -2,8 +2,9 @@
 use Rattle.std.proofs.Common.{◌≡◌, inl, inr, ℕ, suc, Bool, true, false, cond, ◌==◌, ◌&&◌, ◌||◌, List, [], ◌∷◌, map}
 use Rattle.std.proofs.Common.{Option, Some, None, refl, sym, ap, ◌∙◌, subst, arith}
 use Rattle.std.specs.Prelude.{IfSome, slice_index_or, filter, not, option_map, unwrap_or}
+use Rattle.std.specs.Cmp.{both_ways}
 use Rattle.std.specs.List.{All}
-use Rattle.std.proofs.Math.Bool.{or_comm}
+use Rattle.std.proofs.Math.Bool.{or_comm, and-false}
 use Rattle.std.proofs.lemmas.Bool.{and_parts, and_from, or_cases, eqb-true, eq-eqb}
 use Rattle.repo_plan.specs.declared.part.Part.{Part}
 use Rattle.repo_plan.specs.Parts.{Pair, pair_cmp, part_cmp, pair_of, part_of}
@@ -12,7 +13,6 @@ use Rattle.repo_plan.proofs.Kept.{wanted_parts}
 use Rattle.repo_plan.proofs.Orders.{exact_parts, exact_pairs}
 use Rattle.sorted_lists.specs.SortedList.{keys, contains, insert_keys}
 use Rattle.sorted_lists.proofs.Sets.{In, contains_in, in_contains, in_map, from_map}
-use Rattle.sorted_lists.proofs.RunOrder.{both_ways}
 use Rattle.repo_holdings.specs.Hiding.{with_hidden}
 use Rattle.repo_holdings.specs.Taking.{Fetched, with_fetched, with_all_fetched, with_tries, with_all_tries}
 use Rattle.group_model.specs.Publications.{Logs}
@@ -28,7 +28,7 @@ use Rattle.repo_mirror.specs.MirrorState.{MirrorState, mirror_holdings, fetch_pl
 use Rattle.repo_mirror.specs.Passing.{is_packet_kept, is_fetched_kept, that_are_kept, not_kept, mirror_takes}
 use Rattle.repo_mirror.specs.TrueMirrors.{mirror_in_group, IsTrueMirror, CameForMirror}
 use Rattle.repo_mirror.proofs.PublicLaws.{mirror_is_holder, mirrors_take_true}
-use Rattle.bench_world.specs.declared.mirroring.Filtering.{Filtering}
+use Rattle.bench_world.specs.declared.holder.Filtering.{Filtering}
 use Rattle.bench_world.specs.Holders.{AreHolders, CameForHolder, CameToNothing}
 use Rattle.bench_world.specs.MirrorWords.{mirror_held, mirror_rest, mirror_words}
 
@@ -80,10 +80,7 @@ not_held : (m : MirrorState) (t : Part) → is_wanted (fetch_plan m) t ≡ true
     → contains part_cmp (mirror_held m) t ≡ false
 not_held m t wanted =
     let w = wanted_parts (fetch_plan m) t wanted in
-    held_is m t ∙ (λ i. w.not_held i || (t.part == 0 && w.not_hidden i)) ∙ none (t.part == 0) where
-      none : (b : Bool) → (b && false) ≡ false
-      none true = refl
-      none false = refl
+    held_is m t ∙ (λ i. w.not_held i || (t.part == 0 && w.not_hidden i)) ∙ and-false (t.part == 0)
 
 -- ---- what it takes
 

@@ -1,17 +1,12 @@
 -- How many octets the packets of parts have.
-use Rattle.std.specs.Prelude.{ℕ, [], length, unwrap_or, sum_by, if◌then◌else◌}
+use Rattle.std.specs.Prelude.{ℕ, [], length, unwrap_or, if◌then◌else◌}
 use Rattle.repo_plan.specs.declared.part.Part.{Part}
-use Rattle.sorted_lists.specs.SortedList.{keys, contains}
+use Rattle.sorted_lists.specs.SortedList.{contains}
 use Rattle.repo_plan.specs.Parts.{part_cmp}
 use Rattle.group_model.specs.Publications.{Logs, all_parts}
 use Rattle.repo_member.specs.Groups.{GroupKeys}
-use Rattle.repo_member.specs.Alone.{Alone}
 use Rattle.repo_member.specs.InGroup.{true_packet}
 
 -- The octets of the packet of a part, where there is such a part.
 abbrev pub size_of : GroupKeys → Logs → Part → ℕ
 size_of g logs t = if contains part_cmp (all_parts logs) t then length (unwrap_or (true_packet g logs t) []) else 0
-
--- Those of all parts that a member stores.
-abbrev pub held_octets : GroupKeys → Logs → Alone → ℕ
-held_octets g logs a = sum_by (size_of g logs) (keys a.store)

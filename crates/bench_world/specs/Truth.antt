@@ -1,5 +1,5 @@
 -- What was published in a group, and who tried few times.
-use Rattle.std.specs.Prelude.{ℕ, ◌+◌, ◌<◌, ◌^◌, Bool, List, map, length}
+use Rattle.std.specs.Prelude.{ℕ, ◌+◌, ◌<◌, ◌^◌, Bool, List, length}
 use Rattle.repo_plan.specs.declared.part.Part.{Part}
 use Rattle.sorted_lists.specs.SortedList.{keys, contains}
 use Rattle.repo_plan.specs.Parts.{part_cmp}
@@ -11,9 +11,7 @@ use Rattle.repo_member.specs.Alone.{Alone, alone_holdings}
 use Rattle.repo_member.specs.InGroup.{AreLogs}
 use Rattle.bench_world.specs.Worlds.{alone_at}
 
-abbrev pub logs_in : List Alone → Logs
-logs_in members = map (λ a. a.log) members
-
+-- A member stores the packet of a part.
 abbrev pub stores : Alone → Part → Bool
 stores a t = contains part_cmp (keys a.store) t
 

@@ -1,6 +1,6 @@
 // Packets that come for what fetchers claim.
 ghost use Rattle.std.specs.Prelude.{◌≡◌, ◌⊎◌, ◌↔◌, Ok, Err, Some, None, IfOk, IfErr, OnOk, OnErr};
-ghost use Rattle.std.specs.Prelude.{length, unwrap_or, option_map, slice_set, []};
+ghost use Rattle.std.specs.Prelude.{unwrap_or, option_map, slice_set, []};
 ghost use Rattle.std.specs.Str.{bytes_eq};
 ghost use Rattle.repo_plan.specs.Plan.{claim_of};
 ghost use Rattle.repo_store.specs.Served.{served};
@@ -9,7 +9,7 @@ ghost use Rattle.group_model.specs.Events.Came.{Another};
 ghost use Rattle.repo_member.specs.Alone.{alone_plan};
 ghost use Rattle.repo_member.specs.InGroup.{true_packet};
 ghost use Rattle.repo_member.specs.TrueMembers.{true_want};
-ghost use Rattle.bench_world.specs.Conditions.{CanCompare, CanWant, CanTake, CanGetAt, CanAskAt};
+ghost use Rattle.bench_world.specs.Conditions.{CanCompare, CanWant, CanAccept, CanGetAt, CanAnswerAt};
 ghost use Rattle.bench_world.specs.Worlds.{alone_at};
 ghost use Rattle.bench_world.specs.Serving.{octets_as, judged_packet, found};
 ghost use Rattle.bench_world.specs.Answering.{answered, claim_in, came_in, came_for, lender_of, fed_as, kept_of};
@@ -65,9 +65,9 @@ fn want_for(alloc: Global, g: &Group, member: &Member, f: u8) -> Result<Want, St
     }
 }
 
-// Octets are taken for what a member's fetcher claims, where they pass for it and are its publisher's packet. They are
-// foreign where they pass and aren't.
-fn take(
+// Octets are accepted for what a member's fetcher claims, where they pass for it and are its publisher's packet. They
+// are foreign where they pass and aren't.
+fn accept(
     g: &Group,
     publisher: &Member,
     asker: &mut Member,
@@ -76,7 +76,7 @@ fn take(
     octets: &[u8],
 ) -> Result<Fed, StepFault>
     ghost logs: { Logs }
-    requires { CanTake g.now logs f want.now publisher.now asker.old }
+    requires { CanAccept g.now logs f want.now publisher.now asker.old }
     ensures fed { IfOk result (λ fed. fed ≡ fed_as g.now logs octets.now want.now.part) }
     ensures asker { OnOk result (asker.new ≡ accepts_claimed g.now logs f want.now.part
         (octets_as g.now logs want.now.part octets.now) asker.old) }
@@ -110,8 +110,8 @@ fn served_to<'a>(member: &'a Member, want: &Want) -> Option<&'a [u8]>
     }
 }
 
-// What is served is taken, if anything is: how many octets are kept, if they are.
-fn take_served(
+// What is served is accepted, if anything is: how many octets are kept, if they are.
+fn accept_served(
     g: &Group,
     publisher: &Member,
     asker: &mut Member,
@@ -120,7 +120,7 @@ fn take_served(
     packet: Option<&[u8]>,
 ) -> Result<Option<u64>, StepFault>
     ghost logs: { Logs }
-    requires { CanTake g.now logs f want.now publisher.now asker.old }
+    requires { CanAccept g.now logs f want.now publisher.now asker.old }
     ensures kept { IfOk result (λ kept. answered g.now logs (Some want.now.part)
         (judged_packet g.now logs want.now.part (option_map (λ octets. octets.now) packet.entry)) ≡ Ok kept) }
     ensures asker { OnOk result (asker.new ≡ accepts_claimed g.now logs f want.now.part
@@ -133,15 +133,15 @@ fn take_served(
     let Some(octets) = packet else {
         return Ok(None);
     };
-    match take(g, publisher, asker, f, want, octets) {
+    match accept(g, publisher, asker, f, want, octets) {
         Ok(Fed::Kept) => Ok(Some(octets.len() as u64)),
         Ok(Fed::Refused { .. }) => Ok(None),
         Err(fault) => Err(fault),
     }
 }
 
-// A member asks another, or itself where there is no other: how many octets are kept, if what came is.
-fn ask_one(
+// Another member answers, or the asker itself where there is no other: how many octets are kept, if what came is.
+fn answer_from(
     alloc: Global,
     g: &Group,
     publisher: &Member,
@@ -151,7 +151,7 @@ fn ask_one(
     want: &Want,
 ) -> Result<Option<u64>, StepFault>
     ghost logs: { Logs }
-    requires { CanTake g.now logs f want.now publisher.now asker.old }
+    requires { CanAccept g.now logs f want.now publisher.now asker.old }
     ensures kept { IfOk result (λ kept. answered g.now logs (Some want.now.part) (judged_packet g.now logs want.now.part
         (found (served want.now.interest (lender_of asker.old (option_map (λ a. a.now) lender.entry)).store)))
         ≡ Ok kept) }
@@ -166,18 +166,18 @@ fn ask_one(
     ensures err { OnErr result (asker.new ≡ asker.old) }
 {
     if let Some(lender) = lender {
-        return take_served(g, publisher, asker, f, want, served_to(lender, want));
+        return accept_served(g, publisher, asker, f, want, served_to(lender, want));
     }
     let Some(octets) = served_to(asker, want) else {
         return Ok(None);
     };
     // What a member lends itself is lent as a copy.
     let copy = octets.to_vec(alloc)?;
-    take_served(g, publisher, asker, f, want, Some(copy.as_slice()))
+    accept_served(g, publisher, asker, f, want, Some(copy.as_slice()))
 }
 
-// A member's fetcher asks another for what it claims: how many octets are kept, if what came is.
-pub(crate) fn ask(
+// Another member answers a member's fetcher for what that claims: how many octets are kept, if what came is.
+pub(crate) fn answer(
     alloc: Global,
     g: &Group,
     members: &mut Vec<Member>,
@@ -186,7 +186,7 @@ pub(crate) fn ask(
     q: u32,
 ) -> Result<Option<u64>, StepFault>
     ghost logs: { Logs }
-    requires { CanAskAt g.now logs f m q members.old.items }
+    requires { CanAnswerAt g.now logs f m q members.old.items }
     ensures kept { IfOk result (λ kept. answered g.now logs (claim_in members.old.items m f)
         (came_in g.now logs members.old.items q (claim_in members.old.items m f)) ≡ Ok kept) }
     ensures members { OnOk result (members.new.items ≡ slice_set members.old.items m
@@ -205,7 +205,7 @@ pub(crate) fn ask(
         without: m,
     };
     let publisher = others.publisher(want.part());
-    let kept = ask_one(alloc, g, publisher, others.get(q), &mut asker, f, &want);
+    let kept = answer_from(alloc, g, publisher, others.get(q), &mut asker, f, &want);
     // There is room where the member stood.
     let Ok(()) = members.insert(m as usize, asker) else {
         unreachable!()
@@ -213,7 +213,7 @@ pub(crate) fn ask(
     kept
 }
 
-// Octets from outside are taken for what a member's fetcher claims, if they are its publisher's packet.
+// Octets from outside are accepted for what a member's fetcher claims, if they are its publisher's packet.
 pub(crate) fn feed(
     alloc: Global,
     g: &Group,
@@ -244,7 +244,7 @@ pub(crate) fn feed(
         without: m,
     };
     let publisher = others.publisher(want.part());
-    let fed = take(g, publisher, &mut asker, f, &want, octets);
+    let fed = accept(g, publisher, &mut asker, f, &want, octets);
     // There is room where the member stood.
     let Ok(()) = members.insert(m as usize, asker) else {
         unreachable!()

@@ -72,7 +72,8 @@ pub(crate) fn fetch<N: Net + Sync, R: Threads + Sync, H: Holder>(
     })
 }
 
-/// The same of all members, by who publishes nothing.
+/// The same of all members, by who publishes nothing: how many parts were asked for, how many came, and how many
+/// attempts were made.
 pub(crate) fn fetch_of_all<N: Net + Sync, R: Threads + Sync, H: Holder>(
     rt: &R,
     alloc: Global,
@@ -81,21 +82,22 @@ pub(crate) fn fetch_of_all<N: Net + Sync, R: Threads + Sync, H: Holder>(
     workers: u32,
     tries: u32,
     holder: &mut H,
-) -> Result<FetchCounts, AllocError>
+) -> Result<(u32, u32, u64), AllocError>
     requires { CanFetch H.words g.now (logs_around link.now.others.now) workers tries link.now.others.now holder.old }
     ensures new { OnOk result (holder.new ≡ H.words.takes (fetched_all
         (attempt_comes (N.passes link.now.net.now) link.now.asker link.now.loss) link.now.others.now tries
         (H.words.holdings holder.old) (next_parts None (H.words.holdings holder.old))) holder.old) }
-    ensures planned { IfOk result (λ r. r.planned ≡ length (next_parts None (H.words.holdings holder.old))) }
-    ensures parts { IfOk result (λ r. r.kept.parts ≡ length (that_came (fetched_all
+    ensures planned { IfOk result (λ r. r.0 ≡ length (next_parts None (H.words.holdings holder.old))) }
+    ensures parts { IfOk result (λ r. r.1 ≡ length (that_came (fetched_all
         (attempt_comes (N.passes link.now.net.now) link.now.asker link.now.loss) link.now.others.now tries
         (H.words.holdings holder.old) (next_parts None (H.words.holdings holder.old))))) }
-    ensures attempts { IfOk result (λ r. r.attempts ≡ sum (map (λ x. x.attempts) (fetched_all
+    ensures attempts { IfOk result (λ r. r.2 ≡ sum (map (λ x. x.attempts) (fetched_all
         (attempt_comes (N.passes link.now.net.now) link.now.asker link.now.loss) link.now.others.now tries
         (H.words.holdings holder.old) (next_parts None (H.words.holdings holder.old))))) }
     ensures err { OnErr result (holder.new ≡ holder.old) }
 {
-    fetch(rt, alloc, g, link, workers, tries, holder)
+    let counts = fetch(rt, alloc, g, link, workers, tries, holder)?;
+    Ok((counts.planned as u32, counts.kept.parts, counts.attempts))
 }
 
 // The sum of numbers.

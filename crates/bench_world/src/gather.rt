@@ -28,7 +28,7 @@ const NOTHING: Kept = Kept {
 };
 
 // One phase, of the parts behind a place: the last part that was asked for, if one was, and what came.
-fn gain_phase<N: Net + Sync, R: Threads + Sync, H: Holder>(
+fn gather_phase<N: Net + Sync, R: Threads + Sync, H: Holder>(
     rt: &R,
     alloc: Global,
     g: &Group,
@@ -61,7 +61,7 @@ fn gain_phase<N: Net + Sync, R: Threads + Sync, H: Holder>(
 }
 
 // Phases from the first wanted part to the last: what came.
-fn gain_round<N: Net + Sync, R: Threads + Sync, H: Holder>(
+fn gather_round<N: Net + Sync, R: Threads + Sync, H: Holder>(
     rt: &R,
     alloc: Global,
     g: &Group,
@@ -79,7 +79,7 @@ fn gain_round<N: Net + Sync, R: Threads + Sync, H: Holder>(
     let mut kept = NOTHING;
     let mut after = None;
     'phases: loop {
-        let (place, came) = gain_phase(rt, alloc, g, link, workers, holder, after)?;
+        let (place, came) = gather_phase(rt, alloc, g, link, workers, holder, after)?;
         kept.parts += came.parts;
         kept.octets += came.octets;
         let Some(last) = place else {
@@ -107,7 +107,7 @@ pub(crate) fn gather<N: Net + Sync, R: Threads + Sync, H: Holder>(
 {
     let mut kept = NOTHING;
     'rounds: loop {
-        let came = gain_round(rt, alloc, g, link, workers, holder)?;
+        let came = gather_round(rt, alloc, g, link, workers, holder)?;
         kept.parts += came.parts;
         kept.octets += came.octets;
         if came.parts == 0 {
@@ -116,7 +116,7 @@ pub(crate) fn gather<N: Net + Sync, R: Threads + Sync, H: Holder>(
     }
 }
 
-/// The same of all members, by who publishes nothing.
+/// The same of all members, by who publishes nothing: how many parts came.
 pub(crate) fn gather_of_all<N: Net + Sync, R: Threads + Sync, H: Holder>(
     rt: &R,
     alloc: Global,
@@ -124,13 +124,14 @@ pub(crate) fn gather_of_all<N: Net + Sync, R: Threads + Sync, H: Holder>(
     link: &MemberLink<'_, N>,
     workers: u32,
     holder: &mut H,
-) -> Result<Kept, AllocError>
+) -> Result<u32, AllocError>
     requires { CanGather H.words
         g.now (logs_around link.now.others.now) workers link.now.others.now link.now.loss holder.old }
     ensures gains { GainsParts H.words
         g.now (logs_around link.now.others.now) link.now.others.now holder.old holder.new }
-    ensures parts { IfOk result (λ kept. Counts H.words one_each kept.parts holder.old holder.new) }
+    ensures parts { IfOk result (λ parts. Counts H.words one_each parts holder.old holder.new) }
     ensures left { OnOk result (NothingLeft H.words link.now.others.now holder.new) }
 {
-    gather(rt, alloc, g, link, workers, holder)
+    let kept = gather(rt, alloc, g, link, workers, holder)?;
+    Ok(kept.parts)
 }

@@ -25,6 +25,7 @@ pub(crate) fn told_by(
 ) -> Result<(u32, Vector), HearRefusal>
     requires group { IsOfGroup g.now member.now }
     requires number { number ≡ member.now.number }
+    requires there { number < length member.now.known }
     ensures told { IfOk result (λ told. told_sync (length member.now.log) number (group_verdict g.now octets.now)
         ≡ Ok (record { sender = told.0; vector = told.1 })) }
     ensures fits { IfOk result (λ told. vector_verdict member.now told.1 ≡ Ok told.1) }
@@ -32,13 +33,12 @@ pub(crate) fn told_by(
     ensures refused { IfErr result (λ refusal. (refusal ≡ HearRefusal.NoMemory)
         ⊎ (told_sync (length member.now.log) number (group_verdict g.now octets.now) ≡ Err refusal)) }
 {
+    g.is_sound();
     let (signer, vector) = match check_sync(alloc, octets, g.name(), g.roster(), g.members()) {
         Ok(told) => told,
         Err(SyncRefusal::NoMemory) => return Err(HearRefusal::NoMemory),
         Err(refusal) => return Err(HearRefusal::Sync(refusal)),
     };
-    // Read for its clause alone: the member is one of its group.
-    let _known = member.vector();
     let own = member.log_len();
     let told = u32::from(vector.get(number));
     if told > own {

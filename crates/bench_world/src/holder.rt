@@ -7,8 +7,10 @@ ghost use Rattle.bench_world.specs.Holders.{HolderWords, AreHolders};
 
 use fetch_work::digests;
 use repo_member::{Group, Kept, Member};
+use repo_mirror::Mirror;
 use repo_object::{Checked, Job};
 use repo_plan::Part;
+use repo_watch::Filter;
 use std::alloc::{AllocError, Global};
 use std::thread::Threads;
 
@@ -93,4 +95,64 @@ impl Holder for Member {
     }
 
     ghost are_holders = { members_hold };
+}
+
+/// A mirror, with the rule by which its pattern is for objects.
+#[derive(Drop)]
+pub(crate) struct Filtering<'f> {
+    pub(crate) mirror: Mirror,
+    pub(crate) filter: &'f Filter,
+}
+
+impl<'f> Holder for Filtering<'f> {
+    ghost use Rattle.bench_world.specs.MirrorWords.{mirror_words};
+    ghost use Rattle.bench_world.specs.MirrorsHold.{mirrors_hold};
+
+    ghost words = { mirror_words };
+
+    fn jobs(
+        &self,
+        alloc: Global,
+        g: &Group,
+        after: Option<Part>,
+        most: usize,
+    ) -> Result<Vec<Job>, AllocError> {
+        g.is_sound();
+        self.mirror.plan(alloc, g.roster(), g.name(), after, most)
+    }
+
+    fn take<R: Threads + Sync>(
+        &mut self,
+        _rt: &R,
+        alloc: Global,
+        _g: &Group,
+        _workers: u32,
+        jobs: &[Job],
+        parts: &[Option<Checked<'_>>],
+        attempts: &[u32],
+    ) -> Result<Kept, AllocError> {
+        let kept = self
+            .mirror
+            .take_outcome(alloc, self.filter, jobs, parts, attempts)?;
+        Ok(Kept {
+            parts: kept,
+            octets: octets_that_came(parts),
+        })
+    }
+
+    ghost are_holders = { mirrors_hold };
+}
+
+// How many octets came.
+fn octets_that_came(parts: &[Option<Checked<'_>>]) -> u64
+    requires { length parts.now ≤ job_limit }
+    ensures { result ≡ sum_by octets_in parts.now }
+{
+    let mut octets = 0;
+    for part in parts {
+        if let Some(checked) = part {
+            octets += checked.octets().len() as u64;
+        }
+    }
+    octets
 }

@@ -8,7 +8,6 @@
 
 mod answering;
 mod event;
-mod exchange;
 mod fetch;
 mod gather;
 mod hearing;
@@ -16,8 +15,10 @@ mod holder;
 mod issued;
 mod laws;
 mod lending;
+mod member_fetching;
+mod member_gathering;
+mod mirror_fetching;
 mod mirror_gathering;
-mod mirroring;
 mod numbers;
 mod others;
 mod settling;

@@ -8,17 +8,17 @@ ghost use Rattle.bench_world.specs.MirrorSettles.{ArePartlySettledMirrors, held_
 ghost use Rattle.bench_world.specs.Worlds.{logs_around, only_members};
 
 use crate::gather::gather_of_all;
+use crate::holder::Filtering;
 use crate::lending::MemberLink;
-use crate::mirroring::Filtering;
 use bench_net::OpenNet;
-use repo_member::{Group, Kept, Member};
+use repo_member::{Group, Member};
 use repo_mirror::Mirror;
 use repo_watch::Filter;
 use std::alloc::{AllocError, Global};
 use std::thread::Threads;
 use svs_vector::Vector;
 
-// One mirror learns what all know, and gathers what members store: what came.
+// One mirror learns what all know, and gathers what members store: how many parts came.
 fn gather_for<R: Threads + Sync>(
     rt: &R,
     alloc: Global,
@@ -29,13 +29,13 @@ fn gather_for<R: Threads + Sync>(
     mirrors: &mut Vec<Mirror>,
     filter: &Filter,
     i: u32,
-) -> Result<Kept, AllocError>
+) -> Result<u32, AllocError>
     requires { CanGatherFor g.now workers i members.now known.now mirrors.old.items }
     ensures others { mirrors.new.items ≡ slice_set mirrors.old.items i (mirror_at mirrors.new.items i) }
     ensures truly { IsTrueMirror g.now (logs_around members.now) (mirror_at mirrors.new.items i) }
     ensures settled { OnOk result
         (HasSettled (only_members members.now) (mirror_at mirrors.old.items i) (mirror_at mirrors.new.items i)) }
-    ensures parts { IfOk result (λ kept. kept.parts + held_by (mirror_at mirrors.old.items i)
+    ensures parts { IfOk result (λ parts. parts + held_by (mirror_at mirrors.old.items i)
         ≡ held_by (mirror_at mirrors.new.items i)) }
     ensures partly { IsPartlySettledMirror
         (only_members members.now) (mirror_at mirrors.old.items i) (mirror_at mirrors.new.items i) }
@@ -83,7 +83,7 @@ pub(crate) fn gather_for_all<R: Threads + Sync>(
     let mut parts = 0;
     for i in 0..count {
         let came = gather_for(rt, alloc, g, workers, members, known, mirrors, filter, i)?;
-        parts += u64::from(came.parts);
+        parts += u64::from(came);
     }
     Ok(parts)
 }

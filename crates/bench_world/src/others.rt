@@ -1,5 +1,5 @@
 // A member of a group that is taken out for a while, and the others.
-ghost use Rattle.std.specs.Prelude.{◌≡◌, ◌≢◌, ◌<◌, ◌≤◌, ◌+◌, length, option_map};
+ghost use Rattle.std.specs.Prelude.{◌≡◌, ◌≢◌, ◌<◌, ◌+◌, length, option_map};
 ghost use Rattle.bench_world.specs.Worlds.{alone_at};
 ghost use Rattle.bench_world.specs.Others.{place_among_others, other_at};
 

@@ -9,7 +9,7 @@ ghost use Rattle.bench_world.specs.Worlds.{alone_at, in_groups, tells, AllCounts
 ghost use Rattle.bench_world.specs.Worlds.{MembersAreNumbered};
 ghost use Rattle.bench_world.specs.Settling.{told_of, gain_sum, ArePartlySettled};
 
-use crate::exchange::gather_all;
+use crate::member_gathering::gather_all;
 use crate::telling::{Told, all_known, learn_all, tell_all};
 use bench_net::{Draws, Net, Sent};
 use repo_member::{Group, Member};

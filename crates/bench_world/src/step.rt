@@ -44,8 +44,7 @@ impl World {
             (world_of self.old) (group_event self.old.keys (event_value event.now)))) }
         ensures err { OnErr result (StandsAsBefore (event_value event.now) self.old self.new) }
     {
-        // Read for its clauses alone: the invariant holds.
-        let _count = self.members();
+        self.is_sound();
         self.order_names_for(event);
         self.carry_out(rt, event, net, draws)
     }
@@ -155,8 +154,7 @@ impl World {
         ensures keys { self.new.keys ≡ self.old.keys }
         ensures mirrors { self.new.mirrors ≡ self.old.mirrors }
     {
-        // Read for its clauses alone: the invariant holds.
-        let _count = self.members();
+        self.is_sound();
         let mut made = 0;
         for event in events {
             match self.step(rt, event, net, draws) {

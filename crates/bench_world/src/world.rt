@@ -7,12 +7,13 @@ ghost use Rattle.bench_world.specs.Worlds.{world_of, alone_at, drawing, begun_al
 mod blocks;
 mod claiming;
 mod commanding;
-mod gaining;
+mod fetching;
 mod mirror_settling;
 mod mirrors;
 mod publishing;
 mod reading;
 mod serving;
+mod settling;
 mod syncing;
 
 use crate::issued::IssuedCommands;
@@ -66,8 +67,7 @@ impl World {
         ensures mirrors { IfOk result (λ world. world.mirrors ≡ []) }
     {
         let members = begin_all(alloc, &group, draws)?;
-        // Read for its clause alone: the group is one.
-        let _roster = group.roster();
+        group.is_sound();
         Ok(World {
             alloc,
             group,
@@ -148,14 +148,18 @@ impl World {
         self.steps += 1;
     }
 
-    /// How many members there are.
-    //
-    // A caller sees the value alone, so `sound` states what holds of every world.
-    pub fn members(&self) -> usize
-        ensures len { result ≡ length self.now.members }
+    /// What holds of every world. Costs nothing, and is called for its clauses.
+    pub fn is_sound(&self)
         ensures names { length self.now.members ≡ length self.now.keys.members.names }
         ensures sound { IsSoundGroup (world_of self.now) }
         ensures truly { IsTrueState self.now }
+    {
+        let _ = &self.members;
+    }
+
+    /// How many members there are.
+    pub fn members(&self) -> usize
+        ensures len { result ≡ length self.now.members }
     {
         self.members.len()
     }
@@ -166,6 +170,7 @@ fn begin_all<D: Draws>(alloc: Global, g: &Group, draws: &D) -> Result<Vec<Member
     ensures { IfOk result (λ members. members.items
         ≡ begun_all (length g.now.members.names) (D.draw draws.now)) }
 {
+    g.is_sound();
     let count = g.roster().len() as u32;
     let mut members = Vec::with_capacity(alloc, count as usize)?;
     for number in 0..count {

@@ -37,8 +37,7 @@ impl World {
         ensures mirrors { self.new.mirrors ≡ self.old.mirrors }
         ensures err { OnErr result (self.new ≡ self.old) }
     {
-        // Read for its clause alone: the group is one.
-        let _roster = self.group.roster();
+        self.group.is_sound();
         let octets = made(self.alloc, &self.group, m, client, &command)?;
         self.issued.reserve(1)?;
         let member = &mut self.members[m as usize];
@@ -73,8 +72,7 @@ impl World {
         ensures { IsStep (keyed self.old.keys) (EventValue.Insert m client name.now first last)
             self.old result self.new }
     {
-        // Read for its clause alone: the components are a name's.
-        let _octets = name.octets();
+        name.is_sound();
         let command = Command::Insert {
             name: name.clone()?,
             first,
@@ -127,8 +125,7 @@ impl World {
         requires few { self.old.steps < 100000 }
         ensures { IsStep (keyed self.old.keys) (EventValue.Delete m client name.now) self.old result self.new }
     {
-        // Read for its clause alone: the components are a name's.
-        let _octets = name.octets();
+        name.is_sound();
         let command = Command::Delete {
             name: name.clone()?,
         };
@@ -171,8 +168,7 @@ fn client_key_name(alloc: Global, g: &Group, client: u32) -> Result<Name, AllocE
     requires { client < length g.now.clients.names }
     ensures { IfOk result (λ name. name ≡ key_name (client_at g.now client)) }
 {
-    // Read for its clause alone: the group is one.
-    let _roster = g.roster();
+    g.is_sound();
     // The octets are those of a name, which is short, so only memory can be wanting.
     let Ok(view) = NameView::read(g.clients().name(client), 0) else {
         unreachable!()
@@ -196,6 +192,7 @@ fn made(
     requires command { is_command command.now ≡ true }
     ensures { IfOk result (λ octets. octets.items ≡ order_made g.now m client command.now) }
 {
+    g.is_sound();
     let key_name = client_key_name(alloc, g, client)?;
     let octets = make_command(
         alloc,
@@ -223,6 +220,7 @@ fn order_verdict(
     ensures refused { IfErr result (λ fault. (fault ≡ StepFault.NoMemory) ⊎ ((fault ≡ StepFault.Foreign)
         × (may_order issued.now.commands m (order_of g.now m octets.now) ≡ false))) }
 {
+    g.is_sound();
     match check_command(alloc, octets, g.roster().name(m), g.clients()) {
         Ok((client, command)) => {
             let order = IssuedCommand {

@@ -14,7 +14,7 @@ ghost use Rattle.bench_world.specs.Worlds.{world_of};
 
 use super::World;
 use crate::event::StepFault;
-use crate::mirroring::fetch_for;
+use crate::mirror_fetching::fetch_for;
 use crate::numbers::vector_of;
 use bench_net::Net;
 use repo_catalog::Catalogue;
@@ -118,7 +118,7 @@ impl World {
             (mirror_asks (world_of self.old) (mirror_at self.old.mirrors i))) }
         ensures err { OnErr result (self.new ≡ self.old) }
     {
-        let fetched = fetch_for(
+        let counts = fetch_for(
             rt,
             self.alloc,
             &self.group,
@@ -130,13 +130,9 @@ impl World {
             i,
             tries,
             loss,
-        );
-        let counts = match fetched {
-            Ok(counts) => counts,
-            Err(error) => return Err(error),
-        };
+        )?;
         self.steps += 1;
-        Ok((counts.planned as u32, counts.kept.parts, counts.attempts))
+        Ok(counts)
     }
 
     /// What a mirror's catalogue lists: the objects that its pattern is for of which it holds every part, and no

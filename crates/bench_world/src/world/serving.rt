@@ -11,7 +11,7 @@ ghost use Rattle.bench_world.specs.EventValues.{mode_told};
 ghost use Rattle.bench_world.specs.Runs.{IsStep};
 
 use super::World;
-use crate::answering::{Fed, ask, feed};
+use crate::answering::{Fed, answer, feed};
 use crate::event::{Happened, StepFault};
 use crate::hearing::{hear_sent, told_by};
 use bench_net::Draws;
@@ -38,7 +38,7 @@ impl World {
         requires few { self.old.steps < 100000 }
         ensures { IsStep (keyed self.old.keys) (EventValue.Answer m f q) self.old result self.new }
     {
-        let kept = match ask(self.alloc, &self.group, &mut self.members, m, f as u8, q) {
+        let kept = match answer(self.alloc, &self.group, &mut self.members, m, f as u8, q) {
             Ok(kept) => kept,
             Err(fault) => return Err(fault),
         };

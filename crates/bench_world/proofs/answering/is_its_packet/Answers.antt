@@ -3,7 +3,7 @@ use Rattle.std.proofs.Common.{◌∙◌, option_map, [], sym, ap}
 use Rattle.std.specs.Prelude.{unwrap_or}
 use Rattle.std.specs.Str.{bytes_eq}
 use Rattle.repo_member.proofs.PublicLaws.{logs_those}
-use Rattle.bench_world.proofs.Coming.{stored_same, not_none}
+use Rattle.bench_world.proofs.ClaimedPackets.{stored_same, not_none}
 use Rattle.bench_world.proofs.answering.is_its_packet.Goals as goal
 
 pub returns-in-Some : goal.returns-in-Some

@@ -1,5 +1,5 @@
 -- That the want is that of the published part.
-use Rattle.bench_world.proofs.Coming.{want_claimed, want_true}
+use Rattle.bench_world.proofs.ClaimedPackets.{want_claimed, want_true}
 use Rattle.bench_world.proofs.answering.want_for.Goals as goal
 
 pub returns-in-Ok-clause-claim : goal.returns-in-Ok-clause-claim

@@ -1,8 +1,7 @@
 use Rattle.std.proofs.Common.{◌≡◌, None, List, length, sym, ap, ◌∙◌, arith}
 use Rattle.std.specs.Prelude.{sum}
 use Rattle.repo_holdings.specs.Taking.{Fetched}
-use Rattle.bench_world.proofs.Phases.{few_jobs, count_jobs, can_be_tried, count_attempts, fetch_outcome, fetch_is}
-use Rattle.bench_world.proofs.Phases.{fetch_parts, fetch_octets, fetch_attempts}
+use Rattle.bench_world.proofs.Phases.{few_jobs, count_jobs, can_be_tried, fetch_comes}
 use Rattle.bench_world.proofs.Bounded.{condition_of_holder}
 use Rattle.bench_world.proofs.fetch.fetch.Goals as goal
 
@@ -41,13 +40,14 @@ take-requires-clause-outcome g c =
     let can = condition_of_holder c.requires in
     let held = g.H.Holder.words.holdings c.args.holder.now in
     let truly = g.met.H.Holder.are_holders.holder c.args.g.now g.logs c.args.holder.now can.truly in
-    fetch_outcome (g.N.Net.passes c.args.link.now.net.now) c.args.g.now g.logs held
-    c.args.link.now.others.now c.args.link.now.asker c.args.link.now.loss can.logs.are truly can.others
-    can.tried None c.deref-2.result.now (c.deref-2.ensures.value ∙ c.in_ok-jobs.ensures)
-    c.members.result.now c.members.ensures.ring
-    c.args.tries can.tries.1 c.deref.result.now (c.deref.ensures.value ∙ c.in_ok-jobs.ensures)
+    let came =
+    fetch_comes (g.N.Net.passes c.args.link.now.net.now) c.args.g.now g.logs held c.args.link.now.others.now
+    c.args.link.now.asker c.args.link.now.loss can.logs.are truly can.others can.tried None c.deref-2.result.now
+    (c.deref-2.ensures.value ∙ c.in_ok-jobs.ensures) c.members.result.now c.members.ensures.ring c.args.tries
+    can.tries.1 c.deref.result.now (c.deref.ensures.value ∙ c.in_ok-jobs.ensures)
     c.in_ok-outcome.outcome.parts.items c.deref-3.result.now c.deref-3.ensures.value
-    c.in_ok-outcome.outcome.attempts.items c.deref-4.result.now c.deref-4.ensures.value c.in_ok-outcome.ensures.first
+    c.in_ok-outcome.outcome.attempts.items c.deref-4.result.now c.deref-4.ensures.value c.in_ok-outcome.ensures.first in
+    came.outcome
 
 pub total-requires : goal.total-requires
 total-requires g c =
@@ -59,84 +59,45 @@ total-requires g c =
     c.args.link.now.asker c.args.link.now.loss can.logs.are truly can.others
     can.tried None c.deref-2.result.now (c.deref-2.ensures.value ∙ c.in_ok-jobs.ensures)
     c.members.result.now c.members.ensures.ring in
-    let many =
-    count_attempts (g.N.Net.passes c.args.link.now.net.now) c.args.g.now g.logs held
-    c.args.link.now.others.now c.args.link.now.asker c.args.link.now.loss can.logs.are truly can.others
-    can.tried None c.deref-2.result.now (c.deref-2.ensures.value ∙ c.in_ok-jobs.ensures)
-    c.members.result.now c.members.ensures.ring
-    c.args.tries can.tries.1 c.deref.result.now (c.deref.ensures.value ∙ c.in_ok-jobs.ensures)
+    let came =
+    fetch_comes (g.N.Net.passes c.args.link.now.net.now) c.args.g.now g.logs held c.args.link.now.others.now
+    c.args.link.now.asker c.args.link.now.loss can.logs.are truly can.others can.tried None c.deref-2.result.now
+    (c.deref-2.ensures.value ∙ c.in_ok-jobs.ensures) c.members.result.now c.members.ensures.ring c.args.tries
+    can.tries.1 c.deref.result.now (c.deref.ensures.value ∙ c.in_ok-jobs.ensures)
     c.in_ok-outcome.outcome.parts.items c.deref-3.result.now c.deref-3.ensures.value
     c.in_ok-outcome.outcome.attempts.items c.deref-4.result.now c.deref-4.ensures.value c.in_ok-outcome.ensures.first in
+    let many = came.many in
     let same : length c.deref-5.result.now ≡ length c.deref-4.result.now =
     ap length (c.deref-5.ensures.value ∙ sym c.deref-4.ensures.value) in
     omega (arith, few, many, same)
 
-pub returns-clause-new : goal.returns-clause-new
-returns-clause-new g c =
+pub returns : goal.returns
+returns g c =
     let can = condition_of_holder c.requires in
     let held = g.H.Holder.words.holdings c.args.holder.now in
     let truly = g.met.H.Holder.are_holders.holder c.args.g.now g.logs c.args.holder.now can.truly in
-    c.in_ok-kept.ensures.ok ∙ ap (λ (xs : List Fetched). g.H.Holder.words.takes xs c.args.holder.now)
-    (fetch_is (g.N.Net.passes c.args.link.now.net.now) c.args.g.now g.logs held c.args.link.now.others.now
-    c.args.link.now.asker c.args.link.now.loss can.logs.are truly can.others
-    can.tried None c.deref-2.result.now (c.deref-2.ensures.value ∙ c.in_ok-jobs.ensures)
-    c.members.result.now c.members.ensures.ring
-    c.args.tries can.tries.1 c.deref.result.now (c.deref.ensures.value ∙ c.in_ok-jobs.ensures)
+    let came =
+    fetch_comes (g.N.Net.passes c.args.link.now.net.now) c.args.g.now g.logs held c.args.link.now.others.now
+    c.args.link.now.asker c.args.link.now.loss can.logs.are truly can.others can.tried None c.deref-2.result.now
+    (c.deref-2.ensures.value ∙ c.in_ok-jobs.ensures) c.members.result.now c.members.ensures.ring c.args.tries
+    can.tries.1 c.deref.result.now (c.deref.ensures.value ∙ c.in_ok-jobs.ensures)
     c.in_ok-outcome.outcome.parts.items c.deref-3.result.now c.deref-3.ensures.value
-    c.in_ok-outcome.outcome.attempts.items c.deref-4.result.now c.deref-4.ensures.value c.in_ok-outcome.ensures.first)
-
-pub returns-clause-planned : goal.returns-clause-planned
-returns-clause-planned g c =
-    let can = condition_of_holder c.requires in
-    let held = g.H.Holder.words.holdings c.args.holder.now in
-    let truly = g.met.H.Holder.are_holders.holder c.args.g.now g.logs c.args.holder.now can.truly in
+    c.in_ok-outcome.outcome.attempts.items c.deref-4.result.now c.deref-4.ensures.value c.in_ok-outcome.ensures.first in
     let count =
-    count_jobs (g.N.Net.passes c.args.link.now.net.now) c.args.g.now g.logs held c.args.link.now.others.now
-    c.args.link.now.asker c.args.link.now.loss can.logs.are truly can.others
+    count_jobs (g.N.Net.passes c.args.link.now.net.now) c.args.g.now g.logs held
+    c.args.link.now.others.now c.args.link.now.asker c.args.link.now.loss can.logs.are truly can.others
     can.tried None c.deref-2.result.now (c.deref-2.ensures.value ∙ c.in_ok-jobs.ensures)
     c.members.result.now c.members.ensures.ring in
     let same : length c.deref-2.result.now ≡ length c.in_ok-jobs.jobs.items = ap length c.deref-2.ensures.value in
-    omega (arith, count, same, c.in_ok-jobs.jobs.ok)
-
-pub returns-clause-parts : goal.returns-clause-parts
-returns-clause-parts g c =
-    let can = condition_of_holder c.requires in
-    let held = g.H.Holder.words.holdings c.args.holder.now in
-    let truly = g.met.H.Holder.are_holders.holder c.args.g.now g.logs c.args.holder.now can.truly in
-    c.in_ok-kept.ensures.parts
-    ∙ fetch_parts (g.N.Net.passes c.args.link.now.net.now) c.args.g.now g.logs held
-    c.args.link.now.others.now c.args.link.now.asker c.args.link.now.loss can.logs.are truly can.others
-    can.tried None c.deref-2.result.now (c.deref-2.ensures.value ∙ c.in_ok-jobs.ensures)
-    c.members.result.now c.members.ensures.ring
-    c.args.tries can.tries.1 c.deref.result.now (c.deref.ensures.value ∙ c.in_ok-jobs.ensures)
-    c.in_ok-outcome.outcome.parts.items c.deref-3.result.now c.deref-3.ensures.value
-    c.in_ok-outcome.outcome.attempts.items c.deref-4.result.now c.deref-4.ensures.value c.in_ok-outcome.ensures.first
-
-pub returns-clause-octets : goal.returns-clause-octets
-returns-clause-octets g c =
-    let can = condition_of_holder c.requires in
-    let held = g.H.Holder.words.holdings c.args.holder.now in
-    let truly = g.met.H.Holder.are_holders.holder c.args.g.now g.logs c.args.holder.now can.truly in
-    c.in_ok-kept.ensures.octets
-    ∙ fetch_octets (g.N.Net.passes c.args.link.now.net.now) c.args.g.now g.logs held
-    c.args.link.now.others.now c.args.link.now.asker c.args.link.now.loss can.logs.are truly can.others
-    can.tried None c.deref-2.result.now (c.deref-2.ensures.value ∙ c.in_ok-jobs.ensures)
-    c.members.result.now c.members.ensures.ring
-    c.args.tries can.tries.1 c.deref.result.now (c.deref.ensures.value ∙ c.in_ok-jobs.ensures)
-    c.in_ok-outcome.outcome.parts.items c.deref-3.result.now c.deref-3.ensures.value
-    c.in_ok-outcome.outcome.attempts.items c.deref-4.result.now c.deref-4.ensures.value c.in_ok-outcome.ensures.first
-
-pub returns-clause-attempts : goal.returns-clause-attempts
-returns-clause-attempts g c =
-    let can = condition_of_holder c.requires in
-    let held = g.H.Holder.words.holdings c.args.holder.now in
-    let truly = g.met.H.Holder.are_holders.holder c.args.g.now g.logs c.args.holder.now can.truly in
-    c.total.ensures
-    ∙ ap sum (c.deref-5.ensures.value ∙ sym c.deref-4.ensures.value
-    ∙ fetch_attempts (g.N.Net.passes c.args.link.now.net.now) c.args.g.now g.logs held
-    c.args.link.now.others.now c.args.link.now.asker c.args.link.now.loss can.logs.are truly can.others
-    can.tried None c.deref-2.result.now (c.deref-2.ensures.value ∙ c.in_ok-jobs.ensures)
-    c.members.result.now c.members.ensures.ring
-    c.args.tries can.tries.1 c.deref.result.now (c.deref.ensures.value ∙ c.in_ok-jobs.ensures)
-    c.in_ok-outcome.outcome.parts.items c.deref-3.result.now c.deref-3.ensures.value
-    c.in_ok-outcome.outcome.attempts.items c.deref-4.result.now c.deref-4.ensures.value c.in_ok-outcome.ensures.first)
+    record {
+      new =
+          c.in_ok-kept.ensures.ok
+          ∙ ap (λ (xs : List Fetched). g.H.Holder.words.takes xs c.args.holder.now) came.is;
+      planned = omega (arith, count, same, c.in_ok-jobs.jobs.ok);
+      parts = c.in_ok-kept.ensures.parts ∙ came.parts;
+      octets = c.in_ok-kept.ensures.octets ∙ came.octets;
+      attempts =
+          c.total.ensures
+          ∙ ap sum (c.deref-5.ensures.value ∙ sym c.deref-4.ensures.value ∙ came.attempts);
+      err = tt;
+    }

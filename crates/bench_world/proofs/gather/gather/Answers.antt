@@ -1,10 +1,10 @@
 use Rattle.std.proofs.Common.{arith}
-use Rattle.bench_world.proofs.Gathers.{few_held, few_octets, tried_still}
+use Rattle.bench_world.proofs.Rounds.{few_held, few_octets, tried_still}
 use Rattle.bench_world.proofs.Bounded.{condition_of_holder, holder_passed_on}
 use Rattle.bench_world.proofs.gather.gather.Goals as goal
 
-pub gain_round-requires : goal.gain_round-requires
-gain_round-requires g c κs within =
+pub gather_round-requires : goal.gather_round-requires
+gather_round-requires g c κs within =
     let can = condition_of_holder c.requires in
     let words = g.H.Holder.words in
     let holders = g.met.H.Holder.are_holders in
@@ -27,7 +27,8 @@ overflow_add-kept g c =
     let words = g.H.Holder.words in
     let holders = g.met.H.Holder.are_holders in
     let most =
-    few_held words holders c.args.g.now g.logs can.logs.are c.gain_round.new.holder c.gain_round.ensures.gains.truly in
+    few_held words holders c.args.g.now g.logs can.logs.are c.gather_round.new.holder
+    c.gather_round.ensures.gains.truly in
     let few = can.logs.few in
     let one = c.in_ok-came.ensures.parts in
     let before = c.rounds.invariant.parts in
@@ -39,8 +40,8 @@ overflow_add-kept-in-rounds g c =
     let words = g.H.Holder.words in
     let holders = g.met.H.Holder.are_holders in
     let most =
-    few_octets words holders c.args.g.now g.logs can.logs.are c.gain_round.new.holder
-    c.gain_round.ensures.gains.truly in
+    few_octets words holders c.args.g.now g.logs can.logs.are c.gather_round.new.holder
+    c.gather_round.ensures.gains.truly in
     let few = can.logs.few in
     let one = c.in_ok-came.ensures.octets in
     let before = c.rounds.invariant.octets in
@@ -52,6 +53,7 @@ rounds-smaller g c =
     let words = g.H.Holder.words in
     let holders = g.met.H.Holder.are_holders in
     let most =
-    few_held words holders c.args.g.now g.logs can.logs.are c.gain_round.new.holder c.gain_round.ensures.gains.truly in
+    few_held words holders c.args.g.now g.logs can.logs.are c.gather_round.new.holder
+    c.gather_round.ensures.gains.truly in
     let one = c.in_ok-came.ensures.parts in
     omega (arith, most, one, c.if-came-eq0.false)

@@ -4,8 +4,8 @@ use Rattle.bench_world.specs.Gathering.{one_each, held_sum, Counts, GainsParts}
 use Rattle.bench_world.specs.Sizes.{size_of}
 use Rattle.bench_world.proofs.gather.gather.Given as goal
 
-abbrev pub ghost-gain_round : goal.ghost-gain_round
-ghost-gain_round g a = g.logs
+abbrev pub ghost-gather_round : goal.ghost-gather_round
+ghost-gather_round g a = g.logs
 
 abbrev pub invariant-rounds : goal.invariant-rounds
 invariant-rounds g l = record {

@@ -2,8 +2,7 @@ use Rattle.std.proofs.Common.{rules, refl}
 use Rattle.std.proofs.lemmas.Result.{on_ok_weaker, IfOk-weaker}
 use Rattle.bench_world.specs.Worlds.{logs_around}
 use Rattle.bench_world.proofs.MirrorSettling.{gains_of}
-use Rattle.bench_world.proofs.MirrorGathers.{as_wide, truly_learnt, few_learnt, others_stay, truly_gathered}
-use Rattle.bench_world.proofs.MirrorGathers.{partly_here, settled_here, held_here}
+use Rattle.bench_world.proofs.MirrorGathering.{as_wide, truly_learnt, few_learnt, gathered}
 use Rattle.bench_world.proofs.mirror_gathering.gather_for.Goals as goal
 
 pub learn-requires : goal.learn-requires
@@ -13,7 +12,8 @@ learn-requires g c =
 
 pub gather_of_all-came-requires : goal.gather_of_all-came-requires
 gather_of_all-came-requires g c κs =
-    let can = c.requires in (
+    let can = c.requires in
+    let ms = c.args.mirrors.now.items in (
       search rules,
       (
         record { shared = c.type_bounds.sync-R.shared },
@@ -23,61 +23,30 @@ gather_of_all-came-requires g c κs =
           others = can.others;
           loss = refl;
           truly =
-              truly_learnt c.args.g.now c.args.workers c.args.i c.args.members.now c.args.known.now
-              c.args.mirrors.now.items can c.remove-mirror.result c.remove-mirror.ensures.value c.learn.new.self
-              c.learn.ensures;
+              truly_learnt c.args.g.now c.args.workers c.args.i c.args.members.now c.args.known.now ms can
+              c.remove-mirror.result c.remove-mirror.ensures.value c.learn.new.self c.learn.ensures;
           tried =
-              few_learnt c.args.g.now c.args.workers c.args.i c.args.members.now c.args.known.now
-              c.args.mirrors.now.items can c.remove-mirror.result c.remove-mirror.ensures.value c.learn.new.self
-              c.learn.ensures;
+              few_learnt c.args.g.now c.args.workers c.args.i c.args.members.now c.args.known.now ms can
+              c.remove-mirror.result c.remove-mirror.ensures.value c.learn.new.self c.learn.ensures;
         },
       ),
     )
 
-pub returns-clause-others : goal.returns-clause-others
-returns-clause-others g c =
-    others_stay c.args.g.now c.args.workers c.args.i c.args.members.now c.args.known.now c.args.mirrors.now.items
+pub returns : goal.returns
+returns g c =
+    let done =
+    gathered c.args.g.now c.args.workers c.args.i c.args.members.now c.args.known.now c.args.mirrors.now.items
     c.requires c.remove-mirror.result c.remove-mirror.ensures.value c.learn.new.self c.learn.ensures
     c.remove-mirror.new.self.items c.insert.new.self.items c.gather_of_all-came.new.holder.mirror
     c.remove-mirror.ensures.items c.in-Ok.ensures.items
     (gains_of c.args.g.now (logs_around c.args.members.now) c.args.members.now _ c.gather_of_all-came.new.holder
-    c.gather_of_all-came.ensures.gains)
-
-pub returns-clause-truly : goal.returns-clause-truly
-returns-clause-truly g c =
-    truly_gathered c.args.g.now c.args.workers c.args.i c.args.members.now c.args.known.now c.args.mirrors.now.items
-    c.requires c.remove-mirror.result c.remove-mirror.ensures.value c.learn.new.self c.learn.ensures
-    c.remove-mirror.new.self.items c.insert.new.self.items c.gather_of_all-came.new.holder.mirror
-    c.remove-mirror.ensures.items c.in-Ok.ensures.items
-    (gains_of c.args.g.now (logs_around c.args.members.now) c.args.members.now _ c.gather_of_all-came.new.holder
-    c.gather_of_all-came.ensures.gains)
-
-pub returns-clause-partly : goal.returns-clause-partly
-returns-clause-partly g c =
-    partly_here c.args.g.now c.args.workers c.args.i c.args.members.now c.args.known.now c.args.mirrors.now.items
-    c.requires c.remove-mirror.result c.remove-mirror.ensures.value c.learn.new.self c.learn.ensures
-    c.remove-mirror.new.self.items c.insert.new.self.items c.gather_of_all-came.new.holder.mirror
-    c.remove-mirror.ensures.items c.in-Ok.ensures.items
-    (gains_of c.args.g.now (logs_around c.args.members.now) c.args.members.now _ c.gather_of_all-came.new.holder
-    c.gather_of_all-came.ensures.gains)
-
-pub returns-clause-settled : goal.returns-clause-settled
-returns-clause-settled g c =
-    on_ok_weaker c.gather_of_all-came.result
-    (settled_here c.args.g.now c.args.workers c.args.i c.args.members.now c.args.known.now c.args.mirrors.now.items
-    c.requires c.remove-mirror.result c.remove-mirror.ensures.value c.learn.new.self c.learn.ensures
-    c.remove-mirror.new.self.items c.insert.new.self.items c.gather_of_all-came.new.holder.mirror
-    c.remove-mirror.ensures.items c.in-Ok.ensures.items
-    (gains_of c.args.g.now (logs_around c.args.members.now) c.args.members.now _ c.gather_of_all-came.new.holder
-    c.gather_of_all-came.ensures.gains))
-    c.gather_of_all-came.ensures.left
-
-pub returns-clause-parts : goal.returns-clause-parts
-returns-clause-parts g c =
-    IfOk-weaker c.gather_of_all-came.result _ _ (λ kept came.
-    held_here c.args.g.now c.args.workers c.args.i c.args.members.now c.args.known.now c.args.mirrors.now.items
-    c.requires c.remove-mirror.result c.remove-mirror.ensures.value c.learn.new.self c.learn.ensures
-    c.remove-mirror.new.self.items c.insert.new.self.items c.gather_of_all-came.new.holder.mirror
-    c.remove-mirror.ensures.items c.in-Ok.ensures.items
-    (gains_of c.args.g.now (logs_around c.args.members.now) c.args.members.now _ c.gather_of_all-came.new.holder
-    c.gather_of_all-came.ensures.gains) kept.parts came) c.gather_of_all-came.ensures.parts
+    c.gather_of_all-came.ensures.gains) in
+    record {
+      others = done.others;
+      truly = done.truly;
+      settled = on_ok_weaker c.gather_of_all-came.result done.settled c.gather_of_all-came.ensures.left;
+      parts =
+          IfOk-weaker c.gather_of_all-came.result _ _ (λ parts came. done.held parts came)
+          c.gather_of_all-came.ensures.parts;
+      partly = done.partly;
+    }

@@ -1,10 +1,10 @@
-use Rattle.std.proofs.Common.{ℕ, ◌+◌, ◌<◌, length, sym, ap, ◌∙◌, subst, arith}
+use Rattle.std.proofs.Common.{rules, ℕ, ◌+◌, ◌<◌, length, sym, ap, ◌∙◌, subst, arith}
 use Rattle.repo_mirror.specs.MirrorState.{MirrorState, mirror_holdings}
 use Rattle.bench_world.specs.MirrorSteps.{mirror_at}
 use Rattle.bench_world.specs.MirrorSettles.{held_by}
 use Rattle.bench_world.specs.Truth.{TriedFew}
 use Rattle.bench_world.specs.Worlds.{only_members}
-use Rattle.bench_world.proofs.MirrorSettling.{settled_none, more_len, more_truly, more_partly, more_settled, more_held}
+use Rattle.bench_world.proofs.MirrorSettling.{settled_none, one_more}
 use Rattle.bench_world.proofs.mirror_gathering.gather_for_all.Goals as goal
 
 pub loop-i-init : goal.loop-i-init
@@ -41,45 +41,34 @@ gather_for-requires g c =
       },
     )
 
-pub returns-in_err-came-clause-len : goal.returns-in_err-came-clause-len
-returns-in_err-came-clause-len g c =
+pub returns-in_err-came : goal.returns-in_err-came
+returns-in_err-came g c =
     let inside : c.loop-i.i < length c.loop-i.mirrors.items =
     omega (arith, c.loop-i-test.true, c.len-count.ensures, c.loop-i.invariant.so_far.len, c.args.mirrors.now.ok) in
-    more_len c.args.g.now (only_members c.args.members.now) c.args.mirrors.now.items c.loop-i.i
-    c.loop-i.mirrors.items c.loop-i.invariant.so_far inside c.gather_for.new.mirrors.items
-    c.gather_for.ensures.others c.gather_for.ensures.truly c.gather_for.ensures.partly
-
-pub returns-in_err-came-clause-truly : goal.returns-in_err-came-clause-truly
-returns-in_err-came-clause-truly g c =
-    let inside : c.loop-i.i < length c.loop-i.mirrors.items =
-    omega (arith, c.loop-i-test.true, c.len-count.ensures, c.loop-i.invariant.so_far.len, c.args.mirrors.now.ok) in
-    more_truly c.args.g.now (only_members c.args.members.now) c.args.mirrors.now.items c.loop-i.i
-    c.loop-i.mirrors.items c.loop-i.invariant.so_far inside c.gather_for.new.mirrors.items
-    c.gather_for.ensures.others c.gather_for.ensures.truly c.gather_for.ensures.partly
-
-pub returns-in_err-came-clause-partly : goal.returns-in_err-came-clause-partly
-returns-in_err-came-clause-partly g c =
-    let inside : c.loop-i.i < length c.loop-i.mirrors.items =
-    omega (arith, c.loop-i-test.true, c.len-count.ensures, c.loop-i.invariant.so_far.len, c.args.mirrors.now.ok) in
-    more_partly c.args.g.now (only_members c.args.members.now) c.args.mirrors.now.items c.loop-i.i
-    c.loop-i.mirrors.items c.loop-i.invariant.so_far inside c.gather_for.new.mirrors.items
-    c.gather_for.ensures.others c.gather_for.ensures.truly c.gather_for.ensures.partly
+    let more =
+    one_more c.args.g.now (only_members c.args.members.now) c.args.mirrors.now.items c.loop-i.i c.loop-i.mirrors.items
+    c.loop-i.invariant.so_far inside c.gather_for.new.mirrors.items c.gather_for.ensures.others
+    c.gather_for.ensures.truly c.gather_for.ensures.partly in
+    record {
+      len = more.len;
+      truly = more.truly;
+      settled = search rules;
+      parts = search rules;
+      partly = more.partly;
+    }
 
 pub loop-i-preserved : goal.loop-i-preserved
 loop-i-preserved g c =
     let inside : c.loop-i.i < length c.loop-i.mirrors.items =
     omega (arith, c.loop-i-test.true, c.len-count.ensures, c.loop-i.invariant.so_far.len, c.args.mirrors.now.ok) in
+    let more =
+    one_more c.args.g.now (only_members c.args.members.now) c.args.mirrors.now.items c.loop-i.i c.loop-i.mirrors.items
+    c.loop-i.invariant.so_far inside c.gather_for.new.mirrors.items c.gather_for.ensures.others
+    c.gather_for.ensures.truly c.gather_for.ensures.partly in
     record {
-      so_far =
-          more_settled c.args.g.now (only_members c.args.members.now) c.args.mirrors.now.items c.loop-i.i
-          c.loop-i.mirrors.items c.loop-i.invariant.so_far inside c.gather_for.new.mirrors.items
-          c.gather_for.ensures.others c.gather_for.ensures.truly c.gather_for.ensures.partly
-          c.in_ok-came.ensures.settled;
+      so_far = more.settled c.in_ok-came.ensures.settled;
       parts =
-          more_held c.args.g.now (only_members c.args.members.now) c.args.mirrors.now.items c.loop-i.i
-          c.loop-i.mirrors.items c.loop-i.invariant.so_far inside c.gather_for.new.mirrors.items
-          c.gather_for.ensures.others c.gather_for.ensures.truly c.gather_for.ensures.partly c.loop-i.parts
-          c.from-parts.result c.loop-i.invariant.parts
+          more.held c.loop-i.parts c.from-parts.result c.loop-i.invariant.parts
           (ap (λ (n : ℕ). n + held_by (mirror_at c.loop-i.mirrors.items c.loop-i.i)) c.from-parts.ensures
           ∙ c.in_ok-came.ensures.parts);
       few = omega (arith, c.loop-i.invariant.few, c.from-parts.ensures);

@@ -9,8 +9,8 @@ use Rattle.bench_world.specs.Steps.{IsFaultOf}
 use Rattle.bench_world.specs.Answering.{claim_in, came_in}
 use Rattle.bench_world.specs.Worlds.{GroupState, IsTrueState, world_of, logs_around}
 use Rattle.bench_world.specs.Kept.{world_state}
-use Rattle.bench_world.proofs.Answered.{answer_refusal, answer_taken, answer_passes, answer_world, answer_state}
-use Rattle.bench_world.proofs.Answered.{answer_fits, fault_by}
+use Rattle.bench_world.proofs.AnswersAndFeeds.{answer_refusal, answer_taken, answer_passes, answer_world, answer_state}
+use Rattle.bench_world.proofs.AnswersAndFeeds.{answer_fits, fault_by}
 use Rattle.bench_world.proofs.world.World.answer.Goals as goal
 
 pub returns-in-Err : goal.returns-in-Err
@@ -43,7 +43,7 @@ overflow_add-self-2 c =
     let there = subst (λ (x : GroupState). c.args.m < length x.members) (sym c.self.view_is) c.requires.there in
     let fits =
     answer_fits s c.self.invariant c.args.m there c.args.f c.args.q c.in-Ok.kept c.in-Ok.ensures.kept
-    c.ask.new.members.items c.in-Ok.ensures.members
+    c.answer.new.members.items c.in-Ok.ensures.members
     (subst (λ (x : GroupState). x.steps < 100000) (sym c.self.view_is) c.requires.few) in
     let more = c.parts_of.ensures in
     omega (arith, fits.parts, more)
@@ -54,7 +54,7 @@ overflow_add-self-3 c =
     let there = subst (λ (x : GroupState). c.args.m < length x.members) (sym c.self.view_is) c.requires.there in
     let fits =
     answer_fits s c.self.invariant c.args.m there c.args.f c.args.q c.in-Ok.kept c.in-Ok.ensures.kept
-    c.ask.new.members.items c.in-Ok.ensures.members
+    c.answer.new.members.items c.in-Ok.ensures.members
     (subst (λ (x : GroupState). x.steps < 100000) (sym c.self.view_is) c.requires.few) in
     let more = c.unwrap_or.ensures in
     omega (arith, fits.octets, more)
@@ -64,14 +64,15 @@ invariant_of-self-2 c =
     let s = world_state c.self.inside in
     let there = subst (λ (x : GroupState). c.args.m < length x.members) (sym c.self.view_is) c.requires.there in
     let one = c.parts_of.ensures in
-    subst (λ (t : Tally). IsTrueState (record s { members = c.ask.new.members.items; tally = t; steps = s.steps + 1 }))
+    subst (λ (t : Tally).
+    IsTrueState (record s { members = c.answer.new.members.items; tally = t; steps = s.steps + 1 }))
     (λ i. record s.tally {
       attempts = s.tally.attempts + 1;
       parts = s.tally.parts + sym one i;
       octets = s.tally.octets + sym c.unwrap_or.ensures i;
     })
     (answer_state s c.self.invariant c.args.m there c.args.f c.args.q c.in-Ok.kept c.in-Ok.ensures.kept
-    c.ask.new.members.items c.in-Ok.ensures.members
+    c.answer.new.members.items c.in-Ok.ensures.members
     (subst (λ (x : GroupState). x.steps < 100000) (sym c.self.view_is) c.requires.few))
 
 pub returns : goal.returns
@@ -86,14 +87,15 @@ returns c =
           c.self.view_is
           (answer_taken s c.self.invariant c.args.m there c.args.f c.args.q c.in-Ok.kept c.in-Ok.ensures.kept);
       world =
-          ap (λ (t : Tally). world_of (record s { members = c.ask.new.members.items; tally = t; steps = s.steps + 1 }))
+          ap (λ (t : Tally).
+          world_of (record s { members = c.answer.new.members.items; tally = t; steps = s.steps + 1 }))
           (λ i. record s.tally {
             attempts = s.tally.attempts + 1;
             parts = s.tally.parts + one i;
             octets = s.tally.octets + c.unwrap_or.ensures i;
           })
           ∙ answer_world s c.self.invariant c.args.m there c.args.f c.args.q c.in-Ok.kept c.in-Ok.ensures.kept
-          c.ask.new.members.items c.in-Ok.ensures.members
+          c.answer.new.members.items c.in-Ok.ensures.members
           ∙ ap (λ (x : GroupState). after_event (keyed x.keys) (world_of x) (Event.Answer c.args.m c.args.f c.args.q))
           c.self.view_is;
       told =

@@ -11,7 +11,8 @@ use Rattle.bench_world.specs.Steps.{IsFaultOf}
 use Rattle.bench_world.specs.Answering.{claim_in, came_for}
 use Rattle.bench_world.specs.Worlds.{GroupState, IsTrueState, world_of, logs_around}
 use Rattle.bench_world.specs.Kept.{world_state}
-use Rattle.bench_world.proofs.Answered.{feed_refusal, feed_taken, feed_is, feed_world, feed_state, feed_fits, fault_by}
+use Rattle.bench_world.proofs.AnswersAndFeeds.{feed_refusal, feed_taken, feed_is, feed_world, feed_state, feed_fits}
+use Rattle.bench_world.proofs.AnswersAndFeeds.{fault_by}
 use Rattle.bench_world.proofs.world.World.feed.Goals as goal
 
 pub returns-in-Err : goal.returns-in-Err

@@ -5,7 +5,7 @@ use Rattle.bench_world.specs.EventValues.{Told}
 use Rattle.bench_world.specs.Worlds.{GroupState, world_of}
 use Rattle.bench_world.specs.Kept.{world_state}
 use Rattle.bench_world.proofs.States.{few_logs, tried_few}
-use Rattle.bench_world.proofs.Gainings.{fetch_fits, fetch_world, fetch_state}
+use Rattle.bench_world.proofs.FetchesAndSettles.{fetch_fits, fetch_world, fetch_state}
 use Rattle.bench_world.proofs.world.World.fetch.Goals as goal
 
 pub fetch_at-fetched-requires : goal.fetch_at-fetched-requires

@@ -1,23 +1,22 @@
-use Rattle.std.proofs.Common.{◌≡◌, ◌+◌, ◌<◌, List, length, map, set, refl, sym, ap, ◌∙◌, subst, arith, None}
+use Rattle.std.proofs.Common.{◌≡◌, ◌+◌, ◌<◌, List, length, map, set, refl, sym, ap, ◌∙◌, subst, arith}
 use Rattle.std.specs.Prelude.{slice_set, sum, sum_by}
 use Rattle.std.proofs.lemmas.List.{get_or_default, get_or-set_same}
 use Rattle.repo_holdings.specs.Taking.{Fetched}
 use Rattle.repo_member.specs.Alone.{Alone}
 use Rattle.repo_member.specs.InGroup.{that_came}
-use Rattle.repo_mirror.specs.MirrorState.{MirrorState, mirror_holdings}
+use Rattle.repo_mirror.specs.MirrorState.{MirrorState}
 use Rattle.bench_world.specs.Conditions.{CanFetchFor}
 use Rattle.bench_world.specs.MirrorSteps.{no_mirror, mirror_at, mirror_fetched, mirror_fetches}
 use Rattle.bench_world.specs.MirrorFetching.{mirror_asks, mirror_gets, mirror_attempts, HasFetched}
 use Rattle.bench_world.specs.Worlds.{GroupState, IsTrueState, world_of}
 use Rattle.bench_world.specs.Kept.{world_state}
-use Rattle.bench_world.proofs.NextParts.{few_next}
 use Rattle.bench_world.proofs.States.{few_logs}
 use Rattle.bench_world.proofs.MirrorAsks.{asks_are, gets_are, attempts_are, has_fetched}
 use Rattle.bench_world.proofs.MirrorStates.{mirror_tried, fetched_mirror}
 use Rattle.bench_world.proofs.world.World.mirror_fetch.Goals as goal
 
-pub fetch_for-fetched-requires : goal.fetch_for-fetched-requires
-fetch_for-fetched-requires g c =
+pub fetch_for-requires : goal.fetch_for-requires
+fetch_for-requires g c =
     let s = world_state c.self.inside in
     let there = subst (λ (x : GroupState). c.args.i < length x.mirrors) (sym c.self.view_is) c.requires.there in
     let few = c.self.invariant.mirrors_few in (
@@ -44,7 +43,7 @@ fetch_for-fetched-requires g c =
 pub invariant_of-self : goal.invariant_of-self
 invariant_of-self g c =
     let s = world_state c.self.inside in
-    subst (λ (ms : List MirrorState). IsTrueState (record s { mirrors = ms })) (sym c.in-Err.ensures.err)
+    subst (λ (ms : List MirrorState). IsTrueState (record s { mirrors = ms })) (sym c.in_err-counts.ensures.err)
     c.self.invariant
 
 pub invariant_of-self-2 : goal.invariant_of-self-2
@@ -55,8 +54,8 @@ invariant_of-self-2 g c =
     fetched_mirror s c.self.invariant c.args.i there (mirror_at s.mirrors c.args.i)
     (get_or_default s.mirrors c.args.i no_mirror (mirror_at s.mirrors c.args.i) there) few
     (g.N.Net.passes c.args.net.now) c.args.tries c.args.loss
-    c.requires.tries.1 c.fetch_for-fetched.new.mirrors.items
-    (c.in-Ok.ensures.ok
+    c.requires.tries.1 c.fetch_for.new.mirrors.items
+    (c.in_ok-counts.ensures.ok
     ∙ ap (λ (as_ : List Alone). set s.mirrors c.args.i
     (mirror_fetches (g.N.Net.passes c.args.net.now) as_ c.args.i c.args.tries c.args.loss
     (mirror_at s.mirrors c.args.i)))
@@ -66,7 +65,7 @@ pub returns-clause-ok : goal.returns-clause-ok
 returns-clause-ok g c =
     let s = world_state c.self.inside in
     ap (λ (ms : List MirrorState). let x : GroupState = record s { mirrors = ms; steps = s.steps + 1 } in x)
-    (c.in-Ok.ensures.ok
+    (c.in_ok-counts.ensures.ok
     ∙ ap (λ (as_ : List Alone). set s.mirrors c.args.i
     (mirror_fetches (g.N.Net.passes c.args.net.now) as_ c.args.i c.args.tries c.args.loss
     (mirror_at s.mirrors c.args.i)))
@@ -86,14 +85,14 @@ returns-clause-fetched g c =
     let m : MirrorState = mirror_at s.mirrors c.args.i in
     let made : MirrorState =
     mirror_fetches (g.N.Net.passes c.args.net.now) s.members c.args.i c.args.tries c.args.loss m in
-    let now : mirror_at c.fetch_for-fetched.new.mirrors.items c.args.i ≡ made =
+    let now : mirror_at c.fetch_for.new.mirrors.items c.args.i ≡ made =
     ap (λ (ms : List MirrorState). mirror_at ms c.args.i)
-    (c.in-Ok.ensures.ok
+    (c.in_ok-counts.ensures.ok
     ∙ ap (λ (as_ : List Alone). set s.mirrors c.args.i
     (mirror_fetches (g.N.Net.passes c.args.net.now) as_ c.args.i c.args.tries c.args.loss m)) c.as_slice.ensures.value)
     ∙ get_or-set_same s.mirrors c.args.i made no_mirror there in
     subst (λ (x : GroupState). HasFetched (g.N.Net.passes c.args.net.now) (world_of x) c.args.i c.args.tries c.args.loss
-    (mirror_at x.mirrors c.args.i) (mirror_at c.fetch_for-fetched.new.mirrors.items c.args.i)) c.self.view_is
+    (mirror_at x.mirrors c.args.i) (mirror_at c.fetch_for.new.mirrors.items c.args.i)) c.self.view_is
     (subst (HasFetched (g.N.Net.passes c.args.net.now) (world_of s) c.args.i c.args.tries c.args.loss m) (sym now)
     (has_fetched (g.N.Net.passes c.args.net.now) s.keys (world_of s) c.self.invariant.are s.members refl m
     (c.self.invariant.mirrors c.args.i no_mirror there) c.args.i c.args.tries c.args.loss c.self.invariant.members))
@@ -103,7 +102,7 @@ returns-clause-planned g c =
     let s = world_state c.self.inside in
     let there = subst (λ (x : GroupState). c.args.i < length x.mirrors) (sym c.self.view_is) c.requires.there in
     let m : MirrorState = mirror_at s.mirrors c.args.i in
-    c.in-Ok.ensures.planned
+    c.in_ok-counts.ensures.planned
     ∙ ap length
     (asks_are (g.N.Net.passes c.args.net.now) s.keys (world_of s) c.self.invariant.are s.members refl m
     (c.self.invariant.mirrors c.args.i no_mirror there) c.args.i c.args.tries c.args.loss)
@@ -114,7 +113,7 @@ returns-clause-kept g c =
     let s = world_state c.self.inside in
     let there = subst (λ (x : GroupState). c.args.i < length x.mirrors) (sym c.self.view_is) c.requires.there in
     let m : MirrorState = mirror_at s.mirrors c.args.i in
-    c.in-Ok.ensures.parts
+    c.in_ok-counts.ensures.parts
     ∙ ap (λ (as_ : List Alone). length
     (that_came (mirror_fetched (g.N.Net.passes c.args.net.now) as_ c.args.i c.args.tries c.args.loss m)))
     c.as_slice.ensures.value
@@ -129,7 +128,7 @@ returns-clause-attempts g c =
     let s = world_state c.self.inside in
     let there = subst (λ (x : GroupState). c.args.i < length x.mirrors) (sym c.self.view_is) c.requires.there in
     let m : MirrorState = mirror_at s.mirrors c.args.i in
-    c.in-Ok.ensures.attempts
+    c.in_ok-counts.ensures.attempts
     ∙ ap (λ (as_ : List Alone). sum (map (λ (x : Fetched). x.attempts)
     (mirror_fetched (g.N.Net.passes c.args.net.now) as_ c.args.i c.args.tries c.args.loss m)))
     c.as_slice.ensures.value
@@ -138,9 +137,3 @@ returns-clause-attempts g c =
     ∙ ap (λ (x : GroupState). sum_by
     (mirror_attempts (g.N.Net.passes c.args.net.now) (world_of x) c.args.i c.args.tries c.args.loss
     (mirror_at x.mirrors c.args.i)) (mirror_asks (world_of x) (mirror_at x.mirrors c.args.i))) c.self.view_is
-
-pub overflow_cast-result : goal.overflow_cast-result
-overflow_cast-result g c =
-    let few = few_next (mirror_holdings (mirror_at (world_state c.self.inside).mirrors c.args.i)) None in
-    let planned = c.in-Ok.ensures.planned in
-    omega (arith, planned, few)

@@ -30,7 +30,7 @@ invariant_of-result g c =
       mirrors = [];
     }))
     (sym (ap (λ (x : IssuedList). x.commands) c.new-2.ensures))
-    (opening_state c.args.group c.roster-roster.ensures.sound (g.D.Draws.draw c.args.draws.now)
+    (opening_state c.args.group c.is_sound.ensures (g.D.Draws.draw c.args.draws.now)
     c.in_ok-members.members.items c.new.result.packets c.in_ok-members.ensures (ap (λ x. x.packets) c.new.ensures)))
 
 pub returns-clause-world : goal.returns-clause-world
@@ -45,5 +45,5 @@ returns-clause-world g c =
       steps = 0;
       mirrors = [];
     })) (ap (λ (x : IssuedList). x.commands) c.new-2.ensures)
-    ∙ opening_is c.args.group c.roster-roster.ensures.sound (g.D.Draws.draw c.args.draws.now)
+    ∙ opening_is c.args.group c.is_sound.ensures (g.D.Draws.draw c.args.draws.now)
     c.in_ok-members.members.items c.new.result.packets c.in_ok-members.ensures (ap (λ x. x.packets) c.new.ensures)

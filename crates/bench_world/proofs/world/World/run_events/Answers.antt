@@ -17,7 +17,7 @@ loop-event-init g c = record {
   steps = omega arith;
   keys = refl;
   mirrors = refl;
-  many = length-map c.args.self.now.members in_group ∙ c.members-count.ensures.names;
+  many = length-map c.args.self.now.members in_group ∙ c.is_sound.ensures.names;
   taken = tt;
   world = refl;
 }
@@ -54,7 +54,7 @@ loop-event-preserved g c =
       many =
           many_more out c.args.self.now.keys (world_of c.args.self.now) c.args.events.now i inside item c.event-item.is
           (world_of c.loop-event.self) (world_of c.step.new.self) (length c.args.self.now.keys.members.names) inv.many
-          ready inv.taken inv.world not_refused stepped c.members-count.ensures.sound;
+          ready inv.taken inv.world not_refused stepped c.is_sound.ensures.sound;
       taken =
           taken_more out c.args.self.now.keys (world_of c.args.self.now) c.args.events.now i inside item c.event-item.is
           (world_of c.loop-event.self) (world_of c.step.new.self) (length c.args.self.now.keys.members.names) inv.many
@@ -70,7 +70,7 @@ returns-clause-joined g c =
     let out = outside c.args.self.now.keys (g.D.Draws.draw c.args.draws.now) (g.N.Net.passes c.args.net.now) in
     let all : c.loop-event.event-index ≡ length c.args.events.now =
     omega (arith, c.loop-event-test.false, c.loop-event.auto.event-index-end) in
-    all_joined out c.args.self.now.keys (world_of c.args.self.now) c.args.events.now c.members-count.ensures.sound
+    all_joined out c.args.self.now.keys (world_of c.args.self.now) c.args.events.now c.is_sound.ensures.sound
     c.loop-event.event-index all (world_of c.loop-event.self) c.loop-event.invariant.taken c.loop-event.invariant.world
 
 pub returns-in-Err-clause-stopped : goal.returns-in-Err-clause-stopped

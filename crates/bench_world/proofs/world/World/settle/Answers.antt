@@ -9,9 +9,9 @@ use Rattle.bench_world.specs.Worlds.{GroupState, IsTrueState, tells, world_of}
 use Rattle.bench_world.specs.Kept.{world_state}
 use Rattle.bench_world.proofs.States.{few_logs, few_members, few_sent, tried_few}
 use Rattle.bench_world.proofs.Readers.{counted_state}
-use Rattle.bench_world.proofs.GatheredAll.{where_err}
-use Rattle.bench_world.proofs.Gainings.{sound_only, failed_state, partly, partly_before, settle_world, settle_state}
-use Rattle.bench_world.proofs.Gainings.{settle_joined, settle_fits}
+use Rattle.bench_world.proofs.EitherAnswer.{where_err}
+use Rattle.bench_world.proofs.FetchesAndSettles.{sound_only, failed_state, partly, partly_before, settle_world}
+use Rattle.bench_world.proofs.FetchesAndSettles.{settle_state, settle_joined, settle_fits}
 use Rattle.bench_world.proofs.world.World.settle.Goals as goal
 
 pub invariant_of-self : goal.invariant_of-self
@@ -155,37 +155,30 @@ invariant_of-self-2 g c =
     c.in-Ok.ensures.parts c.in-Ok.ensures.octets
     c.settle_members-settled.ensures.len c.settle_members-settled.ensures.numbers c.settle_members-settled.ensures.truly
 
-pub returns-clause-world : goal.returns-clause-world
-returns-clause-world g c =
+pub returns : goal.returns
+returns g c =
     let s = world_state c.self.inside in
     let few = subst (λ (x : GroupState). x.steps < 100000) (sym c.self.view_is) c.requires.few in
-    let sent : c.send_all.new.sent.packets ≡ c.self.inside.sent.packets ++ map told_of c.in-Ok.settled.0.items =
+    let mid = c.settle_members-settled.new.members.items in
+    let told = c.in-Ok.settled.0.items in
+    let sent : c.send_all.new.sent.packets ≡ c.self.inside.sent.packets ++ map told_of told =
     c.send_all.ensures
-    ∙ ap (λ (ps : List SentPacket). ps ++ map told_of c.in-Ok.settled.0.items)
-    (ap (λ x. x.packets) c.in_ok-reserve.ensures.ok) in
-    let count : c.len-count.result ≡ length c.settle_members-settled.new.members.items =
+    ∙ ap (λ (ps : List SentPacket). ps ++ map told_of told) (ap (λ x. x.packets) c.in_ok-reserve.ensures.ok) in
+    let count : c.len-count.result ≡ length mid =
     omega (arith, c.len-count.ensures, c.settle_members-settled.new.members.ok) in
-    settle_world s c.self.invariant few c.settle_members-settled.new.members.items c.in-Ok.ensures.members
-    c.send_all.new.sent.packets c.in-Ok.settled.0.items sent c.in-Ok.ensures.told
-    c.len-count.result c.saturating_sub.result c.in-Ok.settled.1 c.in-Ok.settled.2 count c.saturating_sub.ensures
-    c.in-Ok.ensures.parts c.in-Ok.ensures.octets
-    ∙ ap (λ (x : GroupState). after_gathering (keyed x.keys) (world_of x)) c.self.view_is
-
-pub returns-clause-parts : goal.returns-clause-parts
-returns-clause-parts g c =
-    c.in-Ok.ensures.parts ∙ ap (λ (s : GroupState). settle_gains (world_of s)) c.self.view_is
-
-pub returns-clause-joined : goal.returns-clause-joined
-returns-clause-joined g c =
-    let s = world_state c.self.inside in
-    let few = subst (λ (x : GroupState). x.steps < 100000) (sym c.self.view_is) c.requires.few in
-    let sent : c.send_all.new.sent.packets ≡ c.self.inside.sent.packets ++ map told_of c.in-Ok.settled.0.items =
-    c.send_all.ensures
-    ∙ ap (λ (ps : List SentPacket). ps ++ map told_of c.in-Ok.settled.0.items)
-    (ap (λ x. x.packets) c.in_ok-reserve.ensures.ok) in
-    let count : c.len-count.result ≡ length c.settle_members-settled.new.members.items =
-    omega (arith, c.len-count.ensures, c.settle_members-settled.new.members.ok) in
-    settle_joined s c.self.invariant few c.settle_members-settled.new.members.items c.in-Ok.ensures.members
-    c.send_all.new.sent.packets c.in-Ok.settled.0.items sent c.in-Ok.ensures.told
-    c.len-count.result c.saturating_sub.result c.in-Ok.settled.1 c.in-Ok.settled.2 count c.saturating_sub.ensures
-    c.in-Ok.ensures.parts c.in-Ok.ensures.octets
+    record {
+      world =
+          settle_world s c.self.invariant few mid c.in-Ok.ensures.members c.send_all.new.sent.packets told sent
+          c.in-Ok.ensures.told c.len-count.result c.saturating_sub.result c.in-Ok.settled.1 c.in-Ok.settled.2 count
+          c.saturating_sub.ensures c.in-Ok.ensures.parts c.in-Ok.ensures.octets
+          ∙ ap (λ (x : GroupState). after_gathering (keyed x.keys) (world_of x)) c.self.view_is;
+      parts = c.in-Ok.ensures.parts ∙ ap (λ (x : GroupState). settle_gains (world_of x)) c.self.view_is;
+      joined =
+          settle_joined s c.self.invariant few mid c.in-Ok.ensures.members c.send_all.new.sent.packets told sent
+          c.in-Ok.ensures.told c.len-count.result c.saturating_sub.result c.in-Ok.settled.1 c.in-Ok.settled.2 count
+          c.saturating_sub.ensures c.in-Ok.ensures.parts c.in-Ok.ensures.octets;
+      steps = ap (λ (x : GroupState). x.steps + 1) c.self.view_is;
+      keys = ap (λ (x : GroupState). x.keys) c.self.view_is;
+      mirrors = ap (λ (x : GroupState). x.mirrors) c.self.view_is;
+      err = tt;
+    }

@@ -6,8 +6,8 @@ use Rattle.bench_world.specs.MirrorSteps.{mirror_at}
 use Rattle.bench_world.specs.MirrorSettles.{HaveSettled, ListsItsJoin, ArePartlySettledMirrors, held_by_all}
 use Rattle.bench_world.specs.Worlds.{GroupState, alone_at, only_members, world_of}
 use Rattle.bench_world.specs.Kept.{world_state}
-use Rattle.bench_world.proofs.Gainings.{sound_only}
-use Rattle.bench_world.proofs.GatheredAll.{where_err}
+use Rattle.bench_world.proofs.FetchesAndSettles.{sound_only}
+use Rattle.bench_world.proofs.EitherAnswer.{where_err}
 use Rattle.bench_world.proofs.KnownByAll.{knowns}
 use Rattle.bench_world.proofs.Learnt.{widths}
 use Rattle.bench_world.proofs.MirrorSettling.{partly_same}

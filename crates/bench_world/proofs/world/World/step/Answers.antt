@@ -12,13 +12,13 @@ use Rattle.bench_world.proofs.world.World.step.Goals as goal
 
 pub order_names_for-requires : goal.order_names_for-requires
 order_names_for-requires g c =
-    subst (λ n. IsReady n (event_value c.args.event.now)) (sym c.members-count.ensures.names) c.requires.ready
+    subst (λ n. IsReady n (event_value c.args.event.now)) (sym c.is_sound.ensures.names) c.requires.ready
 
 pub carry_out-requires-clause-ready : goal.carry_out-requires-clause-ready
 carry_out-requires-clause-ready g c κs within =
     subst (λ (s : GroupState). IsReady (length s.members) (event_value c.args.event.now))
     (sym c.order_names_for.ensures)
-    (subst (λ n. IsReady n (event_value c.args.event.now)) (sym c.members-count.ensures.names) c.requires.ready)
+    (subst (λ n. IsReady n (event_value c.args.event.now)) (sym c.is_sound.ensures.names) c.requires.ready)
 
 pub returns : goal.returns
 returns g c =
@@ -30,14 +30,14 @@ returns g c =
     let old = c.args.self.now in
     let n = length old.keys.members.names in
     let out = outside old.keys (g.D.Draws.draw c.args.draws.now) (g.N.Net.passes c.args.net.now) in
-    let many = length-map old.members in_group ∙ c.members-count.ensures.names in
+    let many = length-map old.members in_group ∙ c.is_sound.ensures.names in
     record {
       taken = made.taken;
       world = made.world;
       told = made.told;
       all =
           all_named n (telling old.keys out (world_of old) event) c.carry_out.result made.told
-          (names_all n old.keys out (world_of old) refl many c.members-count.ensures.sound event c.requires.ready);
+          (names_all n old.keys out (world_of old) refl many c.is_sound.ensures.sound event c.requires.ready);
       joined = made.joined;
       steps = made.steps;
       keys = made.keys;

@@ -15,7 +15,7 @@ unreachable-requires c =
     option_map (λ (p : NamedKey). p.name) (slice_get ring c.args.client) ≡ Some c.name.result.now) c.clients.ensures
     c.name.ensures in
     let read =
-    key_read c.args.g.now c.roster-roster.ensures.sound.clients c.args.client c.requires c.name.result.now found in
+    key_read c.args.g.now c.is_sound.ensures.clients c.args.client c.requires c.name.result.now found in
     apart c.in_default.field-0 (key_name (client_at c.args.g.now c.args.client))
     (sym c.in_default.ensures.read ∙ read) where
       apart : (x : NameFault) (n : List Component) → (let r : Result (List Component) NameFault = Err x in r) ≡ Ok n → ⊥
@@ -28,7 +28,7 @@ returns-in-Ok-from_view c =
     option_map (λ (p : NamedKey). p.name) (slice_get ring c.args.client) ≡ Some c.name.result.now) c.clients.ensures
     c.name.ensures in
     let read =
-    key_read c.args.g.now c.roster-roster.ensures.sound.clients c.args.client c.requires c.name.result.now found in
+    key_read c.args.g.now c.is_sound.ensures.clients c.args.client c.requires c.name.result.now found in
     c.in-Ok-from_view.ensures.ok
     ∙ same c.in-Ok.view (key_name (client_at c.args.g.now c.args.client)) (sym c.in-Ok.ensures.read ∙ read) where
       same : (a b : List Component) → (let r : Result (List Component) NameFault = Ok a in r) ≡ Ok b → a ≡ b

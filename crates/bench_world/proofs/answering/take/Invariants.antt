@@ -1,4 +1,0 @@
-use Rattle.bench_world.proofs.answering.take.Given as goal
-
-abbrev pub ghost-is_its_packet : goal.ghost-is_its_packet
-ghost-is_its_packet g a = g.logs

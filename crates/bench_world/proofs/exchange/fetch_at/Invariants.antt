@@ -1,5 +1,0 @@
-use Rattle.group_model.specs.World.{logs}
-use Rattle.bench_world.proofs.exchange.fetch_at.Given as goal
-
-abbrev pub ghost-fetch : goal.ghost-fetch
-ghost-fetch g a = logs g.begun

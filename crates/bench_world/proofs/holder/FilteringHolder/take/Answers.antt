@@ -1,0 +1,17 @@
+use Rattle.std.proofs.Common.{arith}
+use Rattle.repo_mirror.specs.MirrorState.{mirror_holdings}
+use Rattle.repo_mirror.proofs.PublicLaws.{holder_outcomes_are_mirrors}
+use Rattle.bench_world.proofs.MirrorFetches.{many_parts}
+use Rattle.bench_world.proofs.holder.FilteringHolder.take.Goals as goal
+
+pub take_outcome-requires-clause-outcome : goal.take_outcome-requires-clause-outcome
+take_outcome-requires-clause-outcome g c =
+    holder_outcomes_are_mirrors c.args._g.now c.args.self.now.mirror c.args.jobs.now c.args.parts.now
+    c.args.attempts.now c.requires.outcome
+
+pub octets_that_came-requires : goal.octets_that_came-requires
+octets_that_came-requires g c =
+    let many =
+    many_parts c.args._g.now (mirror_holdings c.args.self.now.mirror) c.args.jobs.now c.args.parts.now
+    c.args.attempts.now c.requires.outcome.each in
+    let few = c.requires.few in omega (arith, many, few)

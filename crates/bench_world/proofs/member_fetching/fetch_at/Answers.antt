@@ -1,0 +1,66 @@
+use Rattle.std.proofs.Common.{rules, length, sym, ap, subst, ◌∙◌}
+use Rattle.std.specs.Prelude.{sum_by}
+use Rattle.std.proofs.lemmas.List.{get_or_default}
+use Rattle.std.proofs.lemmas.Result.{on_ok_weaker, on_err_weaker, IfOk-weaker}
+use Rattle.group_model.specs.World.{logs}
+use Rattle.repo_member.specs.Alone.{Alone, alone_holdings}
+use Rattle.repo_member.specs.TrueMembers.{IsTrueMember}
+use Rattle.bench_world.specs.Sizes.{size_of}
+use Rattle.bench_world.specs.Truth.{TriedFew}
+use Rattle.bench_world.specs.Worlds.{nobody, AreTrueMembers, MembersAreNumbered}
+use Rattle.bench_world.proofs.TrueOthers.{others_true}
+use Rattle.bench_world.proofs.EitherAnswer.{either_way}
+use Rattle.bench_world.proofs.GroupFetches.{fetched_at}
+use Rattle.bench_world.proofs.Bounded.{condition, member_passed_on}
+use Rattle.bench_world.proofs.member_fetching.fetch_at.Goals as goal
+
+pub fetch-fetched-requires : goal.fetch-fetched-requires
+fetch-fetched-requires g c κs within =
+    let can = condition c.requires in
+    let here =
+    c.remove-member.ensures.value
+    ∙ get_or_default c.args.members.now.items c.args.j c.remove-member.result nobody can.there in
+    member_passed_on within (search rules) c.requires
+    (record {
+      workers = can.workers;
+      tries = can.tries;
+      logs = can.logs;
+      others =
+          subst (AreTrueMembers c.args.g.now (logs g.begun)) (sym c.as_slice.ensures.value)
+          (others_true c.args.g.now (logs g.begun) c.args.members.now.items c.remove-member.new.self.items
+          c.args.j can.truly c.remove-member.ensures.items);
+      truly =
+          subst (IsTrueMember c.args.g.now (logs g.begun)) (sym here)
+          (can.truly c.args.j can.there);
+      tried = subst (λ (a : Alone). TriedFew (alone_holdings a)) (sym here) (can.tried c.args.j can.there);
+    })
+
+pub returns : goal.returns
+returns g c =
+    let can = condition c.requires in
+    let r = c.fetch-fetched.result in
+    let done =
+    fetched_at (g.N.Net.passes c.args.net.now) (λ _ _. 0) c.args.g.now g.begun can.logs.are c.args.members.now.items
+    can.begun can.numbers can.truly c.args.j can.there c.args.tries c.args.loss c.remove-member.new.self.items
+    c.as_slice.result.now c.insert.new.self.items c.remove-member.result c.fetch-fetched.new.holder
+    c.remove-member.ensures.value c.remove-member.ensures.items c.as_slice.ensures.value c.in-Ok.ensures.items in
+    record {
+      members = on_ok_weaker r done.after c.fetch-fetched.ensures.new;
+      planned = IfOk-weaker r _ _ (λ _ planned. planned ∙ done.planned) c.fetch-fetched.ensures.planned;
+      parts = IfOk-weaker r _ _ (λ _ parts. parts ∙ ap length done.came) c.fetch-fetched.ensures.parts;
+      octets =
+          IfOk-weaker r _ _ (λ _ octets. octets ∙ ap (sum_by (size_of c.args.g.now (logs g.begun))) done.came)
+          c.fetch-fetched.ensures.octets;
+      attempts = IfOk-weaker r _ _ (λ _ attempts. attempts ∙ done.attempts) c.fetch-fetched.ensures.attempts;
+      len = done.len;
+      truly =
+          either_way r (on_ok_weaker r done.truly c.fetch-fetched.ensures.new)
+          (on_err_weaker r (λ stays.
+          subst (AreTrueMembers c.args.g.now (logs g.begun)) (sym (done.same stays)) can.truly)
+          c.fetch-fetched.ensures.err);
+      numbers =
+          either_way r (on_ok_weaker r done.numbers c.fetch-fetched.ensures.new)
+          (on_err_weaker r (λ stays. subst MembersAreNumbered (sym (done.same stays)) can.numbers)
+          c.fetch-fetched.ensures.err);
+      err = on_err_weaker r done.same c.fetch-fetched.ensures.err;
+    }

@@ -1,0 +1,53 @@
+use Rattle.std.proofs.Common.{rules, List, refl, sym, subst, ◌∙◌}
+use Rattle.std.specs.Prelude.{OnOk}
+use Rattle.std.proofs.lemmas.List.{get_or_default}
+use Rattle.repo_member.specs.Alone.{Alone, alone_holdings}
+use Rattle.repo_member.specs.TrueMembers.{IsTrueMember}
+use Rattle.bench_world.specs.Truth.{TriedFew}
+use Rattle.bench_world.specs.Worlds.{nobody, alone_at, AreTrueMembers}
+use Rattle.bench_world.specs.MemberWords.{member_words}
+use Rattle.bench_world.specs.Gathering.{NothingLeft}
+use Rattle.bench_world.proofs.TrueOthers.{others_true}
+use Rattle.bench_world.proofs.TakenOut.{put_at, put_changed}
+use Rattle.bench_world.proofs.Bounded.{condition, member_passed_on}
+use Rattle.bench_world.proofs.member_gathering.gather_at.Goals as goal
+
+pub returns-clause-others : goal.returns-clause-others
+returns-clause-others g c =
+    let can = condition c.requires in
+    put_changed nobody c.args.members.now.items c.remove-member.new.self.items c.insert.new.self.items c.args.j
+    c.gather-kept.new.holder can.there
+    c.remove-member.ensures.items c.in-Ok.ensures.items
+
+pub gather-kept-requires : goal.gather-kept-requires
+gather-kept-requires g c κs within =
+    let can = condition c.requires in
+    let here =
+    c.remove-member.ensures.value
+    ∙ get_or_default c.args.members.now.items c.args.j c.remove-member.result nobody can.there in
+    member_passed_on within (search rules) c.requires
+    (record {
+      workers = can.workers;
+      logs = can.logs;
+      others =
+          subst (AreTrueMembers c.args.g.now g.logs) (sym c.as_slice.ensures.value)
+          (others_true c.args.g.now g.logs c.args.members.now.items c.remove-member.new.self.items c.args.j
+          can.members c.remove-member.ensures.items);
+      loss = refl;
+      truly =
+          subst (IsTrueMember c.args.g.now g.logs) (sym here)
+          (can.members c.args.j can.there);
+      tried = subst (λ (a : Alone). TriedFew (alone_holdings a)) (sym here) (can.tried c.args.j can.there);
+    })
+
+pub returns-clause-left : goal.returns-clause-left
+returns-clause-left g c =
+    let can = condition c.requires in
+    let here =
+    put_at nobody c.args.members.now.items c.remove-member.new.self.items c.insert.new.self.items c.args.j
+    c.gather-kept.new.holder can.there c.remove-member.ensures.items c.in-Ok.ensures.items in
+    subst (λ (others : List Alone).
+    OnOk c.gather-kept.result (NothingLeft member_words others (alone_at c.insert.new.self.items c.args.j)))
+    (c.as_slice.ensures.value ∙ c.remove-member.ensures.items)
+    (subst (λ (a : Alone). OnOk c.gather-kept.result (NothingLeft member_words c.as_slice.result.now a)) (sym here)
+    c.gather-kept.ensures.left)

@@ -1,0 +1,60 @@
+// What a member fetches of the others.
+ghost use Rattle.std.specs.Prelude.{◌≡◌, length, IfOk, OnOk, OnErr};
+ghost use Rattle.std.specs.List.{sum_by};
+ghost use Rattle.group_model.specs.World.{World, logs};
+ghost use Rattle.group_model.specs.Steps.{planned_parts, fetched_parts, attempts_made, after_fetch};
+ghost use Rattle.bench_world.specs.Serving.{outside};
+ghost use Rattle.bench_world.specs.Sizes.{size_of};
+ghost use Rattle.bench_world.specs.Conditions.{CanFetchAt};
+ghost use Rattle.bench_world.specs.Worlds.{in_groups};
+ghost use Rattle.bench_world.specs.Worlds.{AreTrueMembers, MembersAreNumbered};
+
+use crate::fetch::{FetchCounts, fetch};
+use crate::lending::MemberLink;
+use bench_net::Net;
+use repo_member::{Group, Member};
+use std::alloc::{AllocError, Global};
+use std::thread::Threads;
+
+/// One member fetches of the others.
+pub(crate) fn fetch_at<N: Net + Sync, R: Threads + Sync>(
+    rt: &R,
+    alloc: Global,
+    g: &Group,
+    net: &N,
+    workers: u32,
+    members: &mut Vec<Member>,
+    j: u32,
+    tries: u32,
+    loss: u32,
+) -> Result<FetchCounts, AllocError>
+    ghost begun: { World }
+    requires { CanFetchAt g.now begun workers tries j members.old.items }
+    ensures members { OnOk result (in_groups members.new.items
+        ≡ (after_fetch (outside g.now (λ _ _. 0) (N.passes net.now)) begun j tries loss).members) }
+    ensures planned { IfOk result (λ r. r.planned ≡ length (planned_parts begun j)) }
+    ensures parts { IfOk result (λ r. r.kept.parts
+        ≡ length (fetched_parts (outside g.now (λ _ _. 0) (N.passes net.now)) begun j tries loss)) }
+    ensures octets { IfOk result (λ r. r.kept.octets ≡ sum_by (size_of g.now (logs begun))
+        (fetched_parts (outside g.now (λ _ _. 0) (N.passes net.now)) begun j tries loss)) }
+    ensures attempts { IfOk result (λ r. r.attempts
+        ≡ attempts_made (outside g.now (λ _ _. 0) (N.passes net.now)) begun j tries loss) }
+    ensures len { length members.new.items ≡ length members.old.items }
+    ensures truly { AreTrueMembers g.now (logs begun) members.new.items }
+    ensures numbers { MembersAreNumbered members.new.items }
+    ensures err { OnErr result (members.new.items ≡ members.old.items) }
+{
+    let mut member = members.remove(j as usize);
+    let link = MemberLink {
+        others: members.as_slice(),
+        net,
+        asker: j,
+        loss: Some(loss),
+    };
+    let fetched = fetch(rt, alloc, g, &link, workers, tries, &mut member);
+    // There is room where the member stood.
+    let Ok(()) = members.insert(j as usize, member) else {
+        unreachable!()
+    };
+    fetched
+}

@@ -1,0 +1,75 @@
+// What members tell each other and gather of each other in a settle.
+ghost use Rattle.std.specs.Prelude.{◌≡◌, ◌+◌, ◌<◌, ◌≤◌, IfOk, OnOk, OnErr};
+ghost use Rattle.group_model.specs.Laws.{NothingHidden, AllJoined};
+ghost use Rattle.group_model.specs.Steps.{after_gathering, settle_gains};
+ghost use Rattle.bench_world.specs.Serving.{outside, keyed};
+ghost use Rattle.bench_world.specs.Worlds.{world_of};
+ghost use Rattle.bench_world.specs.Runs.{HaveSettledPart};
+ghost use Rattle.bench_world.specs.EventValues.{EventValue};
+ghost use Rattle.bench_world.specs.Runs.{IsStep};
+
+use super::World;
+use crate::event::{Happened, StepFault};
+use crate::settling::{reset_all, send_all, settle_members};
+use bench_net::{Draws, Net};
+use std::alloc::AllocError;
+use std::thread::Threads;
+
+impl World {
+    /// All claims end, each member learns what all know, and gains every part that some member holds with its record
+    /// and that it doesn't hide: how many parts came. The machines aren't reset, which the step of a settle does.
+    ///
+    /// The answers of the network aren't used. After want of memory each member has come a part of the way.
+    pub fn settle<N: Net + Sync, R: Threads + Sync>(
+        &mut self,
+        rt: &R,
+        workers: u32,
+        net: &N,
+    ) -> Result<u64, AllocError>
+        requires workers { (1 ≤ workers) × (workers ≤ 16) }
+        requires few { self.old.steps < 100000 }
+        ensures world { OnOk result (world_of self.new ≡ after_gathering (keyed self.old.keys) (world_of self.old)) }
+        ensures parts { IfOk result (λ parts. parts ≡ settle_gains (world_of self.old)) }
+        // Where nothing is hidden, each catalogue is the join of all publications.
+        ensures joined { OnOk result (NothingHidden (world_of self.new) → AllJoined (world_of self.new)) }
+        ensures steps { self.new.steps ≡ self.old.steps + 1 }
+        ensures keys { self.new.keys ≡ self.old.keys }
+        ensures mirrors { self.new.mirrors ≡ self.old.mirrors }
+        ensures err { OnErr result (HaveSettledPart self.old self.new) }
+    {
+        self.steps += 1;
+        self.sent.reserve(self.members.len())?;
+        let settled = settle_members(rt, self.alloc, &self.group, net, workers, &mut self.members);
+        let (told, parts, octets) = match settled {
+            Ok(settled) => settled,
+            Err(error) => return Err(error),
+        };
+        send_all(&mut self.sent, told);
+        let count = self.members.len() as u64;
+        self.delivered += count * count.saturating_sub(1);
+        self.parts += parts;
+        self.octets += octets;
+        Ok(parts)
+    }
+
+    /// The step of a settle: each machine starts again afterwards, with its member's next draw.
+    pub(crate) fn settle_step<N: Net + Sync, D: Draws, R: Threads + Sync>(
+        &mut self,
+        rt: &R,
+        workers: u32,
+        net: &N,
+        draws: &D,
+    ) -> Result<Happened, StepFault>
+        requires workers { (1 ≤ workers) × (workers ≤ 16) }
+        requires few { self.old.steps < 100000 }
+        ensures { IsStep (outside self.old.keys (D.draw draws.now) (N.passes net.now)) (EventValue.Settle workers)
+            self.old result self.new }
+    {
+        let syncs = self.members.len() as u64;
+        let Ok(kept) = self.settle(rt, workers, net) else {
+            return Err(StepFault::NoMemory);
+        };
+        reset_all(&mut self.members, self.moment, draws);
+        Ok(Happened::Settle { syncs, kept })
+    }
+}
