@@ -4,3 +4,4 @@ pub mod Texts
 pub mod Pieces
 pub mod Limits
 pub mod Labels
+pub mod Refusals

@@ -1,5 +1,5 @@
 //! The lines of a report: one call for each form of line, which appends exactly its octets or changes
-//! nothing.
+//! nothing. Beside them the reasons for which a line of the input is refused, with their numbers and words.
 //!
 //! What is promised of it: `docs/promises/script_report.md`.
 #![tactic(auto)]
@@ -15,6 +15,7 @@ mod mirrors;
 mod parts;
 mod piece;
 mod readings;
+mod refusal;
 mod telling;
 mod watchers;
 
@@ -41,6 +42,7 @@ pub use parts::{
     put_feed_refused, put_fetch, put_lose, put_settle,
 };
 pub use readings::{put_catalogue, put_summary, put_traffic, put_vector};
+pub use refusal::Refusal;
 pub use telling::{
     put_ask_found, put_ask_none, put_ask_refused, put_dump_hex, put_dump_none, put_hear_refused,
     put_hear_steady, put_hear_suppressed,
