@@ -59,6 +59,7 @@ class Script:
         self.claims = {}
         self.insertions = {}
         self.watchers = []
+        self.mirrors = []
         # How often a line stays that ends the script.
         self.ending = draw.choice([0, 0, 0, 0.01, 0.2])
         self.printed = 0
@@ -67,6 +68,10 @@ class Script:
                   (5, self.feed), (2, self.fetch), (1, self.settle), (2, self.show), (2, self.time), (4, self.hear),
                   (3, self.ask), (1, self.restart), (1, self.spaces), (0.3, self.anything), (1.5, self.watch),
                   (3, self.told)]
+        for n in range(draw.choice([0, 0, 1, 2, 4, 5])):
+            self.mirror(n)
+        if self.mirrors:
+            makers += [(4, self.mdeliver), (5, self.mfetch), (2, self.mcatalogue)]
         if self.group.clients:
             makers += [(2, self.insert), (4, self.block), (1, self.status), (2, self.delete), (3, self.order)]
         while len(self.lines) < lines and not self.is_over:
@@ -78,6 +83,7 @@ class Script:
             for label, _, _ in self.group.members:
                 self.lines += [f"catalogue {label}", f"vector {label}", f"fetch {label} 1 1 1000", f"claim {label} 7"]
             self.lines += [f"told {self.label(m)} {w}" for m, w in self.watchers]
+            self.lines += [f"mcatalogue {label}" for label in self.mirrors]
             self.lines += ["summary", "traffic"]
 
     def text(self):
@@ -211,6 +217,26 @@ class Script:
         if self.watchers and self.draw.random() < 0.95:
             m, w = self.draw.choice(self.watchers)
         self.put("told", self.label(m), w)
+
+    def mirror(self, n):
+        publisher = self.draw.choice(["*", self.label(self.member())])
+        label = f"w{n}" if self.draw.random() < 0.97 else self.label(self.member())
+        self.put("mirror", label, publisher, self.draw.choice(NAMES + ["/", "/", "/n"]))
+        if self.lines[-1].startswith(f"mirror {label} "):
+            self.mirrors.append(label)
+
+    def mirror_label(self):
+        return self.draw.choice(self.mirrors) if self.draw.random() < 0.97 else self.label(self.member())
+
+    def mdeliver(self):
+        self.put("mdeliver", self.draw.randint(1, self.group.sent + 1), self.mirror_label())
+
+    def mfetch(self):
+        self.put("mfetch", self.mirror_label(), self.draw.randint(1, 16), self.draw.randint(1, 4),
+                 self.draw.choice([0, 0, 100, 500, 900, 1000]))
+
+    def mcatalogue(self):
+        self.put("mcatalogue", self.mirror_label())
 
     def show(self):
         m, p = self.label(self.member()), self.member()

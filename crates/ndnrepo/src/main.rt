@@ -1,5 +1,7 @@
 //! The program `ndnrepo`: `run` reads a script on standard input and writes its report on standard output, `inspect`
 //! reads the hexadecimal digits of octets and writes the elements that they are, and `gen` writes a script.
+//!
+//! What is promised of its call `run`: `docs/promises/repo_top.md`.
 #![tactic(auto)]
 
 #[cfg(test)]

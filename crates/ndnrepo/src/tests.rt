@@ -9,6 +9,7 @@ mod inspected;
 mod interrupted;
 mod joined;
 mod kinds;
+mod mirrors;
 mod refused;
 mod rows;
 mod seeded;

@@ -1,19 +1,18 @@
 -- A member or a client more leaves a group one.
 use Rattle.std.proofs.Common.{◌≡◌, ◌∙◌, ℕ, ◌<◌, Bool, false, ◌||◌, List, [], ◌∷◌, ◌++◌, length, length-append}
-use Rattle.std.proofs.Common.{get_or, refl, sym, ap, subst, arith}
-use Rattle.std.specs.List.{All, IsDistinct, list_any}
+use Rattle.std.proofs.Common.{get_or, sym, ap, arith}
+use Rattle.std.specs.List.{All, list_any}
 use Rattle.std.proofs.lemmas.Bool.{or_parts}
 use Rattle.std.proofs.lemmas.List.{map-append}
 use Rattle.std.proofs.lemmas.List.Elements.{All-cons, All-head, All-nil, All-push, All-tail}
 use Rattle.std.proofs.lemmas.List.Folds.{list_any-append}
 use Rattle.std.proofs.lemmas.Map.Keys.{IsDistinct-push}
-use Rattle.std.proofs.lemmas.Option.{unwrap_or-slice_get}
 use Rattle.ndn_name.specs.Names.{Component, encoding}
 use Rattle.ndn_sign.specs.Ring.{NamedKey, pair}
 use Rattle.svs_vector.specs.Rosters.{IsOwnName, has_same_octets}
-use Rattle.repo_object.specs.Objects.{IsPublisher, key_name}
-use Rattle.repo_member.specs.Groups.{DifferInNames, GroupKeys, HaveKeys, IsGroup, IsKey, IsPlainNodeName, NodeKeys}
-use Rattle.repo_member.specs.Groups.{no_nodes, node_at, publisher_at, with_node}
+use Rattle.repo_object.specs.Objects.{key_name}
+use Rattle.repo_member.specs.Groups.{DifferInNames, HaveKeys, IsKey, IsPlainNodeName, NodeKeys}
+use Rattle.repo_member.specs.Groups.{with_node}
 use Rattle.repo_member.proofs.PublicLaws.{none_found, same_name}
 
 -- ---- nodes
@@ -21,15 +20,6 @@ use Rattle.repo_member.proofs.PublicLaws.{none_found, same_name}
 -- None of the names is this one.
 abbrev pub AreOthers : List Component → List (List Component) → Type 0
 AreOthers node names = list_any (has_same_octets node) names ≡ false
-
-pub none_have_keys : HaveKeys no_nodes
-unfolding IsDistinct
-none_have_keys = record {
-  keys = refl;
-  roster = record { few = omega arith; names = All-nil IsOwnName; different = tt };
-  node_names = All-nil IsPlainNodeName;
-  short_keys = All-nil (λ (p : NamedKey). IsKey p.key);
-}
 
 pub one_has_too : (nodes : NodeKeys) (node : List Component) (key : List ℕ) → HaveKeys nodes → IsPlainNodeName node
     → IsKey key → AreOthers node nodes.names → length nodes.names < 16 → HaveKeys (with_node node key nodes)
@@ -80,12 +70,3 @@ apart_client members clients node key apart others = each members.names apart ot
       All-cons (λ (m : List Component). AreOthers m (clients.names ++ node ∷ [])) n names
       (one n (All-head (λ (m : List Component). AreOthers m clients.names) n names all) both.0)
       (each names (All-tail (λ (m : List Component). AreOthers m clients.names) n names all) both.1)
-
--- ---- publishers
-
-pub publisher_is : (g : GroupKeys) (p : ℕ) → IsGroup g → p < length g.members.names → IsPublisher (publisher_at g p)
-publisher_is g p is inside =
-    let at : node_at g p ≡ get_or g.members.names p [] = unwrap_or-slice_get g.members.names p [] in
-    let plain : IsPlainNodeName (node_at g p) =
-    subst IsPlainNodeName (sym at) (is.members.node_names p [] inside) in
-    record { node = (plain.valid, plain.short); group = (is.name.valid, is.name.short) }

@@ -1,6 +1,6 @@
 -- The world that a run leaves.
 use Rattle.std.proofs.Common.{◌≡◌, ◌∙◌, List, ℕ, Bool, true, false, cond, ltb, length, Option, Some, None, IfSome}
-use Rattle.std.proofs.Common.{Result, Ok, Err, refl, sym, ap, subst}
+use Rattle.std.proofs.Common.{Result, Ok, Err, map, refl, sym, ap, subst}
 use Rattle.std.specs.Option.{option_map}
 use Rattle.hex.specs.Hex.{decode_of}
 use Rattle.hex.specs.declared.error.FromHexError.{FromHexError}
@@ -8,11 +8,12 @@ use Rattle.ndn_inspect.specs.Inspection.{inspected}
 use Rattle.bench_world.specs.Worlds.{GroupState, world_of}
 use Rattle.repo_top.specs.declared.asked.Asked.{Asked}
 use Rattle.repo_top.specs.declared.asked.Asked.TheVariants.{Inspect}
-use Rattle.repo_top.specs.declared.refusal.Refusal.TheVariants.{Limit}
+use Rattle.script_report.specs.declared.refusal.Refusal.TheVariants.{Limit}
 use Rattle.repo_io.specs.declared.status.Status.{Status}
 use Rattle.repo_io.specs.declared.status.Status.TheVariants.{Done}
 use Rattle.repo_top.specs.Forms.{asked_story}
 use Rattle.repo_top.specs.Inspection.{decoded_story, inspect_story, lines_story, without_spaces}
+use Rattle.repo_top.specs.Mirrors.{mirror_as}
 use Rattle.repo_top.specs.Judging.{Given, State}
 use Rattle.repo_top.specs.Story.{Story, refused}
 use Rattle.repo_top.specs.Carrying.{EndsIn, Known, LeavesWorld, Leaving, Ran}
@@ -23,9 +24,19 @@ same_keys : (left : Option GroupState) (state : State) (s : Story) → s.keys �
 same_keys None state s e h = tt
 same_keys (Some world) state s e h = h ∙ sym e
 
+same_mirrors : (left : Option GroupState) (state : State) (s : Story) → s.mirrors ≡ state.mirrors
+    → IfSome left (λ world. map mirror_as world.mirrors ≡ state.mirrors)
+    → IfSome left (λ world. map mirror_as world.mirrors ≡ s.mirrors)
+same_mirrors None state s e h = tt
+same_mirrors (Some world) state s e h = h ∙ sym e
+
 leaves : (left : Option GroupState) (state : State) → Leaving state left → (s : Story) → EndsIn state s
     → LeavesWorld left s
-leaves left state l s e = record { world = l.world ∙ sym e.world; keys = same_keys left state s e.keys l.keys }
+leaves left state l s e = record {
+  world = l.world ∙ sym e.world;
+  keys = same_keys left state s e.keys l.keys;
+  mirrors = same_mirrors left state s e.mirrors l.mirrors;
+}
 
 pub ran_leaves : (given : Given) (a b : Option (List ℕ)) (status : Status) (state : State) (left : Option GroupState)
     → (status ≡ Done → Leaving state left) → (before now : Option (List ℕ))

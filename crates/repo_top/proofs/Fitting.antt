@@ -9,7 +9,7 @@ use Rattle.std.specs.List.{All, list_all, list_any, prefix_len}
 use Rattle.std.specs.Option.{IfSome}
 use Rattle.std.specs.Str.{bytes_eq}
 use Rattle.std.proofs.Math.Nat.{lt_of_mul-lt-mul_right}
-use Rattle.std.proofs.lemmas.Bool.{false≢true, lt-ltb, or_parts}
+use Rattle.std.proofs.lemmas.Bool.{false≢true, and_from, lt-ltb, or_parts}
 use Rattle.std.proofs.lemmas.Bool.Decides.{nat_tests}
 use Rattle.std.proofs.lemmas.Grind.{div_ceil_times}
 use Rattle.std.proofs.lemmas.List.{length-map}
@@ -27,14 +27,15 @@ use Rattle.script_lang.specs.Kinds.{Kind, Value, Text, Number, Named, Octets}
 use Rattle.script_lang.specs.Forms.{Stated, form, said}
 use Rattle.script_lang.specs.Lines.{are_within, line_of}
 use Rattle.script_lang.specs.Checking.{Declared, Party, has_label, labels_in, are_known, are_known_by, party_place}
+use Rattle.script_lang.specs.Checking.{is_mirror, mirror_place}
 use Rattle.script_lang.specs.Checking.{are_within_limits, with_totals, adds, after_by, after_event, after_line}
 use Rattle.script_lang.specs.Texts.{AreOf, AreWordTexts, IsLineText, IsWordText}
-use Rattle.script_lang.proofs.Conditions.{and_left, and_right, and_both, le_test, le_tested, lt_tested}
+use Rattle.script_lang.proofs.Conditions.{and_left, and_right, le_test, le_tested, lt_tested}
 use Rattle.script_lang.proofs.LineTexts.{line_texts}
 use Rattle.repo_member.specs.Groups.{IsPlainNodeName, IsKey}
 use Rattle.bench_world.specs.EventValues.{EventValue}
 use Rattle.bench_world.specs.Steps.{IsReady, NamesClient}
-use Rattle.repo_top.specs.SaidEvents.{party_number, said_by, said_event}
+use Rattle.repo_top.specs.SaidEvents.{mirror_number, party_number, said_by, said_event}
 use Rattle.repo_top.proofs.ReadNames.{read_name_valid}
 
 -- ---- places
@@ -54,6 +55,18 @@ pub number_within : (label : List ℕ) (a b : List Party) → b ≡ a → has_la
     → party_number label b < length b
 number_within label a b same known = rw same (any_within (λ (p : Party). bytes_eq p.label label) a known)
 
+-- the same of a mirror
+pub mirror_within : (label : List ℕ) (mirrors : List (List ℕ)) → is_mirror label mirrors ≡ true
+    → mirror_number label mirrors < length mirrors
+mirror_within label mirrors known = any_within (λ mirror. bytes_eq mirror label) mirrors known
+
+pub mirror_placed : (label : List ℕ) (mirrors : List (List ℕ)) → is_mirror label mirrors ≡ true
+    → mirror_place label mirrors ≡ Some (mirror_number label mirrors)
+mirror_placed label mirrors known =
+    let n : ℕ = mirror_number label mirrors in
+    let inside : nat_lt n (length mirrors) ≡ true = lt-ltb n (length mirrors) (mirror_within label mirrors known) in
+    ap (λ (b : Bool). if b then Some n else None) inside
+
 -- so it has a place
 pub place_of_known : (label : List ℕ) (parties : List Party) → has_label label parties ≡ true
     → party_place label parties ≡ Some (party_number label parties)
@@ -71,14 +84,14 @@ no_digests (c ∷ cs) h =
     let no = or_parts (is_digest c) (list_any is_digest cs) h in
     let low : nat_le c.0 2 ≡ false = no.0 in
     let above : nat_lt 2 c.0 ≡ true = grind (arith, nat_tests) in
-    and_both (nat_lt 2 c.0) _ above (no_digests cs no.1)
+    and_from (nat_lt 2 c.0) _ above (no_digests cs no.1)
 
 object_name : (name : List Component)
     → (list_any is_digest name ≡ false) × (1 ≤ length (encoding name)) × (length (encoding name) ≤ 400)
     → IsTrue (is_object_name name)
 object_name name h =
     let some : nat_lt 0 (length (encoding name)) ≡ true = grind (arith, nat_tests, h.1) in
-    and_both _ _ (and_both _ _ some (le_test (length (encoding name)) 400 h.2)) (no_digests name h.0)
+    and_from _ _ (and_from _ _ some (le_test (length (encoding name)) 400 h.2)) (no_digests name h.0)
 
 -- a content has no more pieces than it has octets for
 few_pieces : (size : ℕ) (content : List ℕ) → 1 ≤ size → length content ≤ 20000 * size
@@ -269,6 +282,7 @@ form_fits : (form_verb : Verb) → FormFits form_verb
 form_fits verb.Group d e values same of within known = tt
 form_fits verb.Member d e values same of within known = tt
 form_fits verb.Client d e values same of within known = tt
+form_fits verb.Mirror d e values same of within known = tt
 form_fits verb.Publish d e values same of within known = publish_fits d e values same of within known
 form_fits verb.Withdraw d e values same of within known = withdraw_fits d e values same of within known
 form_fits verb.Deliver d e values same of within known = deliver_fits d e values same of within known
@@ -294,6 +308,9 @@ form_fits verb.Status d e values same of within known = status_fits d e values s
 form_fits verb.Delete d e values same of within known = delete_fits d e values same of within known
 form_fits verb.Watch d e values same of within known = tt
 form_fits verb.Told d e values same of within known = tt
+form_fits verb.Mdeliver d e values same of within known = tt
+form_fits verb.Mfetch d e values same of within known = tt
+form_fits verb.Mcatalogue d e values same of within known = tt
 form_fits verb.Summary d e values same of within known = summary_fits d e values same of within known
 form_fits verb.Traffic d e values same of within known = traffic_fits d e values same of within known
 
@@ -330,6 +347,7 @@ event_taken : (form_verb : Verb) (d e : Declared) (s : Stated) (values : List Va
 event_taken verb.Group d e s values v after says = cc
 event_taken verb.Member d e s values v after says = cc
 event_taken verb.Client d e s values v after says = cc
+event_taken verb.Mirror d e s values v after says = cc
 event_taken form_verb d e s values v after says = taken d e s after
 
 fits_some : (d : Declared) (o : Option EventValue) (v : EventValue) → o ≡ Some v → IfSome o (Fits d) → Fits d v
@@ -407,3 +425,12 @@ client_fits octets label name key read =
     let text = (line_texts (said verb.Client values) octets).0 read in
     let words = written (form verb.Client).kinds values text.words text.texts in
     (node_name name words.1.0.0 text.ranges.1.0 words.1.0.1, key_fits key text.ranges.1.1.0)
+
+-- So many fetch for a mirror, and so often at most.
+pub mirror_fits : (octets label : List ℕ) (workers tries loss : ℕ)
+    → line_of octets ≡ Ok (Some (said verb.Mfetch (Text label ∷ Number workers ∷ Number tries ∷ Number loss ∷ [])))
+    → ((1 ≤ workers) × (workers ≤ 16)) × ((1 ≤ tries) × (tries ≤ 16))
+mirror_fits octets label workers tries loss read =
+    let values : List Value = Text label ∷ Number workers ∷ Number tries ∷ Number loss ∷ [] in
+    let text = (line_texts (said verb.Mfetch values) octets).0 read in
+    ((text.ranges.1.0.0, text.ranges.1.0.1), (text.ranges.1.1.0.0, text.ranges.1.1.0.1))

@@ -30,8 +30,9 @@ use Rattle.repo_top.specs.Judging.{Given, State, acted_by, found_world, outside_
 use Rattle.repo_top.specs.Story.{Reached}
 use Rattle.repo_top.specs.Headline.{HoldsAllOf, IsCatalogueLine, IsCatalogueOf, IsToBeListed, ListExactly}
 use Rattle.repo_top.specs.Headline.{PrintsCatalogues, group_at, labels_at, printed_entries, publication_at}
-use Rattle.repo_top.proofs.HeadlineGroups.{IsActed, IsEventLine, IsSoundState, StatedTaken, acts_so, event_line}
-use Rattle.repo_top.proofs.HeadlineGroups.{sound_from_start, stated_taken, taken_line}
+use Rattle.repo_top.proofs.HeadlineGroups.{IsEventLine, IsSoundState, event_line}
+use Rattle.repo_top.proofs.HeadlineGroups.{sound_from_start}
+use Rattle.repo_top.proofs.LinesTaken.{IsActed, StatedTaken, acts_so, stated_taken, taken_line}
 
 -- ---- a catalogue
 

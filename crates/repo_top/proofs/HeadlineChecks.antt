@@ -26,8 +26,8 @@ use Rattle.group_model.proofs.Members.{known_published}
 use Rattle.group_model.proofs.Parts.{IsIn, in_parts_in, in_published}
 use Rattle.repo_member.specs.Groups.{GroupKeys, publisher_at}
 use Rattle.repo_member.specs.InGroup.{AreLogs, true_packet}
-use Rattle.repo_member.proofs.PublicLaws.{packets_are_there, packets_pass}
-use Rattle.bench_world.proofs.Coming.{post_within, publisher_there}
+use Rattle.repo_member.proofs.PublicLaws.{is_publisher, packets_are_there, packets_pass}
+use Rattle.bench_world.proofs.ClaimedPackets.{post_within, publisher_there}
 use Rattle.repo_top.specs.Judging.{Given}
 use Rattle.repo_top.specs.Story.{Reached}
 use Rattle.repo_top.specs.Headline.{AreTakenFirst, group_at}
@@ -35,7 +35,6 @@ use Rattle.repo_top.specs.HeldPackets.{EntriesTellOfDumped, HoldsChecked, Member
 use Rattle.repo_top.specs.HeldPackets.{TellsOfDumped, all_there, dumped}
 use Rattle.repo_top.proofs.ListedDigests.{lists_digest}
 use Rattle.repo_top.proofs.HeadlineGroups.{IsSoundState, sound_from_start}
-use Rattle.repo_top.proofs.DeclaredGroups.{publisher_is}
 use Rattle.repo_top.proofs.HeadlineMembers.{kept_from_start}
 
 -- ---- one packet
@@ -43,7 +42,7 @@ use Rattle.repo_top.proofs.HeadlineMembers.{kept_from_start}
 its_publisher : (g : GroupKeys) (ls : Logs) → AreLogs g ls → (pair : Pair) → IsPublished ls pair
     → IsPublisher (publisher_at g pair.0)
 its_publisher g ls are pair there =
-    publisher_is g pair.0 are.group (omega (arith, publisher_there ls pair there, are.width))
+    is_publisher g pair.0 are.group (omega (arith, publisher_there ls pair there, are.width))
 
 -- A number of a publication has two octets.
 its_number : (g : GroupKeys) (ls : Logs) → AreLogs g ls → (pair : Pair) → IsPublished ls pair → pair.1 < 2 ^ 16

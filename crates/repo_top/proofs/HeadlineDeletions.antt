@@ -3,6 +3,7 @@ use Rattle.std.proofs.Common.{◌≡◌, ◌∙◌, ℕ, zero, suc, ◌<◌, Boo
 use Rattle.std.proofs.Common.{get_or, set, map, Option, Some, None, Result, Ok, refl, sym, ap, subst, arith}
 use Rattle.std.specs.List.{list_all}
 use Rattle.std.specs.Option.{IfSome}
+use Rattle.std.proofs.lemmas.Bool.{not-true}
 use Rattle.std.proofs.lemmas.List.{length-set}
 use Rattle.repo_plan.specs.declared.part.Part.{Part}
 use Rattle.svs_sync.specs.declared.fired.Fired.{Fired}
@@ -38,8 +39,9 @@ use Rattle.repo_top.specs.SaidEvents.{said_by, said_event}
 use Rattle.repo_top.specs.Judging.{Given, State, found_world, outside_of}
 use Rattle.repo_top.specs.Story.{Reached, nothing_reached}
 use Rattle.repo_top.specs.Headline.{LinesAreTaken, HidesByDeletionAlone, deletes, deletes_nothing, group_at}
-use Rattle.repo_top.proofs.HeadlineGroups.{IsSoundState, LineTaken, opened, sound_beginning, sound_line, taken_line}
-use Rattle.repo_top.proofs.HeadlineEvents.{LineSteps, declares, line_steps, steps, still, watches}
+use Rattle.repo_top.proofs.HeadlineGroups.{IsSoundState, opened, sound_beginning, sound_line}
+use Rattle.repo_top.proofs.LinesTaken.{LineTaken, taken_line}
+use Rattle.repo_top.proofs.HeadlineEvents.{LineSteps, declares, line_steps, mirrors, steps, still, watches}
 
 -- ---- events
 
@@ -163,10 +165,6 @@ hides_as_before out w Event.Traffic spares = none_changes w w refl
 
 -- ---- what lines state
 
-not_true : (b : Bool) → not b ≡ true → b ≡ false
-not_true true h = cc
-not_true false h = refl
-
 undeleting : (g : GroupKeys) (form : Verb) (d : Declared) (values : List Value) → deletes form ≡ false
     → IfSome (said_by form d values) (λ e. IsNoDeletionEvent (group_event g e))
 undeleting g verb.Delete d values only = cc
@@ -214,7 +212,7 @@ stated_keeps : (r : Result (Option Stated) LineFault) (stated : Stated) → r �
     → deletes_nothing r ≡ true → deletes stated.verb ≡ false
 stated_keeps r stated is keeps =
     let spares : not (deletes stated.verb) ≡ true = subst (λ x. deletes_nothing x ≡ true) is keeps in
-    not_true (deletes stated.verb) spares
+    not-true (deletes stated.verb) spares
 
 line_hides : (given : Given) (s : State) (line : List ℕ) (new : State) → IsSoundState given s → IsSoundState given new
     → LineSteps given s line new → deletes_nothing (line_of line) ≡ true → NothingHidden (found_world given s)
@@ -225,7 +223,9 @@ line_hides given s line new sound sound_new (declares early none) keeps nothing_
     ap (λ (w : World). (member w j).hidden) (opened given new (sound_new.begun none))
     ∙ opening_hides _ (numbers_from 0 (length new.keys.members.names)) j (λ x. refl)
 line_hides given s line new sound sound_new (watches beside) keeps nothing_hidden j inside =
-    subst NothingHidden (sym beside.group) nothing_hidden j inside
+    subst NothingHidden (sym beside.leaves.group) nothing_hidden j inside
+line_hides given s line new sound sound_new (mirrors leaves same) keeps nothing_hidden j inside =
+    subst NothingHidden (sym leaves.group) nothing_hidden j inside
 line_hides given s line new sound sound_new (steps stated d e read said step) keeps nothing_hidden j inside =
     let w : World = found_world given s in
     let count : length new.declared.members ≡ length s.declared.members = ap length step.members in

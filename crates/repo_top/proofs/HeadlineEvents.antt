@@ -14,7 +14,7 @@ use Rattle.repo_member.specs.Groups.{GroupKeys}
 use Rattle.script_lang.specs.declared.verb.Verb.{Verb}
 use Rattle.script_lang.specs.declared.verb.Verb.TheVariants as verb
 use Rattle.script_lang.specs.Kinds.{Value, Text, Named, Octets}
-use Rattle.script_lang.specs.Forms.{Stated}
+use Rattle.script_lang.specs.Forms.{Stated, said}
 use Rattle.script_lang.specs.Lines.{line_of}
 use Rattle.script_lang.specs.Checking as checking
 use Rattle.script_lang.specs.Checking.{Declared, after_by, after_group, after_line, party}
@@ -25,14 +25,16 @@ use Rattle.repo_watch.specs.Watching.{Watching}
 use Rattle.repo_watch.specs.Laws.{WatchCall, after_watch_call, after_watch_calls}
 use Rattle.repo_top.specs.SaidEvents.{said_event}
 use Rattle.repo_top.specs.Judging.{Given, State, acted_by, acted_if, declaring_member, found_world, opening_state}
-use Rattle.repo_top.specs.Judging.{outside_of, says, taken_by, watchers_at, with_client, with_group}
+use Rattle.repo_top.specs.Judging.{declaring_mirror, outside_of, says, taken_by, watchers_at, with_client, with_group}
 use Rattle.repo_top.specs.Story.{Reached, nothing_reached}
 use Rattle.repo_top.specs.Headline.{AreTakenFirst, LinesAreTaken, group_at}
 use Rattle.repo_top.proofs.Fitting.{event_fits}
-use Rattle.repo_top.proofs.HeadlineTaken.{IsWatched, says_state, told_so, watched_so}
-use Rattle.repo_top.proofs.HeadlineGroups.{IsSoundState, LineTaken, acted_said, declares_group, event_line}
-use Rattle.repo_top.proofs.HeadlineGroups.{may, nothing, opened, sound_beginning, sound_line, stating}
-use Rattle.repo_top.proofs.HeadlineGroups.{taken_line}
+use Rattle.repo_top.proofs.HeadlineTaken.{IsMirrored, IsWatched, fetched_so, heard_so, listed_so, says_state, told_so}
+use Rattle.repo_top.proofs.HeadlineTaken.{watched_so}
+use Rattle.repo_top.proofs.Judgings.{mirror_declares}
+use Rattle.repo_top.proofs.HeadlineGroups.{IsSoundState, declares_group, event_line}
+use Rattle.repo_top.proofs.HeadlineGroups.{may, opened, sound_beginning, sound_line}
+use Rattle.repo_top.proofs.LinesTaken.{LineTaken, acted_said, nothing, stating, taken_line}
 
 -- ---- one line
 
@@ -45,23 +47,29 @@ pub record IsStep (given : Given) (s new : State) (e : group.Event) : Type 0 whe
   pub begun : new.declared.events ≡ true
   pub watchers : new.watchers ≡ s.watchers
 
--- A line of watchers leaves the group as it finds it, and asks this of the watchers of one member.
-pub record IsBeside (given : Given) (s new : State) : Type 0 where
+-- A line of watchers or mirrors leaves the group as it finds it.
+pub record LeavesGroup (given : Given) (s new : State) : Type 0 where
   pub group : found_world given new ≡ found_world given s
   pub keys : new.keys ≡ s.keys
   pub members : new.declared.members ≡ s.declared.members
   pub begun : new.declared.events ≡ true
+
+-- A line of watchers asks this of the watchers of one member.
+pub record IsBeside (given : Given) (s new : State) : Type 0 where
+  pub leaves : LeavesGroup given s new
   pub m : ℕ
   pub call : WatchCall
   pub watchers : new.watchers ≡ set s.watchers m (after_watch_call call (watchers_at s m))
 
--- A line states nothing, or it declares before the first event, or it states an event, or it is one of watchers.
+-- A line states nothing, or it declares before the first event, or it states an event, or it is one of watchers or of
+-- mirrors.
 pub data LineSteps (given : Given) (s : State) (line : List ℕ) (new : State) : Type 0 where
   still : new ≡ s → LineSteps given s line new
   declares : s.declared.events ≡ false → new.declared.events ≡ false → LineSteps given s line new
   steps : (stated : Stated) (d : Declared) (e : EventValue) → line_of line ≡ Ok (Some stated)
       → said_event d stated ≡ Some e → IsStep given s new (group_event s.keys e) → LineSteps given s line new
   watches : IsBeside given s new → LineSteps given s line new
+  mirrors : LeavesGroup given s new → new.watchers ≡ s.watchers → LineSteps given s line new
 
 module _ (given : Given) (s : State) (sound : IsSoundState given s) (line : List ℕ) (stated : Stated) (d : Declared)
     (report : List ℕ) (new : State) (read_as : line_of line ≡ Ok (Some stated))
@@ -91,14 +99,26 @@ module _ (given : Given) (s : State) (sound : IsSoundState given s) (line : List
   watch_steps taken watched =
       let told = event_line s.declared d stated taken in
       watches (record {
-        group = ap (found_world given) watched.next;
-        keys = ap (λ (x : State). x.keys) watched.next;
-        members = ap (λ (x : State). x.declared.members) watched.next ∙ ap (λ (x : Declared). x.members) told.is;
-        begun = ap (λ (x : State). x.declared.events) watched.next ∙ ap (λ (x : Declared). x.events) told.is;
+        leaves = record {
+          group = ap (found_world given) watched.next;
+          keys = ap (λ (x : State). x.keys) watched.next;
+          members = ap (λ (x : State). x.declared.members) watched.next ∙ ap (λ (x : Declared). x.members) told.is;
+          begun = ap (λ (x : State). x.declared.events) watched.next ∙ ap (λ (x : Declared). x.events) told.is;
+        };
         m = watched.m;
         call = watched.call;
         watchers = ap (λ (x : State). x.watchers) watched.next;
       })
+
+  mirror_steps : checking.after_event s.declared stated ≡ Ok d → IsMirrored given s d new → LineSteps given s line new
+  mirror_steps taken mirrored =
+      let told = event_line s.declared d stated taken in
+      mirrors (record {
+        group = ap (found_world given) mirrored.next;
+        keys = ap (λ (x : State). x.keys) mirrored.next;
+        members = ap (λ (x : State). x.declared.members) mirrored.next ∙ ap (λ (x : Declared). x.members) told.is;
+        begun = ap (λ (x : State). x.declared.events) mirrored.next ∙ ap (λ (x : Declared). x.events) told.is;
+      }) (ap (λ (x : State). x.watchers) mirrored.next)
 
   group_declared : (values : List Value) → after_group s.declared ≡ Ok d → with_group s d values ≡ says report new
       → LineSteps given s line new
@@ -133,14 +153,28 @@ module _ (given : Given) (s : State) (sound : IsSoundState given s) (line : List
       ∙ m.0.before)
   client_declared values taken is = cc
 
+  mirror_declared : (values : List Value) → after_line s.declared (said verb.Mirror values) ≡ Ok d
+      → declaring_mirror s d values ≡ says report new → LineSteps given s line new
+  mirror_declared (Text label ∷ publisher ∷ Named prefix ∷ []) taken is =
+      let both = mirror_declares s.declared d label publisher prefix taken in
+      declares both.0.early
+      (ap (λ (x : State). x.declared.events) (says_state report [] new _ is)
+      ∙ ap (λ (x : Declared). x.events) (sym both.1)
+      ∙ both.0.early)
+  mirror_declared values taken is = cc
+
   stated_steps : (form : Verb) → after_by s.declared stated form stated.values ≡ Ok d
       → taken_by form given s d stated ≡ says report new → LineSteps given s line new
   unfolding acted_by
   stated_steps verb.Group taken is = group_declared stated.values taken is
   stated_steps verb.Member taken is = member_declared stated.values taken is
   stated_steps verb.Client taken is = client_declared stated.values taken is
+  stated_steps verb.Mirror taken is = mirror_declared stated.values taken is
   stated_steps verb.Watch taken is = watch_steps taken (watched_so given s d stated.values report new is)
   stated_steps verb.Told taken is = watch_steps taken (told_so given s d stated.values report new is)
+  stated_steps verb.Mdeliver taken is = mirror_steps taken (heard_so given s d stated.values report new is)
+  stated_steps verb.Mfetch taken is = mirror_steps taken (fetched_so given s d stated.values report new is)
+  stated_steps verb.Mcatalogue taken is = mirror_steps taken (listed_so given s d stated.values report new is)
   stated_steps form taken is = event_steps taken is
 
 pub line_steps : (given : Given) (s : State) (line report : List ℕ) (new : State) → LineTaken given s line report new
@@ -163,7 +197,8 @@ module _ (given : Given) (P : World → Type 0) (begins : (out : Outside) (n : �
       → LineSteps given s line new → P (found_world given s) → P (found_world given new)
   so_next s line new sound sound_new (still same) so = subst (λ (x : State). P (found_world given x)) (sym same) so
   so_next s line new sound sound_new (declares early none) so = so_before new sound_new none
-  so_next s line new sound sound_new (watches beside) so = subst P (sym beside.group) so
+  so_next s line new sound sound_new (watches beside) so = subst P (sym beside.leaves.group) so
+  so_next s line new sound sound_new (mirrors leaves same) so = subst P (sym leaves.group) so
   so_next s line new sound sound_new (steps stated d e read said step) so =
       subst P (sym step.group)
       (stays (outside_of given s.keys) (found_world given s) (group_event s.keys e) sound.sound step.taken so)
@@ -217,18 +252,19 @@ one_more given s next last e step rest = record {
       subst (λ (keys : GroupKeys). AreRun given last rest.events (outside_of given keys) behind) step.keys
       (subst (AreRun given last rest.events (outside_of given next.keys)) step.group (rest.taken, rest.group))
 
-none_more : (given : Given) (s next last : State) → IsBeside given s next → RunsTo given next last → RunsTo given s last
-none_more given s next last beside rest = record {
+none_more : (given : Given) (s next last : State) → LeavesGroup given s next → RunsTo given next last
+    → RunsTo given s last
+none_more given s next last leaves rest = record {
   events = rest.events;
   taken = same.0;
   group = same.1;
-  members = rest.members ∙ beside.members;
+  members = rest.members ∙ leaves.members;
 } where
   same : AreRun given last rest.events (outside_of given s.keys) (found_world given s)
   same =
       subst (λ (keys : GroupKeys). AreRun given last rest.events (outside_of given keys) (found_world given s))
-      beside.keys
-      (subst (AreRun given last rest.events (outside_of given next.keys)) beside.group (rest.taken, rest.group))
+      leaves.keys
+      (subst (AreRun given last rest.events (outside_of given next.keys)) leaves.group (rest.taken, rest.group))
 
 -- So do lines behind the first event.
 pub lines_run : (given : Given) (r : Reached) (lines reports : List (List ℕ)) (last : Reached)
@@ -251,7 +287,9 @@ lines_run given r (line ∷ lines) (report ∷ reports) last taken sound begun =
           subst (λ (x : State). RunsTo given x last.state) same
           (rest (ap (λ (x : State). x.declared.events) same ∙ begun))
       go next (declares early none) rest = absurd (true≢false (sym begun ∙ early))
-      go next (watches beside) rest = none_more given r.state next.state last.state beside (rest beside.begun)
+      go next (watches beside) rest =
+          none_more given r.state next.state last.state beside.leaves (rest beside.leaves.begun)
+      go next (mirrors leaves same) rest = none_more given r.state next.state last.state leaves (rest leaves.begun)
       go next (steps stated d e read said step) rest =
           one_more given r.state next.state last.state (group_event r.state.keys e) step (rest step.begun)
 
@@ -311,6 +349,13 @@ lines_ask given r (line ∷ lines) (report ∷ reports) last taken sound begun m
     go next (line_steps given r.state line report next.state here sound)
     (λ b. lines_ask given next lines reports last taken.2
     (sound_line given r.state line report next.state here sound) b m) where
+      as_asked : (m : ℕ) (next last : Reached) → AreAsked next.state last.state m
+          → next.state.watchers ≡ r.state.watchers → AreAsked r.state last.state m
+      as_asked m next last behind same = record {
+        calls = behind.calls;
+        are = behind.are ∙ ap (λ (ws : List (List Watching)). after_watch_calls behind.calls (get_or ws m [])) same;
+      }
+
       go : (next : Reached) → LineSteps given r.state line next.state
           → (next.state.declared.events ≡ true → AreAsked next.state last.state m)
           → AreAsked r.state last.state m
@@ -318,11 +363,6 @@ lines_ask given r (line ∷ lines) (report ∷ reports) last taken sound begun m
           subst (λ (x : State). AreAsked x last.state m) same
           (rest (ap (λ (x : State). x.declared.events) same ∙ begun))
       go next (declares early none) rest = absurd (true≢false (sym begun ∙ early))
-      go next (watches beside) rest = asked_too given r.state next.state last.state m beside (rest beside.begun)
-      go next (steps stated d e read said step) rest =
-          let behind = rest step.begun in
-          record {
-            calls = behind.calls;
-            are = behind.are ∙ ap (λ (ws : List (List Watching)). after_watch_calls behind.calls (get_or ws m []))
-                step.watchers;
-          }
+      go next (watches beside) rest = asked_too given r.state next.state last.state m beside (rest beside.leaves.begun)
+      go next (mirrors leaves same) rest = as_asked m next last (rest leaves.begun) same
+      go next (steps stated d e read said step) rest = as_asked m next last (rest step.begun) step.watchers

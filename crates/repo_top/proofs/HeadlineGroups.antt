@@ -21,17 +21,15 @@ use Rattle.group_model.proofs.Lasting.{lasts}
 use Rattle.sorted_lists.specs.Range.{numbers_from}
 use Rattle.repo_process.proofs.ProcessLemmas.{length-numbers}
 use Rattle.repo_member.specs.Groups.{no_nodes, with_node}
-use Rattle.bench_world.specs.EventValues.{EventValue, group_event, telling}
+use Rattle.bench_world.specs.EventValues.{EventValue, group_event}
 use Rattle.bench_world.specs.Worlds.{drawing}
 use Rattle.bench_world.proofs.EventRuns.{named_ready}
-use Rattle.script_lang.specs.declared.line_fault.LineFault.{LineFault}
-use Rattle.script_lang.specs.declared.line_fault.LineFault.TheVariants as line_fault
 use Rattle.script_lang.specs.declared.check_fault.CheckFault.{CheckFault}
 use Rattle.script_lang.specs.declared.check_fault.CheckFault.TheVariants as check_fault
 use Rattle.script_lang.specs.declared.verb.Verb.{Verb}
 use Rattle.script_lang.specs.declared.verb.Verb.TheVariants as verb
 use Rattle.script_lang.specs.Kinds.{Value, Text, Named, Octets}
-use Rattle.script_lang.specs.Forms.{Stated}
+use Rattle.script_lang.specs.Forms.{Stated, said}
 use Rattle.script_lang.specs.Lines.{line_of}
 use Rattle.script_lang.specs.Limits.{members_limit}
 use Rattle.script_lang.specs.Checking as checking
@@ -39,125 +37,21 @@ use Rattle.script_lang.specs.Checking.{Declared, Party, LineTotals, adds, after_
 use Rattle.script_lang.specs.Checking.{are_within_limits, declared_then, is_party_among, is_there, party_label}
 use Rattle.script_lang.specs.Checking.{may_declare, party, with_totals}
 use Rattle.repo_watch.specs.Laws.{after_watch_call}
-use Rattle.repo_top.specs.SaidEvents.{said_event}
-use Rattle.repo_top.specs.ToldTexts.{told_text}
-use Rattle.repo_top.specs.Judging.{Given, State, acted, acted_by, acted_if, check_refused, checked, event_refused}
-use Rattle.repo_top.specs.Judging.{found_world, judged, judged_line, line_taken, opening_state, outside_of, read, says}
-use Rattle.repo_top.specs.Judging.{stepped, taken_by, watchers_at, with_client, with_group, with_watchers}
-use Rattle.repo_top.specs.Judging.{declaring_member}
+use Rattle.repo_top.specs.Mirrors.{Mirroring, mirror_begins}
+use Rattle.repo_top.specs.SaidEvents.{pattern_for, publisher_number, said_event}
+use Rattle.repo_top.specs.Judging.{Given, State, acted_by, acted_if}
+use Rattle.repo_top.specs.Judging.{found_world, opening_state, outside_of, read, says}
+use Rattle.repo_top.specs.Judging.{taken_by, watchers_at, with_client, with_group, with_watchers}
+use Rattle.repo_top.specs.Judging.{declaring_member, declaring_mirror, mirrors_begin, mirrors_behind, with_member_too}
+use Rattle.repo_top.specs.Judging.{with_mirrors}
 use Rattle.repo_top.specs.Story.{Reached, nothing_reached}
-use Rattle.repo_top.specs.Headline.{LinesAreTaken, AreTakenFirst, LineIsTaken}
+use Rattle.repo_top.specs.Headline.{LinesAreTaken, AreTakenFirst}
 use Rattle.repo_top.proofs.Fitting.{event_fits}
-use Rattle.repo_top.proofs.HeadlineLines.{judged_by}
-use Rattle.repo_top.proofs.HeadlineTaken.{IsWatched, says_report, says_state, told_so, watched_so}
-
--- ---- what a line that is taken comes to
-
--- An event was carried out.
-pub record IsActed (given : Given) (s : State) (d : Declared) (e : EventValue) (report : List ℕ)
-    (new : State) : Type 0 where
-  pub taken : refusals.refusal (outside_of given s.keys) (found_world given s) (group_event s.keys e) ≡ None
-  pub text : report ≡ told_text (map party_label d.members)
-      (telling s.keys (outside_of given s.keys) (found_world given s) e)
-  pub next : new ≡ record {
-    declared = d;
-    keys = s.keys;
-    world = Some (after_event (outside_of given s.keys) (found_world given s) (group_event s.keys e));
-    watchers = s.watchers;
-  }
-
-not_said : (why : refusals.Refusal) (report : List ℕ) (new : State) → event_refused why ≡ says report new → ⊥
-not_said refusals.Refusal.NoSuchPacket report new h = cc
-not_said refusals.Refusal.FetcherBusy report new h = cc
-not_said refusals.Refusal.FetcherIdle report new h = cc
-not_said refusals.Refusal.NumbersSpent report new h = cc
-not_said refusals.Refusal.Foreign report new h = cc
-not_said refusals.Refusal.NoSuchNumber report new h = cc
-
-pub acts_so : (given : Given) (s : State) (d : Declared) (e : EventValue) (report : List ℕ) (new : State)
-    → acted given s d e ≡ says report new → IsActed given s d e report new
-unfolding acted
-acts_so given s d e report new h = go (refusals.refusal out w (group_event s.keys e)) refl h where
-  out : Outside
-  out = outside_of given s.keys
-
-  w : World
-  w = found_world given s
-
-  go : (o : Option refusals.Refusal) → refusals.refusal out w (group_event s.keys e) ≡ o
-      → stepped out s d w e o ≡ says report new → IsActed given s d e report new
-  go (Some why) is k = absurd (not_said why report new k)
-  go None is k = record {
-    taken = is;
-    text = says_report report _ new _ k;
-    next = says_state report _ new _ k;
-  }
-
--- A line states nothing, or it states what is taken behind the lines before it.
-pub data LineTaken (given : Given) (s : State) (line report : List ℕ) (new : State) : Type 0 where
-  nothing : line_of line ≡ Ok None → new ≡ s → LineTaken given s line report new
-  stating : (stated : Stated) (d : Declared) → line_of line ≡ Ok (Some stated) → after_line s.declared stated ≡ Ok d
-      → taken_by stated.verb given s d stated ≡ says report new → LineTaken given s line report new
-
-pub not_checked : (fault : CheckFault) (report : List ℕ) (new : State) → check_refused fault ≡ says report new → ⊥
-not_checked check_fault.NoGroup report new h = cc
-not_checked check_fault.Late report new h = cc
-not_checked check_fault.UnknownLabel report new h = cc
-not_checked check_fault.Duplicate report new h = cc
-not_checked check_fault.Limit report new h = cc
-not_checked check_fault.TooLarge report new h = cc
-not_checked check_fault.NoMemory report new h = cc
-
-says_line : (given : Given) (s : State) (line report : List ℕ) (new : State) → judged given s line ≡ says report new
-    → LineTaken given s line report new
-unfolding judged judged_line line_taken
-says_line given s line report new h = go (line_of line) refl h where
-  by_check : (stated : Stated) → line_of line ≡ Ok (Some stated) → (r : Result Declared CheckFault)
-      → after_line s.declared stated ≡ r → checked given s stated r ≡ says report new
-      → LineTaken given s line report new
-  by_check stated is (Ok d) after k = stating stated d is after k
-  by_check stated is (Err fault) after k = absurd (not_checked fault report new k)
-
-  go : (r : Result (Option Stated) LineFault) → line_of line ≡ r → read given s r ≡ says report new
-      → LineTaken given s line report new
-  go (Ok (Some stated)) is k = by_check stated is (after_line s.declared stated) refl k
-  go (Ok None) is k = nothing is (says_state report [] new s k)
-  go (Err line_fault.Syntax) is k = cc
-  go (Err line_fault.Limit) is k = cc
-  go (Err line_fault.NoMemory) is k = cc
-
-pub taken_line : (given : Given) (r : Reached) (line report : List ℕ) (new : Reached)
-    → LineIsTaken given r line report new
-    → LineTaken given r.state line report new.state
-taken_line given r line report new t =
-    says_line given r.state line report new.state (judged_by given r line report new.state t.verdict)
-
-none_or_stated : (r : Result (Option Stated) LineFault) (stated : Stated) → r ≡ Ok None → r ≡ Ok (Some stated) → ⊥
-none_or_stated r stated none some = cc
-
-one_stated : (r : Result (Option Stated) LineFault) (a b : Stated) → r ≡ Ok (Some a) → r ≡ Ok (Some b) → a ≡ b
-one_stated r a b first second = cc
-
--- What a line states, where it is taken.
-pub record StatedTaken (given : Given) (s : State) (stated : Stated) (report : List ℕ) (new : State) : Type 0 where
-  pub d : Declared
-  pub after : after_line s.declared stated ≡ Ok d
-  pub is : taken_by stated.verb given s d stated ≡ says report new
-
-pub stated_taken : (given : Given) (s : State) (line report : List ℕ) (new : State) (stated : Stated)
-    → line_of line ≡ Ok (Some stated) → LineTaken given s line report new → StatedTaken given s stated report new
-stated_taken given s line report new stated is (nothing none same) =
-    absurd (none_or_stated (line_of line) stated none is)
-stated_taken given s line report new stated is (stating other d read after taken) =
-    subst (λ (x : Stated). StatedTaken given s x report new) (one_stated (line_of line) other stated read is)
-    (record { d = d; after = after; is = taken })
-
--- An event that is said was carried out.
-pub acted_said : (given : Given) (s : State) (d : Declared) (stated : Stated) (report : List ℕ) (new : State)
-    → (o : Option EventValue) → said_event d stated ≡ o → acted_if given s d o ≡ says report new
-    → (e : EventValue) × (said_event d stated ≡ Some e) × IsActed given s d e report new
-acted_said given s d stated report new (Some e) is h = (e, is, acts_so given s d e report new h)
-acted_said given s d stated report new None is h = cc
+use Rattle.repo_top.proofs.LinesTaken.{LineTaken, acted_said, nothing}
+use Rattle.repo_top.proofs.LinesTaken.{stating, taken_line}
+use Rattle.repo_top.proofs.HeadlineTaken.{IsMirrored, IsWatched, fetched_so, heard_so, listed_so, many_behind}
+use Rattle.repo_top.proofs.HeadlineTaken.{says_state, told_so, watched_so}
+use Rattle.repo_top.proofs.Judgings.{mirror_declares}
 
 -- ---- what holds behind lines
 
@@ -170,6 +64,7 @@ pub record IsSoundState (given : Given) (s : State) : Type 0 where
   pub sound : IsSoundGroup (found_world given s)
   pub many : length (found_world given s).members ≡ length s.declared.members
   pub watched : length s.watchers ≡ length s.declared.members
+  pub mirrored : length s.mirrors ≡ length s.declared.mirrors
 
 length_opening : (out : Outside) (n : ℕ) → length (opening_world out n).members ≡ n
 length_opening out n = length-map (numbers_from 0 n) _ ∙ length-numbers 0 n
@@ -207,6 +102,7 @@ sound_beginning given = record {
   sound = sound_opening (drawing given.draw) 0;
   many = length_opening (drawing given.draw) 0;
   watched = refl;
+  mirrored = refl;
 }
 
 -- ---- declarations
@@ -265,7 +161,8 @@ labelled_apart p (q ∷ qs) h =
 labels_more : (d : Declared) (p : Party) → is_there d p ≡ false → IsDistinct bytes_eq (map party_label d.members)
     → IsDistinct bytes_eq (map party_label (d.members ++ p ∷ []))
 labels_more d p apart h =
-    let among = or_parts (is_party_among p d.members) (is_party_among p d.clients) apart in
+    let parties = or_parts (is_party_among p d.members || is_party_among p d.clients) _ apart in
+    let among = or_parts (is_party_among p d.members) (is_party_among p d.clients) parties.0 in
     subst (IsDistinct bytes_eq) (sym (map-append party_label d.members (p ∷ [])))
     (IsDistinct-push nat_list_eq_equiv (map party_label d.members) p.label h (labelled_apart p d.members among.0))
 
@@ -283,6 +180,7 @@ module _ (given : Given) (s : State) (sound : IsSoundState given s) (d : Declare
         keys = record { name = name; members = no_nodes; clients = no_nodes };
         world = s.world;
         watchers = s.watchers;
+        mirrors = s.mirrors;
       } in
       let no : HasNoWorld given next = record { world = sound.begun early; names = sym (ap length none) } in
       let result : IsSoundState given next = record {
@@ -294,6 +192,7 @@ module _ (given : Given) (s : State) (sound : IsSoundState given s) (d : Declare
         sound = sound_before given next no;
         many = many_before given next no;
         watched = sound.watched;
+        mirrored = sound.mirrored;
       } in
       let same : new ≡ next =
       says_state report [] new _ is ∙ ap (λ (e : Declared). record next { declared = e }) declares.is in
@@ -311,6 +210,7 @@ module _ (given : Given) (s : State) (sound : IsSoundState given s) (d : Declare
         keys = record s.keys { members = with_node node key s.keys.members };
         world = s.world;
         watchers = s.watchers ++ [] ∷ [];
+        mirrors = mirrors_begin (with_member_too node key s.keys) s.mirrors;
       } in
       let names : length (s.keys.members.names ++ node ∷ []) ≡ length (s.declared.members ++ p ∷ []) =
       length-append s.keys.members.names (node ∷ []) ∙ ap (λ n. n + 1) sound.names
@@ -326,6 +226,8 @@ module _ (given : Given) (s : State) (sound : IsSoundState given s) (d : Declare
         many = many_before given next no;
         watched = length-append s.watchers ([] ∷ []) ∙ ap (λ n. n + 1) sound.watched
             ∙ sym (length-append s.declared.members (p ∷ []));
+        mirrored = length-map s.mirrors
+            (λ m. mirror_begins (length (with_member_too node key s.keys).members.names) m.pattern) ∙ sound.mirrored;
       } in
       let same : new ≡ next = says_state report [] new _ is ∙ ap (λ (e : Declared). record next { declared = e }) m.1 in
       subst (IsSoundState given) (sym same) result
@@ -342,6 +244,7 @@ module _ (given : Given) (s : State) (sound : IsSoundState given s) (d : Declare
         keys = record s.keys { clients = with_node node key s.keys.clients };
         world = s.world;
         watchers = s.watchers;
+        mirrors = s.mirrors;
       } in
       let no : HasNoWorld given next = record { world = sound.begun m.0.before; names = sound.names } in
       let result : IsSoundState given next = record {
@@ -353,10 +256,41 @@ module _ (given : Given) (s : State) (sound : IsSoundState given s) (d : Declare
         sound = sound_before given next no;
         many = many_before given next no;
         watched = sound.watched;
+        mirrored = sound.mirrored;
       } in
       let same : new ≡ next = says_state report [] new _ is ∙ ap (λ (e : Declared). record next { declared = e }) m.1 in
       subst (IsSoundState given) (sym same) result
   after_client_line stated values after is = cc
+
+  after_mirror_line : (values : List Value) → after_line s.declared (said verb.Mirror values) ≡ Ok d
+      → declaring_mirror s d values ≡ says report new → IsSoundState given new
+  after_mirror_line (Text label ∷ publisher ∷ Named prefix ∷ []) after is =
+      let both = mirror_declares s.declared d label publisher prefix after in
+      let begun : Mirroring =
+      mirror_begins (length s.keys.members.names) (pattern_for (publisher_number d publisher) prefix) in
+      let next : State = record {
+        declared = record s.declared { mirrors = s.declared.mirrors ++ label ∷ [] };
+        keys = s.keys;
+        world = s.world;
+        watchers = s.watchers;
+        mirrors = s.mirrors ++ begun ∷ [];
+      } in
+      let result : IsSoundState given next = record {
+        ungrouped = sound.ungrouped;
+        uneventful = sound.uneventful;
+        begun = sound.begun;
+        names = sound.names;
+        labels = sound.labels;
+        sound = sound.sound;
+        many = sound.many;
+        watched = sound.watched;
+        mirrored = length-append s.mirrors (begun ∷ []) ∙ ap (λ (n : ℕ). n + 1) sound.mirrored
+            ∙ sym (length-append s.declared.mirrors (label ∷ []));
+      } in
+      let same : new ≡ next =
+      says_state report [] new _ is ∙ ap (λ (e : Declared). record next { declared = e }) (sym both.1) in
+      subst (IsSoundState given) (sym same) result
+  after_mirror_line values after is = cc
 
 -- ---- events
 
@@ -405,6 +339,7 @@ module _ (given : Given) (s : State) (sound : IsSoundState given s) (line : List
         keys = s.keys;
         world = Some (after_event out w event);
         watchers = s.watchers;
+        mirrors = mirrors_behind (after_event out w event) e s.mirrors;
       } in
       let result : IsSoundState given next = record {
         ungrouped = λ h. absurd (true≢false (sym grouped ∙ h));
@@ -415,6 +350,8 @@ module _ (given : Given) (s : State) (sound : IsSoundState given s) (line : List
         sound = sound_after out w event ready sound.sound;
         many = (lasts out w event ready sound.sound).width ∙ sound.many ∙ sym count;
         watched = sound.watched ∙ sym count;
+        mirrored = many_behind (after_event out w event) e s.mirrors ∙ sound.mirrored
+            ∙ ap (λ (x : Declared). length x.mirrors) (sym declares.is);
       } in
       subst (IsSoundState given) (sym acts.2.next) result
 
@@ -436,8 +373,30 @@ module _ (given : Given) (s : State) (sound : IsSoundState given s) (line : List
         many = sound.many ∙ sym count;
         watched = length-set s.watchers watched.m (after_watch_call watched.call (watchers_at s watched.m))
             ∙ sound.watched ∙ sym count;
+        mirrored = sound.mirrored ∙ ap (λ (x : Declared). length x.mirrors) (sym declares.is);
       } in
       subst (IsSoundState given) (sym watched.next) result
+
+  after_mirrored_line : checking.after_event s.declared stated ≡ Ok d → IsMirrored given s d new
+      → IsSoundState given new
+  after_mirrored_line taken mirrored =
+      let declares = event_line s.declared d stated taken in
+      let members : d.members ≡ s.declared.members = ap (λ (x : Declared). x.members) declares.is in
+      let grouped : d.group ≡ true = ap (λ (x : Declared). x.group) declares.is ∙ declares.grouped in
+      let begun : d.events ≡ true = ap (λ (x : Declared). x.events) declares.is in
+      let count : length d.members ≡ length s.declared.members = ap length members in
+      let result : IsSoundState given (with_mirrors (found_world given s) s d mirrored.mirrors) = record {
+        ungrouped = λ h. absurd (true≢false (sym grouped ∙ h));
+        uneventful = λ h. absurd (true≢false (sym grouped ∙ h));
+        begun = λ h. absurd (true≢false (sym begun ∙ h));
+        names = sound.names ∙ sym count;
+        labels = subst (λ (ps : List Party). IsDistinct bytes_eq (map party_label ps)) (sym members) sound.labels;
+        sound = sound.sound;
+        many = sound.many ∙ sym count;
+        watched = sound.watched ∙ sym count;
+        mirrored = mirrored.many ∙ sound.mirrored ∙ ap (λ (x : Declared). length x.mirrors) (sym declares.is);
+      } in
+      subst (IsSoundState given) (sym mirrored.next) result
 
   after_stated : (form : Verb) → after_by s.declared stated form stated.values ≡ Ok d
       → taken_by form given s d stated ≡ says report new → IsSoundState given new
@@ -445,8 +404,12 @@ module _ (given : Given) (s : State) (sound : IsSoundState given s) (line : List
   after_stated verb.Group k is = after_group_line given s sound d report new stated.values k is
   after_stated verb.Member k is = after_member_line given s sound d report new stated stated.values k is
   after_stated verb.Client k is = after_client_line given s sound d report new stated stated.values k is
+  after_stated verb.Mirror k is = after_mirror_line given s sound d report new stated.values k is
   after_stated verb.Watch k is = after_watched_line k (watched_so given s d stated.values report new is)
   after_stated verb.Told k is = after_watched_line k (told_so given s d stated.values report new is)
+  after_stated verb.Mdeliver k is = after_mirrored_line k (heard_so given s d stated.values report new is)
+  after_stated verb.Mfetch k is = after_mirrored_line k (fetched_so given s d stated.values report new is)
+  after_stated verb.Mcatalogue k is = after_mirrored_line k (listed_so given s d stated.values report new is)
   after_stated form k is = after_event_line k is
 
 -- ---- lines

@@ -1,26 +1,25 @@
 -- What is published in a script is within the limits: an event that a line states publishes an object within those of
 -- objects, withdraws an earlier one, or begins or goes on with an insertion that is within them.
-use Rattle.std.proofs.Common.{◌≡◌, ◌∙◌, inl, inr, ℕ, zero, suc, ◌+◌, ◌-◌, ◌≤◌, ◌<◌, Bool, true, false, cond, not}
+use Rattle.std.proofs.Common.{◌≡◌, ◌∙◌, ℕ, zero, suc, ◌+◌, ◌-◌, ◌≤◌, ◌<◌, Bool, true, false, cond, not}
 use Rattle.std.proofs.Common.{◌&&◌, ◌||◌, List, [], ◌∷◌, ◌++◌}
-use Rattle.std.proofs.Common.{eqb, length, get_or, set, map, Option, Some, None, Result, Ok, Err, refl, sym, ap, subst}
+use Rattle.std.proofs.Common.{eqb, length, get_or, set, Option, Some, None, Result, Ok, Err, refl, sym, ap, subst}
 use Rattle.std.proofs.Common.{arith}
-use Rattle.std.specs.Prelude.{is_some, nat_le, unwrap_or}
+use Rattle.std.specs.Prelude.{is_some, nat_le}
 use Rattle.std.specs.Cmp.{second_so}
 use Rattle.std.specs.List.{All, list_any}
 use Rattle.std.specs.Ordering.{eq_by_cmp, nat_cmp}
 use Rattle.std.proofs.lemmas.Bool.{and_parts, false≢true, leb-false, leb-true}
 use Rattle.std.proofs.lemmas.List.{get_or-map, get_or-set_same, length-map, length-set, map-set}
-use Rattle.std.proofs.lemmas.List.Elements.{All-cons, All-head, All-nil, All-push, All-tail}
-use Rattle.std.proofs.lemmas.Cmp.{nat_cmp_total}
+use Rattle.std.proofs.lemmas.List.Elements.{All-head, All-push, All-tail}
 use Rattle.repo_plan.specs.declared.part.Part.{Part}
 use Rattle.sorted_lists.specs.SortedList.{value_of, with_value}
-use Rattle.sorted_lists.proofs.Orders.{Exact, nat_itself, nat_same}
-use Rattle.sorted_lists.proofs.Sets.{In, value_of-with_value}
+use Rattle.sorted_lists.proofs.Orders.{exact_numbers}
+use Rattle.sorted_lists.proofs.Sets.{value_of-with_value}
 use Rattle.svs_sync.specs.declared.fired.Fired.{Fired}
 use Rattle.svs_sync.specs.declared.fired.Fired.TheVariants.{Early, Quiet, Send}
 use Rattle.repo_object.specs.Objects.{Post, IsContent, IsObject, IsPost, offered, withdraws_number}
 use Rattle.repo_object.specs.Objects.Post.{Offers, Withdraws}
-use Rattle.repo_process.specs.Processes.{Process, BlockState, block_in, closed, has_block, has_index, indexes}
+use Rattle.repo_process.specs.Processes.{Process, BlockState, block_in, closed, has_index}
 use Rattle.repo_process.specs.Processes.{is_whole, object_of, starting, with_block, with_it}
 use Rattle.repo_process.specs.Processes.BlockState.{Unknown, Already, Waiting, Whole}
 use Rattle.repo_command.specs.declared.command.Command.{Command}
@@ -39,13 +38,12 @@ use Rattle.group_model.specs.Steps.{came_from, can_start, claim_at, drawn, tells
 use Rattle.group_model.specs.Steps.{tried_once, with_process_at}
 use Rattle.group_model.specs.Refusals.{Refusal, EventIsTaken, has_issued, if_no_object_or_spent, if_spent, if_unissued}
 use Rattle.group_model.specs.Refusals.{if_whole, unless}
-use Rattle.group_model.proofs.Lists.{each_all}
 use Rattle.group_model.proofs.Settles.{settle_each, logs_settled}
 use Rattle.group_model.proofs.Worlds.{same_logs}
 use Rattle.repo_member.specs.Groups.{GroupKeys}
 use Rattle.repo_member.specs.InGroup.{AreLogs}
 use Rattle.repo_member.specs.Blocks.{IsWithinLimits, AreWithinLimits}
-use Rattle.repo_member.proofs.PublicLaws.{logs_grow}
+use Rattle.repo_member.proofs.PublicLaws.{block_within, closed_within, logs_grow, object_within}
 use Rattle.bench_world.specs.IssuedCommands.{derived_is_equal, same_is}
 use Rattle.bench_world.specs.declared.issued.IssuedCommand.{IssuedCommand}
 
@@ -115,9 +113,6 @@ within_set (x ∷ xs) (suc i) m each h (suc j) = within_set xs i m (λ k. each (
 
 -- ---- insertions
 
-exact_numbers : Exact nat_cmp
-exact_numbers = record { total = nat_cmp_total; same = nat_same; itself = nat_itself }
-
 -- one process more, or another under a number
 one_more : (ps : List (ℕ × Process)) (number : ℕ) (p : Process) → IsWithinLimits p → AreWithinLimits ps
     → AreWithinLimits (with_value nat_cmp number p ps)
@@ -126,50 +121,6 @@ one_more ps number p is are n q found =
       go : (b : Bool) → cond b (Some p) (value_of nat_cmp ps n) ≡ Some q → IsWithinLimits q
       go true h = let same : p ≡ q = cc in subst IsWithinLimits same is
       go false h = are n q h
-
-closed_within : (p : Process) → IsWithinLimits p → IsWithinLimits (closed p)
-closed_within p is =
-    record { name = is.name; named = is.named; few = is.few; contents = λ index content found. absurd cc }
-
-block_within : (index : ℕ) (content : List ℕ) (p : Process) → IsContent content → IsWithinLimits p
-    → IsWithinLimits (with_block index content p)
-block_within index content p is within = go (has_block p index) where
-  at : (i : ℕ) (found : List ℕ) (b : Bool) → cond b (Some content) (value_of nat_cmp p.blocks i) ≡ Some found
-      → IsContent found
-  at i found true h = let same : content ≡ found = cc in subst IsContent same is
-  at i found false h = within.contents i found h
-
-  go : (b : Bool) → IsWithinLimits (cond b p (record p { blocks = with_value nat_cmp index content p.blocks }))
-  go true = within
-  go false = record {
-    name = within.name;
-    named = within.named;
-    few = within.few;
-    contents = λ i found there. at i found (eq_by_cmp nat_cmp i index)
-        (sym (value_of-with_value exact_numbers index content p.blocks i) ∙ there);
-  }
-
--- A process that has all of its blocks is an object.
-object_within : (p : Process) → IsWithinLimits p → is_whole p ≡ true → IsObject (object_of p)
-object_within p is whole = record {
-  name = is.name;
-  named = is.named;
-  few = omega (arith, length-map (indexes p) content_at, is.few);
-  contents = contents (indexes p) (λ index i. each_all (has_block p) (indexes p) whole index i);
-} where
-  content_at : ℕ → List ℕ
-  content_at index = unwrap_or (value_of nat_cmp p.blocks index) []
-
-  one : (index : ℕ) (o : Option (List ℕ)) → value_of nat_cmp p.blocks index ≡ o → is_some o ≡ true
-      → IsContent (unwrap_or o [])
-  one index None e h = absurd (false≢true h)
-  one index (Some content) e h = is.contents index content e
-
-  contents : (xs : List ℕ) → ((index : ℕ) → In index xs → has_block p index ≡ true) → All IsContent (map content_at xs)
-  contents [] each = All-nil IsContent
-  contents (x ∷ xs) each =
-      All-cons IsContent (content_at x) (map content_at xs)
-      (one x (value_of nat_cmp p.blocks x) refl (each x (inl refl))) (contents xs (λ index i. each index (inr i)))
 
 -- What a block comes to is within the limits.
 abbrev ComesWithin : BlockState → Type 0

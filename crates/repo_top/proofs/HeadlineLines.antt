@@ -5,8 +5,8 @@ use Rattle.std.specs.List.{concat}
 use Rattle.script_report.specs.Limits.{report_octets}
 use Rattle.script_report.specs.Texts.{foreign_text}
 use Rattle.repo_top.specs.declared.ending.Ending.TheVariants.{Refused, Foreign}
-use Rattle.repo_top.specs.declared.refusal.Refusal.TheVariants.{Limit, TooLarge}
-use Rattle.repo_top.specs.Refusals.{refusal_number, refusal_text}
+use Rattle.script_report.specs.declared.refusal.Refusal.TheVariants.{Limit, TooLarge}
+use Rattle.script_report.specs.Refusals.{refusal_number, refusal_text}
 use Rattle.repo_top.specs.Judging.{Given, State, Verdict, says, foreign, judged, unjudged}
 use Rattle.repo_top.specs.Judging as verdict
 use Rattle.repo_top.specs.Story.{Reached, Story, reached_behind, behind_text, is_within_script, judged_next}
@@ -71,6 +71,7 @@ more given r line report next others s is t = record {
   text = ap (λ text. report ++ text) t.text ∙ sym (append_assoc report (concat t.reports) t.end);
   keys = t.keys;
   world = t.world;
+  mirrors = t.mirrors;
 }
 
 pub told_by : (given : Given) (r : Reached) (script : List (List ℕ))
@@ -89,6 +90,7 @@ told_by given r [] = record {
   text = refl;
   keys = refl;
   world = refl;
+  mirrors = refl;
 }
 told_by given r (line ∷ others) = go (judged_next given r line) refl (λ next. told_by given next others) where
   go : (v : Verdict) → judged_next given r line ≡ v
@@ -111,6 +113,7 @@ told_by given r (line ∷ others) = go (judged_next given r line) refl (λ next.
     text = refl;
     keys = refl;
     world = refl;
+    mirrors = refl;
   }
   go foreign is rest = record {
     first = [];
@@ -126,6 +129,7 @@ told_by given r (line ∷ others) = go (judged_next given r line) refl (λ next.
     text = refl;
     keys = refl;
     world = refl;
+    mirrors = refl;
   }
   go unjudged is rest = absurd (next_is_judged given r line is)
 
@@ -141,8 +145,7 @@ begins_from given r (line ∷ first) others (report ∷ reports) last taken =
     let is : LineIsTaken given r line report next = taken.1 in
     let rest : List ℕ = concat reports in
     let s : Story = story_from given last others in
-    let with_text : List ℕ → Story =
-    λ text. record { text = text; ending = s.ending; keys = s.keys; world = s.world } in
+    let with_text : List ℕ → Story = λ text. record s { text = text } in
     ap (story_of_line (λ (n : Reached). story_from given n (first ++ others)) r line) is.verdict
     ∙ ap (λ (n : Reached). behind_text report (story_from given n (first ++ others))) (sym is.reached)
     ∙ ap (behind_text report) (begins_from given next first others reports last taken.2)

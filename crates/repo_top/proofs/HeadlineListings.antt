@@ -41,8 +41,9 @@ use Rattle.repo_top.specs.Listings.{IsToldOfAll, ListedStay, SettledListWhatIsHe
 use Rattle.repo_top.specs.Listings.{SettledListWhatIsLeft, ToldMembersJoin}
 use Rattle.repo_top.proofs.HeadlineLines.{each_is_taken}
 use Rattle.repo_top.proofs.HeadlineTaken.{says_report, says_state}
-use Rattle.repo_top.proofs.HeadlineGroups.{IsActed, IsSoundState, acts_so, event_line, opened}
-use Rattle.repo_top.proofs.HeadlineGroups.{sound_from_start, sound_lines, stated_taken, taken_line}
+use Rattle.repo_top.proofs.HeadlineGroups.{IsSoundState, event_line, opened}
+use Rattle.repo_top.proofs.HeadlineGroups.{sound_from_start, sound_lines}
+use Rattle.repo_top.proofs.LinesTaken.{IsActed, acts_so, stated_taken, taken_line}
 use Rattle.repo_top.proofs.HeadlineEvents.{RunsTo, lines_run, so_from_start}
 use Rattle.repo_top.proofs.HeadlineSettles.{settled_group, shows_join}
 

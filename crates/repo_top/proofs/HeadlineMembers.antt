@@ -1,6 +1,6 @@
 -- The members and clients of a script are those of a group, and what is published in it is within the limits.
 use Rattle.std.proofs.Common.{◌≡◌, ◌∙◌, ℕ, zero, suc, ◌+◌, ◌-◌, ◌<◌, ◌≤◌, true, false, List, [], ◌∷◌, ◌++◌, length, map}
-use Rattle.std.proofs.Common.{replicate, Option, Some, None, Ok, refl, sym, ap, subst, arith}
+use Rattle.std.proofs.Common.{◌||◌, replicate, Option, Some, None, Ok, refl, sym, ap, subst, arith}
 use Rattle.std.specs.List.{list_any}
 use Rattle.std.specs.Option.{IfSome}
 use Rattle.std.proofs.lemmas.Bool.{or_parts, true≢false}
@@ -21,7 +21,7 @@ use Rattle.group_model.specs.Refusals.{NamesThose}
 use Rattle.repo_member.specs.Groups.{GroupKeys, HaveKeys, IsGroup, IsPlainNodeName}
 use Rattle.repo_member.specs.InGroup.{AreLogs}
 use Rattle.repo_member.specs.Blocks.{AreWithinLimits}
-use Rattle.repo_member.proofs.PublicLaws.{logs_begin}
+use Rattle.repo_member.proofs.PublicLaws.{logs_begin, none_have_keys}
 use Rattle.script_lang.specs.declared.verb.Verb.{Verb}
 use Rattle.script_lang.specs.declared.verb.Verb.TheVariants as verb
 use Rattle.script_lang.specs.Kinds.{Value, Text, Number, Named, Octets}
@@ -36,22 +36,24 @@ use Rattle.bench_world.specs.EventValues.{EventValue, group_event}
 use Rattle.bench_world.specs.Steps.{IsReady}
 use Rattle.bench_world.proofs.EventRuns.{named_ready}
 use Rattle.repo_watch.specs.Laws.{after_watch_call}
-use Rattle.repo_top.specs.SaidEvents.{said_by, said_event}
+use Rattle.repo_top.specs.Mirrors.{mirror_begins}
+use Rattle.repo_top.specs.SaidEvents.{pattern_for, publisher_number, said_by, said_event}
 use Rattle.repo_top.specs.Judging.{Given, State, acted_by, acted_if, found_world, group_named, opening_state}
 use Rattle.repo_top.specs.Judging.{outside_of, says, taken_by, with_client, with_client_too, with_group}
-use Rattle.repo_top.specs.Judging.{declaring_member, watchers_at, with_member_too, with_watchers}
+use Rattle.repo_top.specs.Judging.{declaring_member, declaring_mirror, mirrors_begin, mirrors_behind, watchers_at}
+use Rattle.repo_top.specs.Judging.{with_member_too, with_mirrors, with_watchers}
 use Rattle.repo_top.specs.Progressing.{node_of}
 use Rattle.repo_top.specs.Story.{Reached, nothing_reached}
 use Rattle.repo_top.specs.Headline.{LinesAreTaken, AreTakenFirst, ReachSoundGroups}
 use Rattle.repo_top.proofs.ReadNames.{read_name_valid}
 use Rattle.repo_top.proofs.Fitting.{AreWritten, client_fits, event_fits, group_fits, member_fits, written}
-use Rattle.repo_top.proofs.DeclaredGroups.{AreApart, AreOthers, apart_client, apart_member, differ, none_have_keys}
-use Rattle.repo_top.proofs.DeclaredGroups.{one_has_too}
-use Rattle.repo_top.proofs.Judgings.{client_declares, member_declares, nobody_has}
-use Rattle.repo_top.proofs.HeadlineTaken.{IsWatched, says_state, told_so, watched_so}
-use Rattle.repo_top.proofs.HeadlineGroups.{IsSoundState, LineTaken, acted_said, declares_group, event_line, nothing}
-use Rattle.repo_top.proofs.HeadlineGroups.{opened, sound_beginning, sound_from_start, sound_line, stating}
-use Rattle.repo_top.proofs.HeadlineGroups.{taken_line}
+use Rattle.repo_top.proofs.DeclaredGroups.{AreApart, AreOthers, apart_client, apart_member, differ, one_has_too}
+use Rattle.repo_top.proofs.Judgings.{client_declares, member_declares, mirror_declares, nobody_has}
+use Rattle.repo_top.proofs.HeadlineTaken.{IsMirrored, IsWatched, fetched_so, heard_so, listed_so, says_state, told_so}
+use Rattle.repo_top.proofs.HeadlineTaken.{watched_so}
+use Rattle.repo_top.proofs.HeadlineGroups.{IsSoundState, declares_group, event_line}
+use Rattle.repo_top.proofs.HeadlineGroups.{opened, sound_beginning, sound_from_start, sound_line}
+use Rattle.repo_top.proofs.LinesTaken.{LineTaken, acted_said, nothing, stating, taken_line}
 use Rattle.repo_top.proofs.HeadlineLimits.{AllWithin, BringsWithin, IsLimited, limited_after}
 
 -- ---- what lines bring
@@ -153,8 +155,10 @@ new_name : (d : Declared) (g : GroupKeys) (label : List ℕ) (node : List Compon
     → map node_of d.members ≡ g.members.names → map node_of d.clients ≡ g.clients.names
     → is_there d (party label node) ≡ false → IsNew g node
 new_name d g label node members clients apart =
-    let both = or_parts (is_party_among (party label node) d.members) (is_party_among (party label node) d.clients)
-    apart in
+    let parties =
+    or_parts (is_party_among (party label node) d.members || is_party_among (party label node) d.clients) _ apart in
+    let both =
+    or_parts (is_party_among (party label node) d.members) (is_party_among (party label node) d.clients) parties.0 in
     record {
       member = subst (AreOthers node) members (nobody_has label node d.members both.0);
       client = subst (AreOthers node) clients (nobody_has label node d.clients both.1);
@@ -212,6 +216,7 @@ module _ (given : Given) (s : State) (sound : IsSoundState given s) (kept : IsKe
         keys = group_named name;
         world = s.world;
         watchers = s.watchers;
+        mirrors = s.mirrors;
       } in
       let grouped : AreGroupKeys (group_named name) = record {
         name = group_fits octets name read;
@@ -246,6 +251,7 @@ module _ (given : Given) (s : State) (sound : IsSoundState given s) (kept : IsKe
         keys = with_member_too node key s.keys;
         world = s.world;
         watchers = s.watchers ++ [] ∷ [];
+        mirrors = mirrors_begin (with_member_too node key s.keys) s.mirrors;
       } in
       let grouped : AreGroupKeys (with_member_too node key s.keys) = record {
         name = group.name;
@@ -284,6 +290,7 @@ module _ (given : Given) (s : State) (sound : IsSoundState given s) (kept : IsKe
         keys = with_client_too node key s.keys;
         world = s.world;
         watchers = s.watchers;
+        mirrors = s.mirrors;
       } in
       let grouped : AreGroupKeys (with_client_too node key s.keys) = record {
         name = group.name;
@@ -304,6 +311,30 @@ module _ (given : Given) (s : State) (sound : IsSoundState given s) (kept : IsKe
       says_state report [] new _ is ∙ ap (λ (e : Declared). record next { declared = e }) (sym m.1) in
       subst (IsKept given) (sym same) result
   kept_client values read after is = cc
+
+  kept_mirror : (values : List Value) → after_line s.declared (said verb.Mirror values) ≡ Ok d
+      → declaring_mirror s d values ≡ says report new → IsKept given new
+  kept_mirror (Text label ∷ publisher ∷ Named prefix ∷ []) after is =
+      let both = mirror_declares s.declared d label publisher prefix after in
+      let next : State = record {
+        declared = record s.declared { mirrors = s.declared.mirrors ++ label ∷ [] };
+        keys = s.keys;
+        world = s.world;
+        watchers = s.watchers;
+        mirrors = s.mirrors
+            ++ mirror_begins (length s.keys.members.names) (pattern_for (publisher_number d publisher) prefix) ∷ [];
+      } in
+      let result : IsKept given next = record {
+        ungrouped = kept.ungrouped;
+        members = kept.members;
+        clients = kept.clients;
+        group = kept.group;
+        limited = kept.limited;
+      } in
+      let same : new ≡ next =
+      says_state report [] new _ is ∙ ap (λ (e : Declared). record next { declared = e }) (sym both.1) in
+      subst (IsKept given) (sym same) result
+  kept_mirror values after is = cc
 
   -- ---- events
 
@@ -331,6 +362,7 @@ module _ (given : Given) (s : State) (sound : IsSoundState given s) (kept : IsKe
         keys = s.keys;
         world = Some (after_event out w event);
         watchers = s.watchers;
+        mirrors = mirrors_behind (after_event out w event) e s.mirrors;
       } in
       let result : IsKept given next = record {
         ungrouped = λ h. absurd (true≢false (sym grouped ∙ h));
@@ -358,6 +390,22 @@ module _ (given : Given) (s : State) (sound : IsSoundState given s) (kept : IsKe
       } in
       subst (IsKept given) (sym watched.next) result
 
+  kept_mirrored : (stated : Stated) → checking.after_event s.declared stated ≡ Ok d → IsMirrored given s d new
+      → IsKept given new
+  kept_mirrored stated taken mirrored =
+      let declares = event_line s.declared d stated taken in
+      let members : d.members ≡ s.declared.members = ap (λ (x : Declared). x.members) declares.is in
+      let clients : d.clients ≡ s.declared.clients = ap (λ (x : Declared). x.clients) declares.is in
+      let grouped : d.group ≡ true = ap (λ (x : Declared). x.group) declares.is ∙ declares.grouped in
+      let result : IsKept given (with_mirrors (found_world given s) s d mirrored.mirrors) = record {
+        ungrouped = λ h. absurd (true≢false (sym grouped ∙ h));
+        members = ap (map node_of) members ∙ kept.members;
+        clients = ap (map node_of) clients ∙ kept.clients;
+        group = λ h. kept.group declares.grouped;
+        limited = λ h. kept.limited declares.grouped;
+      } in
+      subst (IsKept given) (sym mirrored.next) result
+
   kept_stated : (form_verb : Verb) (values : List Value) → line_of octets ≡ Ok (Some (said form_verb values))
       → after_line s.declared (said form_verb values) ≡ Ok d
       → taken_by form_verb given s d (said form_verb values) ≡ says report new → IsKept given new
@@ -365,10 +413,17 @@ module _ (given : Given) (s : State) (sound : IsSoundState given s) (kept : IsKe
   kept_stated verb.Group values read after is = kept_group values read after is
   kept_stated verb.Member values read after is = kept_member values read after is
   kept_stated verb.Client values read after is = kept_client values read after is
+  kept_stated verb.Mirror values read after is = kept_mirror values after is
   kept_stated verb.Watch values read after is =
       kept_watched (said verb.Watch values) after (watched_so given s d values report new is)
   kept_stated verb.Told values read after is =
       kept_watched (said verb.Told values) after (told_so given s d values report new is)
+  kept_stated verb.Mdeliver values read after is =
+      kept_mirrored (said verb.Mdeliver values) after (heard_so given s d values report new is)
+  kept_stated verb.Mfetch values read after is =
+      kept_mirrored (said verb.Mfetch values) after (fetched_so given s d values report new is)
+  kept_stated verb.Mcatalogue values read after is =
+      kept_mirrored (said verb.Mcatalogue values) after (listed_so given s d values report new is)
   kept_stated form_verb values read after is = kept_event (said form_verb values) read after after is
 
 -- ---- lines

@@ -1,16 +1,22 @@
 -- The report of a line that is taken tells of members alone that lines declared.
 use Rattle.std.proofs.Common.{◌≡◌, ◌∙◌, ℕ, zero, suc, ◌+◌, ◌<◌, Bool, true, false, nat_le, List, [], ◌∷◌, length, map}
-use Rattle.std.proofs.Common.{Option, Some, None, Result, Ok, Err, refl, sym, ap, subst, arith, if◌then◌else◌}
+use Rattle.std.proofs.Common.{filter, Option, Some, None, Result, Ok, Err, refl, sym, ap, subst, arith, if◌then◌else◌}
 use Rattle.std.specs.Prelude.{is_some}
 use Rattle.std.specs.List.{All}
 use Rattle.std.proofs.lemmas.List.{length-map}
 use Rattle.std.proofs.lemmas.List.Elements.{All-filter, All-nil}
 use Rattle.repo_catalog.specs.declared.entry.Entry.{Entry}
 use Rattle.repo_watch.specs.Watching.{Watching, after_add, after_take, is_news, watch_of}
-use Rattle.group_model.specs.World.{Outside, World, catalogue_at}
+use Rattle.sorted_lists.proofs.Sets.{In, from_map}
+use Rattle.group_model.specs.Publications.{Publication, published, published_entry}
+use Rattle.group_model.specs.World.{Outside, World, catalogue_at, logs}
+use Rattle.group_model.specs.Refusals as group
+use Rattle.group_model.proofs.Lists.{from_filter}
+use Rattle.group_model.proofs.Parts.{in_published, in_range}
 use Rattle.bench_world.specs.EventValues.{EventValue, telling}
 use Rattle.bench_world.specs.Steps.{NamesAll}
 use Rattle.bench_world.proofs.Names.{names_all}
+use Rattle.bench_world.proofs.NextParts.{all_from_in}
 use Rattle.script_lang.specs.declared.line_fault.LineFault.{LineFault}
 use Rattle.script_lang.specs.declared.line_fault.LineFault.TheVariants as line_fault
 use Rattle.script_lang.specs.declared.check_fault.CheckFault.{CheckFault}
@@ -21,23 +27,27 @@ use Rattle.script_lang.specs.Forms.{Stated}
 use Rattle.script_lang.specs.Lines.{line_of}
 use Rattle.script_lang.specs.Checking as checking
 use Rattle.script_lang.specs.Checking.{Declared, Party, after_by, after_line, are_known_by, are_members, has_label}
-use Rattle.script_lang.specs.Checking.{labels_in, party_label}
+use Rattle.script_lang.specs.Checking.{are_mirrors, is_mirror, labels_in, party_label}
 use Rattle.script_lang.proofs.Conditions.{and_left}
 use Rattle.script_report.specs.Texts.{watch_text}
-use Rattle.repo_top.specs.declared.refusal.Refusal.TheVariants as refusal
+use Rattle.script_report.specs.declared.refusal.Refusal.TheVariants as refusal
 use Rattle.script_report.specs.Labels.{MembersHaveLabels, label_at}
-use Rattle.repo_top.specs.SaidEvents.{party_number, pattern_for, publisher_number, said_event}
-use Rattle.repo_top.specs.ToldMembers.{TellsOfMembers, ReportsTellOfMembers, silent, tells, tells_news, watches}
+use Rattle.repo_top.specs.Mirrors.{Mirroring, is_listed_by, mirror_of, mirrored_entries}
+use Rattle.repo_top.specs.SaidEvents.{mirror_number, party_number, pattern_for, publisher_number, said_event}
+use Rattle.repo_top.specs.ToldMembers.{TellsOfMembers, ReportsTellOfMembers, mirror_fetches, mirror_hears, mirror_lists}
+use Rattle.repo_top.specs.ToldMembers.{silent, tells, tells_news, watches}
 use Rattle.repo_top.specs.ToldTexts.{news_in, news_text}
 use Rattle.repo_top.specs.Judging.{Given, State, acted_by, acted_if, checked, found_world, judged, judged_line}
 use Rattle.repo_top.specs.Judging.{line_taken, outside_of, read, says, taken_by, with_client, with_group}
-use Rattle.repo_top.specs.Judging.{declaring_member, refused, told_by, watched_by, watchers_at, with_watchers}
+use Rattle.repo_top.specs.Judging.{declaring_member, declaring_mirror, fetched_by, heard_by, listed_by, refused}
+use Rattle.repo_top.specs.Judging.{told_by, watched_by, watchers_at, with_watchers}
 use Rattle.repo_top.specs.Story.{nothing_reached}
 use Rattle.repo_top.proofs.Fitting.{event_fits, number_within}
 use Rattle.repo_top.proofs.HeadlineLines.{judged_by}
-use Rattle.repo_top.proofs.HeadlineTaken.{says_report, says_state}
-use Rattle.repo_top.proofs.HeadlineGroups.{IsSoundState, acted_said, event_line, not_checked, sound_beginning}
+use Rattle.repo_top.proofs.HeadlineTaken.{heard_if_so, says_report, says_state}
+use Rattle.repo_top.proofs.HeadlineGroups.{IsSoundState, event_line, sound_beginning}
 use Rattle.repo_top.proofs.HeadlineGroups.{sound_lines}
+use Rattle.repo_top.proofs.LinesTaken.{acted_said, not_checked}
 
 pub members_have_labels : MembersHaveLabels
 members_have_labels [] m there = absurd (omega arith)
@@ -45,13 +55,24 @@ members_have_labels (label ∷ labels) zero there = refl
 members_have_labels (label ∷ labels) (suc m) there = members_have_labels labels m (omega arith)
 
 abbrev Tells : State → List ℕ → Type 0
-Tells new report = TellsOfMembers (map party_label new.declared.members) report
+Tells new report = TellsOfMembers (map party_label new.declared.members) new.declared.mirrors report
 
 -- What holds of all entries holds of those that are news.
 pub news_among : (P : Entry → Type 0) (o : Option Watching) (entries : List Entry) → All P entries
     → All P (news_in o entries)
 news_among P None entries all = All-nil P
 news_among P (Some watching) entries all = All-filter (is_news watching) P entries all
+
+-- The entries of a mirror are of members.
+of_members : (w : World) (m : Mirroring) → All (λ (e : Entry). e.publisher < length (logs w)) (mirrored_entries w m)
+of_members w m = all_from_in (λ (e : Entry). e.publisher < length (logs w)) (mirrored_entries w m) (λ e i.
+    let listed : List Publication = filter (is_listed_by (published (logs w)) m) (published (logs w)) in
+    let q : (p : Publication) × In p listed × (e ≡ published_entry p) = from_map published_entry listed e i in
+    let there =
+    in_published (logs w) q.0
+    (from_filter (is_listed_by (published (logs w)) m) (published (logs w)) q.0 q.1).0 in
+    subst (λ (x : Entry). x.publisher < length (logs w)) (sym q.2)
+    (in_range (logs w) q.0.publisher q.0.seq there.there.from_one there.there.to_last))
 
 -- ---- declarations
 
@@ -67,6 +88,10 @@ module _ (s : State) (d : Declared) (report : List ℕ) (new : State) where
   client_silent : (values : List Value) → with_client s d values ≡ says report new → Tells new report
   client_silent (Text label ∷ Named node ∷ Octets key ∷ []) is = silent (says_report report [] new _ is)
   client_silent values is = cc
+
+  mirror_silent : (values : List Value) → declaring_mirror s d values ≡ says report new → Tells new report
+  mirror_silent (Text label ∷ publisher ∷ Named prefix ∷ []) is = silent (says_report report [] new _ is)
+  mirror_silent values is = cc
 
 -- ---- events
 
@@ -162,6 +187,45 @@ module _ (given : Given) (s : State) (sound : IsSoundState given s) (line : List
             (catalogue_at w number) publishers))
   news_tell values is known same = cc
 
+  same_mirrors : checking.after_event s.declared stated ≡ Ok d → d.mirrors ≡ s.declared.mirrors
+  same_mirrors taken = ap (λ (x : Declared). x.mirrors) (event_line s.declared d stated taken).is
+
+  -- The label is a mirror's behind the line too.
+  mirror_known : (label : List ℕ) (rest : List (List ℕ)) → are_mirrors s.declared (label ∷ rest) ≡ true
+      → d.mirrors ≡ s.declared.mirrors → is_mirror label d.mirrors ≡ true
+  mirror_known label rest known same =
+      ap (is_mirror label) same ∙ and_left (is_mirror label s.declared.mirrors) _ known
+
+  heard_tells : (values : List Value) → heard_by (found_world given s) s d values ≡ says report new
+      → are_mirrors s.declared (labels_in values) ≡ true → d.mirrors ≡ s.declared.mirrors → Tells new report
+  heard_tells (Number k ∷ Text l ∷ []) is known same =
+      let i : ℕ = mirror_number l d.mirrors in
+      let heard = heard_if_so given s d (group.unless_sent (found_world given s) k) k i l report new is in
+      subst (λ (x : State). Tells x report) (sym heard.mirrored.next)
+      (mirror_hears k l heard.text (mirror_known l [] known same))
+  heard_tells values is known same = cc
+
+  fetched_tells : (values : List Value) → fetched_by given (found_world given s) s d values ≡ says report new
+      → are_mirrors s.declared (labels_in values) ≡ true → d.mirrors ≡ s.declared.mirrors → Tells new report
+  fetched_tells (Text l ∷ Number workers ∷ Number tries ∷ Number loss ∷ []) is known same =
+      subst (λ (x : State). Tells x report) (sym (says_state report _ new _ is))
+      (mirror_fetches l _ _ _ (says_report report _ new _ is) (mirror_known l [] known same))
+  fetched_tells values is known same = cc
+
+  listed_tells : (values : List Value) → listed_by (found_world given s) s d values ≡ says report new
+      → are_mirrors s.declared (labels_in values) ≡ true → d.members ≡ s.declared.members
+      → d.mirrors ≡ s.declared.mirrors → Tells new report
+  listed_tells (Text l ∷ []) is known members same =
+      let w : World = found_world given s in
+      let m : Mirroring = mirror_of s.mirrors (mirror_number l d.mirrors) in
+      let count : length d.members ≡ length s.declared.members = ap (λ (ps : List Party). length ps) members in
+      let many : length (logs w) ≡ length (map party_label d.members) =
+      length-map w.members _ ∙ sound.many ∙ sym count ∙ sym as_many in
+      subst (λ (x : State). Tells x report) (sym (says_state report _ new _ is))
+      (mirror_lists l (mirrored_entries w m) (says_report report _ new _ is) (mirror_known l [] known same)
+      (subst (λ (n : ℕ). All (λ (e : Entry). e.publisher < n) (mirrored_entries w m)) many (of_members w m)))
+  listed_tells values is known members same = cc
+
   known_as : (form : Verb) → stated.verb ≡ form → checking.after_event s.declared stated ≡ Ok d
       → are_known_by form s.declared (labels_in stated.values) ≡ true
   known_as form same taken =
@@ -174,10 +238,17 @@ module _ (given : Given) (s : State) (sound : IsSoundState given s) (line : List
   stated_tells verb.Group same taken is = group_silent s d report new stated.values is
   stated_tells verb.Member same taken is = member_silent s d report new stated.values is
   stated_tells verb.Client same taken is = client_silent s d report new stated.values is
+  stated_tells verb.Mirror same taken is = mirror_silent s d report new stated.values is
   stated_tells verb.Watch same taken is =
       watch_tells stated.values is (known_as verb.Watch same taken) (same_members taken)
   stated_tells verb.Told same taken is =
       news_tell stated.values is (known_as verb.Told same taken) (same_members taken)
+  stated_tells verb.Mdeliver same taken is =
+      heard_tells stated.values is (known_as verb.Mdeliver same taken) (same_mirrors taken)
+  stated_tells verb.Mfetch same taken is =
+      fetched_tells stated.values is (known_as verb.Mfetch same taken) (same_mirrors taken)
+  stated_tells verb.Mcatalogue same taken is =
+      listed_tells stated.values is (known_as verb.Mcatalogue same taken) (same_members taken) (same_mirrors taken)
   stated_tells form same taken is = event_tells taken is
 
 -- ---- lines

@@ -25,10 +25,11 @@ use Rattle.repo_top.specs.Headline.{LinesAreTaken, IsCatalogueLine, IsCatalogueO
 use Rattle.repo_top.specs.Headline.{IsSettleLine, PrintsLater, SettlesJoin}
 use Rattle.repo_top.specs.Headline.{TellingChangesNothing, changes_nothing, group_at, labels_at, only_tells}
 use Rattle.repo_top.specs.Headline.{printed_entries}
-use Rattle.repo_top.proofs.HeadlineTaken.{IsWatched, told_so, watched_so}
-use Rattle.repo_top.proofs.HeadlineGroups.{IsActed, IsSoundState, LineTaken, acts_so, acted_said}
-use Rattle.repo_top.proofs.HeadlineGroups.{event_line, nothing, sound_from_start, sound_lines, stated_taken, stating}
-use Rattle.repo_top.proofs.HeadlineGroups.{taken_line}
+use Rattle.repo_top.proofs.HeadlineTaken.{IsMirrored, IsWatched, fetched_so, heard_so, listed_so, told_so, watched_so}
+use Rattle.repo_top.proofs.HeadlineGroups.{IsSoundState}
+use Rattle.repo_top.proofs.HeadlineGroups.{event_line, sound_from_start, sound_lines}
+use Rattle.repo_top.proofs.LinesTaken.{IsActed, LineTaken, acts_so, acted_said}
+use Rattle.repo_top.proofs.LinesTaken.{nothing, stated_taken, stating, taken_line}
 use Rattle.repo_top.proofs.HeadlineCatalogues.{catalogue_line}
 
 -- ---- the settle
@@ -103,6 +104,15 @@ watch_tells given r stated d new after watched = record {
       ∙ ap (λ (x : Declared). map party_label x.members) (event_line r.state.declared d stated after).is;
 }
 
+mirror_tells : (given : Given) (r : Reached) (stated : Stated) (d : Declared) (new : Reached)
+    → checking.after_event r.state.declared stated ≡ Ok d → IsMirrored given r.state d new.state
+    → IsSameGroup given r new
+mirror_tells given r stated d new after mirrored = record {
+  group = ap (found_world given) mirrored.next;
+  labels = ap (λ (x : State). map party_label x.declared.members) mirrored.next
+      ∙ ap (λ (x : Declared). map party_label x.members) (event_line r.state.declared d stated after).is;
+}
+
 form_tells : (given : Given) (r : Reached) (stated : Stated) (d : Declared) (report : List ℕ) (new : Reached)
     → only_tells stated.verb ≡ true → (form : Verb) → only_tells form ≡ true
     → after_by r.state.declared stated form stated.values ≡ Ok d
@@ -111,10 +121,17 @@ unfolding acted_by
 form_tells given r stated d report new only verb.Group tell after is = cc
 form_tells given r stated d report new only verb.Member tell after is = cc
 form_tells given r stated d report new only verb.Client tell after is = cc
+form_tells given r stated d report new only verb.Mirror tell after is = cc
 form_tells given r stated d report new only verb.Watch tell after is =
     watch_tells given r stated d new after (watched_so given r.state d stated.values report new.state is)
 form_tells given r stated d report new only verb.Told tell after is =
     watch_tells given r stated d new after (told_so given r.state d stated.values report new.state is)
+form_tells given r stated d report new only verb.Mdeliver tell after is =
+    mirror_tells given r stated d new after (heard_so given r.state d stated.values report new.state is)
+form_tells given r stated d report new only verb.Mfetch tell after is =
+    mirror_tells given r stated d new after (fetched_so given r.state d stated.values report new.state is)
+form_tells given r stated d report new only verb.Mcatalogue tell after is =
+    mirror_tells given r stated d new after (listed_so given r.state d stated.values report new.state is)
 form_tells given r stated d report new only form tell after is =
     event_tells given r stated d report new only after is
 

@@ -105,7 +105,7 @@ all_spare (l ∷ ls) h =
     and_from (deletes_nothing (line_of l)) _ (spares (line_of l) (and_left (changes_nothing (line_of l)) _ h))
     (all_spare ls (and_right (changes_nothing (line_of l)) _ h))
 
-all_both : (cs bs : List (List ℕ)) → list_all (λ l. deletes_nothing (line_of l)) cs ≡ true
+pub all_both : (cs bs : List (List ℕ)) → list_all (λ l. deletes_nothing (line_of l)) cs ≡ true
     → list_all (λ l. deletes_nothing (line_of l)) bs ≡ true
     → list_all (λ l. deletes_nothing (line_of l)) (cs ++ bs) ≡ true
 all_both [] bs h k = k

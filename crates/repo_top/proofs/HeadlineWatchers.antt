@@ -28,8 +28,8 @@ use Rattle.repo_top.specs.Watchers.{IsToldLine, SettledAreTold, WatchersAreToldA
 use Rattle.repo_top.specs.Watchers.{WatchersAreToldOnce}
 use Rattle.repo_top.proofs.HeadlineCatalogues.{IsNumberOf, named_by}
 use Rattle.repo_top.proofs.HeadlineEvents.{lines_ask, lines_run}
-use Rattle.repo_top.proofs.HeadlineGroups.{IsSoundState, event_line, sound_from_start, sound_lines, stated_taken}
-use Rattle.repo_top.proofs.HeadlineGroups.{taken_line}
+use Rattle.repo_top.proofs.HeadlineGroups.{IsSoundState, event_line, sound_from_start, sound_lines}
+use Rattle.repo_top.proofs.LinesTaken.{stated_taken, taken_line}
 use Rattle.repo_top.proofs.HeadlineTaken.{told_at_so}
 use Rattle.repo_top.proofs.HeadlineListings.{number_of}
 use Rattle.repo_top.proofs.HeadlineShown.{joined_behind}

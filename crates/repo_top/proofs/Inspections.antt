@@ -10,7 +10,7 @@ use Rattle.ndn_inspect.specs.Inspection.{inspected}
 use Rattle.repo_top.specs.declared.ending.Ending.TheVariants.{Done}
 use Rattle.repo_io.specs.declared.status.Status.TheVariants.{Foreign}
 use Rattle.repo_top.specs.Answers.{status_of}
-use Rattle.repo_top.specs.declared.refusal.Refusal.TheVariants.{Limit}
+use Rattle.script_report.specs.declared.refusal.Refusal.TheVariants.{Limit}
 use Rattle.repo_top.specs.Story.{refused}
 use Rattle.repo_top.specs.Inspection.{decoded_story, inspect_story, lines_story, sound_ending, without_spaces}
 

@@ -18,14 +18,14 @@ use Rattle.script_lang.specs.declared.line_fault.LineFault.{LineFault}
 use Rattle.script_lang.specs.declared.line_fault.LineFault.TheVariants as line_fault
 use Rattle.script_lang.specs.declared.check_fault.CheckFault.{CheckFault}
 use Rattle.script_lang.specs.declared.check_fault.CheckFault.TheVariants as check_fault
-use Rattle.script_lang.specs.Kinds.{Text, Named, Octets}
+use Rattle.script_lang.specs.Kinds.{Value, Text, Named, Octets}
 use Rattle.script_lang.specs.Forms.{Stated, said, stated}
 use Rattle.script_lang.specs.Lines.{line_of}
 use Rattle.script_lang.specs.Reading.{FaultTells}
 use Rattle.script_lang.specs.Checking.{Declared, LineTotals, Party, after_line, after_event, are_known, are_known_by}
 use Rattle.script_lang.specs.Checking.{are_clients, are_those, are_within_limits, has_label, labels_in}
 use Rattle.script_lang.specs.Checking.{with_totals, adds, declared_then, is_party_among, is_there, party_label}
-use Rattle.script_lang.specs.Checking.{may_declare, party}
+use Rattle.script_lang.specs.Checking.{are_members, is_label_there, may_declare, party}
 use Rattle.svs_vector.specs.Rosters.{has_same_octets, member_of}
 use Rattle.group_model.specs.World.{Outside, World}
 use Rattle.group_model.specs.Steps.{after_event as after_group_event}
@@ -33,10 +33,12 @@ use Rattle.group_model.specs.Refusals as group
 use Rattle.repo_member.specs.Groups.{GroupKeys, is_name_taken}
 use Rattle.repo_member.proofs.PublicLaws.{same_name, none_found}
 use Rattle.bench_world.specs.EventValues.{EventValue, group_event, telling}
-use Rattle.repo_top.specs.SaidEvents.{said_event}
+use Rattle.repo_top.specs.Mirrors.{mirror_begins}
+use Rattle.repo_top.specs.SaidEvents.{pattern_for, publisher_number, said_event}
 use Rattle.repo_top.specs.ToldTexts.{told_text}
 use Rattle.repo_top.specs.Judging.{Given, State, says, acted, acted_by, found_world, group_named, judged}
-use Rattle.repo_top.specs.Judging.{judged_line, line_taken, outside_of, read, stepped, with_client_too, with_member_too}
+use Rattle.repo_top.specs.Judging.{judged_line, line_taken, mirrors_begin, mirrors_behind, outside_of, read, stepped}
+use Rattle.repo_top.specs.Judging.{with_client_too, with_member_too}
 use Rattle.repo_top.specs.declared.stop.Stop.{Stop}
 use Rattle.repo_top.specs.declared.stop.Stop.TheVariants as stop
 use Rattle.repo_top.specs.Progressing.{IsEventLine, IsStop, IsStopOf, node_of}
@@ -87,7 +89,13 @@ taken_line given s d l h = rw h refl
 
 pub group_says : (given : Given) (s : State) (d : Declared) (name : List Component)
     → line_taken given s d (said verb.Group (Named name ∷ []))
-    ≡ says [] (record { declared = d; keys = group_named name; world = s.world; watchers = s.watchers })
+    ≡ says [] (record {
+      declared = d;
+      keys = group_named name;
+      world = s.world;
+      watchers = s.watchers;
+      mirrors = s.mirrors;
+    })
 unfolding line_taken
 group_says given s d name = refl
 
@@ -98,16 +106,36 @@ pub member_says : (given : Given) (s : State) (d : Declared) (label : List ℕ) 
       keys = with_member_too node key s.keys;
       world = s.world;
       watchers = s.watchers ++ [] ∷ [];
+      mirrors = mirrors_begin (with_member_too node key s.keys) s.mirrors;
     })
 unfolding line_taken
 member_says given s d label node key = refl
 
 pub client_says : (given : Given) (s : State) (d : Declared) (label : List ℕ) (node : List Component) (key : List ℕ)
     → line_taken given s d (said verb.Client (Text label ∷ Named node ∷ Octets key ∷ []))
-    ≡ says []
-    (record { declared = d; keys = with_client_too node key s.keys; world = s.world; watchers = s.watchers })
+    ≡ says [] (record {
+      declared = d;
+      keys = with_client_too node key s.keys;
+      world = s.world;
+      watchers = s.watchers;
+      mirrors = s.mirrors;
+    })
 unfolding line_taken
 client_says given s d label node key = refl
+
+pub mirror_says : (given : Given) (s : State) (d : Declared) (label : List ℕ) (publisher : Value)
+    (prefix : List Component)
+    → line_taken given s d (said verb.Mirror (Text label ∷ publisher ∷ Named prefix ∷ []))
+    ≡ says [] (record {
+      declared = d;
+      keys = s.keys;
+      world = s.world;
+      watchers = s.watchers;
+      mirrors = s.mirrors
+          ++ mirror_begins (length s.keys.members.names) (pattern_for (publisher_number d publisher) prefix) ∷ [];
+    })
+unfolding line_taken
+mirror_says given s d label publisher prefix = refl
 
 -- A member or a client may be declared where the group is, no event was, nobody has its label or its name, and
 -- there are few of its kind.
@@ -154,6 +182,39 @@ group_declares d e name h = go d.group refl h where
   go true g k = absurd cc
   go false g k = (g, cc)
 
+-- A mirror may be declared where the group is, no event was, its publisher is known, and there are few mirrors.
+pub record MayMirror (d : Declared) (publishers : List (List ℕ)) : Type 0 where
+  pub group : d.group ≡ true
+  pub early : d.events ≡ false
+  pub known : are_members d publishers ≡ true
+  pub few : length d.mirrors < 4
+
+pub mirror_declares : (d e : Declared) (label : List ℕ) (publisher : Value) (prefix : List Component)
+    → after_line d (said verb.Mirror (Text label ∷ publisher ∷ Named prefix ∷ [])) ≡ Ok e
+    → MayMirror d (labels_in (publisher ∷ [])) × (record d { mirrors = d.mirrors ++ label ∷ [] } ≡ e)
+mirror_declares d e label publisher prefix h =
+    go d.group d.events (are_members d publishers) (is_label_there d label) (nat_le 4 (length d.mirrors))
+    refl refl refl refl h where
+      publishers : List (List ℕ)
+      publishers = labels_in (publisher ∷ [])
+
+      after : Declared
+      after = record d { mirrors = d.mirrors ++ label ∷ [] }
+
+      go : (group events known there full : Bool) → d.group ≡ group → d.events ≡ events
+          → are_members d publishers ≡ known → nat_le 4 (length d.mirrors) ≡ full
+          → declared_then (if not group then Err check_fault.NoGroup else if events then Err check_fault.Late
+          else if not known then Err check_fault.UnknownLabel else if there then Err check_fault.Duplicate
+          else if full then Err check_fault.Limit else Ok tt) after ≡ Ok e
+          → MayMirror d publishers × (after ≡ e)
+      go false events known there full g v k f h = absurd cc
+      go true true known there full g v k f h = absurd cc
+      go true false false there full g v k f h = absurd cc
+      go true false true true full g v k f h = absurd cc
+      go true false true false true g v k f h = absurd cc
+      go true false true false false g v k f h =
+          (record { group = g; early = v; known = k; few = grind (arith, nat_tests, f) }, cc)
+
 -- A name that no party has is that of nobody in the group.
 pub nobody_has : (label : List ℕ) (node : List Component) (parties : List Party)
     → is_party_among (party label node) parties ≡ false
@@ -168,7 +229,10 @@ pub is_free : (d : Declared) (keys : GroupKeys) (label : List ℕ) (node : List 
     → map node_of d.members ≡ keys.members.names → map node_of d.clients ≡ keys.clients.names
     → is_there d (party label node) ≡ false → is_name_taken keys node ≡ false
 is_free d keys label node members clients h =
-    let both = or_parts (is_party_among (party label node) d.members) (is_party_among (party label node) d.clients) h in
+    let parties =
+    or_parts (is_party_among (party label node) d.members || is_party_among (party label node) d.clients) _ h in
+    let both =
+    or_parts (is_party_among (party label node) d.members) (is_party_among (party label node) d.clients) parties.0 in
     let no_member : member_of node keys.members.names ≡ None = none_found (has_same_octets node) keys.members.names
     (ap (list_any (has_same_octets node)) (sym members) ∙ nobody_has label node d.members both.0) in
     let no_client : member_of node keys.clients.names ≡ None = none_found (has_same_octets node) keys.clients.names
@@ -185,6 +249,7 @@ pub record IsEvent (d e : Declared) (l : Stated) : Type 0 where
   pub events : e.events ≡ true
   pub members : e.members ≡ d.members
   pub clients : e.clients ≡ d.clients
+  pub mirrors : e.mirrors ≡ d.mirrors
   pub known : are_known e l ≡ true
 
 -- That there was an event makes no label known.
@@ -226,6 +291,7 @@ event_after d e l h =
             events = ap (λ (f : Declared). f.events) (sym after);
             members = ap (λ (f : Declared). f.members) (sym after);
             clients = ap (λ (f : Declared). f.clients) (sym after);
+            mirrors = ap (λ (f : Declared). f.mirrors) (sym after);
             known = ap (λ (f : Declared). are_known f l) (sym after)
                 ∙ same_by l.verb d (with_totals d.totals (adds l.verb l.values)) (labels_in l.values) ∙ is;
           }
@@ -237,7 +303,11 @@ event_says given s d (line.Group name) is = absurd is
 event_says given s d (line.Member label name key) is = absurd is
 event_says given s d (line.Client label name key) is = absurd is
 event_says given s d (line.Watch m p name) is = absurd is
+event_says given s d (line.Mirror label p name) is = absurd is
 event_says given s d (line.Told m w) is = absurd is
+event_says given s d (line.Mdeliver k l) is = absurd is
+event_says given s d (line.Mfetch l workers tries loss) is = absurd is
+event_says given s d (line.Mcatalogue l) is = absurd is
 event_says given s d l is = refl
 
 pub event_declares : (d e : Declared) (l : Line) → IsEventLine l → after_line d (stated l) ≡ Ok e
@@ -245,6 +315,7 @@ pub event_declares : (d e : Declared) (l : Line) → IsEventLine l → after_lin
 event_declares d e (line.Group name) is h = absurd is
 event_declares d e (line.Member label name key) is h = absurd is
 event_declares d e (line.Client label name key) is h = absurd is
+event_declares d e (line.Mirror label p name) is h = absurd is
 event_declares d e l is h = event_after d e (stated l) h
 
 pub acts : (given : Given) (s : State) (d : Declared) (l : Stated) (e : EventValue) → Some e ≡ said_event d l
@@ -258,7 +329,11 @@ states_some d (line.Group name) is h = absurd is
 states_some d (line.Member label name key) is h = absurd is
 states_some d (line.Client label name key) is h = absurd is
 states_some d (line.Watch m p name) is h = absurd is
+states_some d (line.Mirror label p name) is h = absurd is
 states_some d (line.Told m w) is h = absurd is
+states_some d (line.Mdeliver k l) is h = absurd is
+states_some d (line.Mfetch l workers tries loss) is h = absurd is
+states_some d (line.Mcatalogue l) is h = absurd is
 states_some d l is h = cc
 
 pub acted_says : (given : Given) (s : State) (d : Declared) (e : EventValue)
@@ -270,6 +345,8 @@ pub acted_says : (given : Given) (s : State) (d : Declared) (e : EventValue)
       keys = s.keys;
       world = Some (after_group_event (outside_of given s.keys) (found_world given s) (group_event s.keys e));
       watchers = s.watchers;
+      mirrors = mirrors_behind
+          (after_group_event (outside_of given s.keys) (found_world given s) (group_event s.keys e)) e s.mirrors;
     })
 unfolding acted
 acted_says given s d e h = rw h refl

@@ -7,6 +7,7 @@ pub mod Fitting
 pub mod Sayings
 pub mod HeadlineLines
 pub mod HeadlineTaken
+pub mod LinesTaken
 pub mod HeadlineGroups
 pub mod HeadlineNames
 pub mod HeadlineCatalogues
@@ -21,6 +22,8 @@ pub mod ListedDigests
 pub mod HeadlineChecks
 pub mod HeadlineShown
 pub mod HeadlineWatchers
+pub mod MirrorJoins
+pub mod HeadlineMirrors
 pub mod WorkerLaws
 pub mod Readings
 pub mod Stories
@@ -31,4 +34,7 @@ pub mod Labels
 pub mod Judgings
 pub mod Progressings
 pub mod WatchLines
+pub mod MirrorWorlds
+pub mod MirrorSettles
+pub mod MirrorLines
 pub mod Ends

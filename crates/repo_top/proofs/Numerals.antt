@@ -1,37 +1,22 @@
 -- Numerals: words that are numbers.
-use Rattle.std.proofs.Common.{◌≡◌, ◌+◌, ◌*◌, ◌-◌, ◌<◌, ◌≤◌, ◌^◌, ℕ, add-one, Bool, true, false, ◌&&◌, List, [], ◌∷◌}
+use Rattle.std.proofs.Common.{◌≡◌, ◌+◌, ◌*◌, ◌-◌, ◌<◌, ◌≤◌, ◌^◌, ℕ, add-one, Bool, true, false, List}
 use Rattle.std.proofs.Common.{length, get_or, take, arith, ◌∙◌, sym, ap, refl}
 use Rattle.std.specs.Char.{is_ascii_digit, digit_value}
-use Rattle.std.specs.List.{list_all}
 use Rattle.std.specs.Str.Parse.{digits_value}
 use Rattle.std.proofs.lemmas.Int.Digits.{digits_value_more}
 use Rattle.std.proofs.lemmas.List.Folds.{list_all_at}
 use Rattle.std.proofs.lemmas.Bool.Decides.{nat_tests}
 use Rattle.std.proofs.lemmas.Bool.{false≢true}
-use Rattle.std.proofs.lemmas.Grind.{common_steps}
 use Rattle.std.proofs.Math.Nat.{pow-le-pow_right, pow-suc}
 use Rattle.script_lang.specs.Kinds.{is_numeral}
-
-pub is_short : (word : List ℕ) → is_numeral word ≡ true → length word ≤ 18
-is_short [] h = omega arith
-is_short (first ∷ others) h = short first others h where
-  short : (first : ℕ) (others : List ℕ) → is_numeral (first ∷ others) ≡ true → length (first ∷ others) ≤ 18
-  short first others h = grind (arith, common_steps, nat_tests)
-
-and_right : (a b : Bool) → (a && b) ≡ true → b ≡ true
-and_right true b h = h
-and_right false b h = absurd (false≢true h)
-
-all_digits : (word : List ℕ) → is_numeral word ≡ true → list_all is_ascii_digit word ≡ true
-all_digits [] h = refl
-all_digits (first ∷ others) h = and_right _ (list_all is_ascii_digit (first ∷ others)) h
+use Rattle.script_lang.proofs.Numerals.{are_digits}
 
 pub digit_is : (word : List ℕ) (i : ℕ) → is_numeral word ≡ true → i < length word
     → is_ascii_digit (get_or word i 0) ≡ true
 digit_is word i h lt = go (is_ascii_digit (get_or word i 0)) refl where
   go : (b : Bool) → is_ascii_digit (get_or word i 0) ≡ b → is_ascii_digit (get_or word i 0) ≡ true
   go true e = e
-  go false e = absurd (false≢true (sym (list_all_at is_ascii_digit word i 0 lt e) ∙ all_digits word h))
+  go false e = absurd (false≢true (sym (list_all_at is_ascii_digit word i 0 lt e) ∙ are_digits word h))
 
 digit_is_value : (c : ℕ) → is_ascii_digit c ≡ true → digit_value c ≡ c - 48
 digit_is_value c h = grind (arith, nat_tests)

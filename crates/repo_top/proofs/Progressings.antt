@@ -1,6 +1,6 @@
 -- What a line changes of what is kept, by what it states.
 use Rattle.std.proofs.Common.{◌≡◌, ◌∙◌, ℕ, ◌<◌, true, false, List, [], ◌∷◌, ◌++◌, length, map, Option, Some, None}
-use Rattle.std.proofs.Common.{◌+◌, length-append, Result, Ok, Err, String, Global, Vec, refl, sym, ap, subst}
+use Rattle.std.proofs.Common.{◌+◌, length-append, Result, Ok, Err, String, Global, Vec, refl, sym, ap, subst, arith}
 use Rattle.std.specs.Prelude.{IfErr, OnOk}
 use Rattle.std.specs.Result.{IsErrAnd}
 use Rattle.std.proofs.lemmas.Bool.{true≢false}
@@ -24,13 +24,15 @@ use Rattle.repo_top.specs.declared.progress.Standing.{Standing}
 use Rattle.repo_top.specs.declared.progress.Standing.TheVariants.{Opening, Declaring, Acting}
 use Rattle.repo_top.specs.Judging.{Given, State, Verdict, says, acted, acted_by, acted_if, found_world, group_named}
 use Rattle.repo_top.specs.Judging.{outside_of, judged_line, line_taken, no_group, taken_by, with_client_too}
-use Rattle.repo_top.specs.Judging.{told_by, watched_by, with_member_too}
+use Rattle.repo_top.specs.Judging.{declaring_mirror, fetched_by, heard_by, heard_if, listed_by, mirrors_begin}
+use Rattle.repo_top.specs.Judging.{mirrors_behind, told_by, watched_by, with_member_too}
 use Rattle.repo_top.specs.Progressing.{IsEventLine, NamesAreDeclared, LineIsChecked, IsStop, IsStopOf, StatesFit}
-use Rattle.repo_top.specs.Progressing.{has_group}
-use Rattle.repo_top.specs.Progressing.{has_world, standing_keys, node_of, state_of, world_in}
+use Rattle.repo_top.specs.Progressing.{MirrorsAreDeclared, has_group, has_world, mirrors_in, node_of, standing_keys}
+use Rattle.repo_top.specs.Progressing.{state_of, world_in}
 use Rattle.repo_top.specs.declared.stop.Stop.{Stop}
 use Rattle.repo_top.specs.ToldTexts.{told_text}
-use Rattle.repo_top.specs.SaidEvents.{said_event}
+use Rattle.repo_top.specs.Mirrors.{Mirroring}
+use Rattle.repo_top.specs.SaidEvents.{mirror_number, said_event}
 use Rattle.repo_top.proofs.Fitting.{client_fits, event_fits, group_fits, member_fits}
 use Rattle.repo_top.proofs.Judgings.{acted_says, acted_stops, client_declares, client_says, event_declares}
 use Rattle.repo_top.proofs.Judgings.{event_says, group_declares, group_says, is_free, member_declares, member_says}
@@ -60,13 +62,48 @@ same_told : (given : Given) (standing : Standing) (ws : List (List Watching)) (d
 same_told given standing ws d e (Text m ∷ Number number ∷ []) = refl
 same_told given standing ws d e values = refl
 
+same_mirror : (given : Given) (standing : Standing) (ws : List (List Watching)) (d e : Declared) (values : List Value)
+    → declaring_mirror (state_of standing ws d) e values ≡ declaring_mirror (state_of standing ws e) e values
+same_mirror given standing ws d e (Text label ∷ publisher ∷ Named prefix ∷ []) = refl
+same_mirror given standing ws d e values = refl
+
+same_heard_if : (o : Option group.Refusal) (w : World) (standing : Standing) (ws : List (List Watching))
+    (d e : Declared) (k i : ℕ) (label : List ℕ)
+    → heard_if o w (state_of standing ws d) e k i label ≡ heard_if o w (state_of standing ws e) e k i label
+same_heard_if (Some why) w standing ws d e k i label = refl
+same_heard_if None w standing ws d e k i label = refl
+
+same_heard : (given : Given) (standing : Standing) (ws : List (List Watching)) (d e : Declared) (values : List Value)
+    → heard_by (found_world given (state_of standing ws d)) (state_of standing ws d) e values
+    ≡ heard_by (found_world given (state_of standing ws e)) (state_of standing ws e) e values
+same_heard given standing ws d e (Number k ∷ Text l ∷ []) =
+    let w : World = found_world given (state_of standing ws d) in
+    same_heard_if (group.unless_sent w k) w standing ws d e k (mirror_number l e.mirrors) l
+same_heard given standing ws d e values = refl
+
+same_fetched : (given : Given) (standing : Standing) (ws : List (List Watching)) (d e : Declared) (values : List Value)
+    → fetched_by given (found_world given (state_of standing ws d)) (state_of standing ws d) e values
+    ≡ fetched_by given (found_world given (state_of standing ws e)) (state_of standing ws e) e values
+same_fetched given standing ws d e (Text l ∷ Number workers ∷ Number tries ∷ Number loss ∷ []) = refl
+same_fetched given standing ws d e values = refl
+
+same_listed : (given : Given) (standing : Standing) (ws : List (List Watching)) (d e : Declared) (values : List Value)
+    → listed_by (found_world given (state_of standing ws d)) (state_of standing ws d) e values
+    ≡ listed_by (found_world given (state_of standing ws e)) (state_of standing ws e) e values
+same_listed given standing ws d e (Text l ∷ []) = refl
+same_listed given standing ws d e values = refl
+
 same_taken : (given : Given) (standing : Standing) (ws : List (List Watching)) (d e : Declared) (v : Verb) (s : Stated)
     → taken_by v given (state_of standing ws d) e s ≡ taken_by v given (state_of standing ws e) e s
 same_taken given standing ws d e verb.Group s = refl
 same_taken given standing ws d e verb.Member s = refl
 same_taken given standing ws d e verb.Client s = refl
 same_taken given standing ws d e verb.Watch s = same_watched given standing ws d e s.values
+same_taken given standing ws d e verb.Mirror s = same_mirror given standing ws d e s.values
 same_taken given standing ws d e verb.Told s = same_told given standing ws d e s.values
+same_taken given standing ws d e verb.Mdeliver s = same_heard given standing ws d e s.values
+same_taken given standing ws d e verb.Mfetch s = same_fetched given standing ws d e s.values
+same_taken given standing ws d e verb.Mcatalogue s = same_listed given standing ws d e s.values
 same_taken given standing ws d e v s = same_acted_by given standing ws d e s
 
 pub line_is_taken : (given : Given) (standing : Standing) (ws : List (List Watching)) (d e : Declared) (s : Stated)
@@ -76,28 +113,36 @@ unfolding line_taken
 line_is_taken given standing ws d e s after =
     taken_line given (state_of standing ws d) e s after ∙ same_taken given standing ws d e s.verb s
 
-no_world : (standing : Standing) → has_world standing ≡ false → world_in standing ≡ None
+pub no_world : (standing : Standing) → has_world standing ≡ false → world_in standing ≡ None
 no_world Opening h = refl
-no_world (Declaring group) h = refl
+no_world (Declaring group patterns) h = refl
 no_world (Acting world) h = absurd (true≢false h)
 
 -- Nothing is kept before the group's line.
 record IsOpening (standing : Standing) : Type 0 where
   keys : standing_keys standing ≡ no_group
   world : world_in standing ≡ None
+  mirrors : mirrors_in standing ≡ []
   early : has_world standing ≡ false
 
 is_opening : (standing : Standing) → has_group standing ≡ false → IsOpening standing
-is_opening Opening h = record { keys = refl; world = refl; early = refl }
-is_opening (Declaring group) h = absurd (true≢false h)
+is_opening Opening h = record { keys = refl; world = refl; mirrors = refl; early = refl }
+is_opening (Declaring group patterns) h = absurd (true≢false h)
 is_opening (Acting world) h = absurd (true≢false h)
 
 -- The verdict of a line that declares something, and has no report.
 abbrev pub Says : Given → Standing → List (List Watching) → Declared → Stated → GroupKeys → List (List Watching)
-    → Type 0
-Says given standing ws e s keys after =
+    → List Mirroring → Type 0
+Says given standing ws e s keys after mirrors =
     line_taken given (state_of standing ws e) e s
-    ≡ says [] (record { declared = e; keys = keys; world = None; watchers = after })
+    ≡ says [] (record { declared = e; keys = keys; world = None; watchers = after; mirrors = mirrors })
+
+-- As many mirrors are declared as before.
+pub same_mirrors : (standing : Standing) (d e : Declared) → e.mirrors ≡ d.mirrors → MirrorsAreDeclared standing d
+    → MirrorsAreDeclared standing e
+same_mirrors standing d e same h =
+    let many : length e.mirrors ≡ length d.mirrors = ap (λ (ms : List (List ℕ)). length ms) same in
+    record { many = omega (arith, many, h.many); few = omega (arith, many, h.few) }
 
 -- ---- the group
 
@@ -109,7 +154,8 @@ pub record Grouped (given : Given) (labels : List (List ℕ)) (standing : Standi
   pub early : e.events ≡ false
   pub named : NamesAreDeclared labels (group_named name) e
   pub watched : length ws ≡ length e.members
-  pub says : Says given standing ws e s (group_named name) ws
+  pub mirrored : length e.mirrors ≡ 0
+  pub says : Says given standing ws e s (group_named name) ws []
 
 grouped_at : (given : Given) (labels : List (List ℕ)) (standing : Standing) (ws : List (List Watching)) (e : Declared)
     (name : List Component)
@@ -129,9 +175,16 @@ grouped_at given labels standing ws e name c =
       early = ap (λ (x : Declared). x.events) (sym opens.1) ∙ c.stands.events ∙ none.early;
       named = subst (NamesAreDeclared labels (group_named name)) opens.1 new;
       watched = c.stands.watched ∙ ap (λ (x : Declared). length x.members) opens.1;
+      mirrored = ap (λ (x : Declared). length x.mirrors) (sym opens.1) ∙ sym c.stands.mirrored.many
+          ∙ ap (λ (ms : List Mirroring). length ms) none.mirrors;
       says = group_says given (state_of standing ws e) e name
-          ∙ ap (λ (w : Option World). says []
-          (record { declared = e; keys = group_named name; world = w; watchers = ws })) none.world;
+          ∙ (λ i. says [] (record {
+            declared = e;
+            keys = group_named name;
+            world = none.world i;
+            watchers = ws;
+            mirrors = none.mirrors i;
+          }));
     }
 
 pub grouped : (given : Given) (labels : List (List ℕ)) (standing : Standing) (ws : List (List Watching)) (e : Declared)
@@ -148,7 +201,8 @@ grouped given labels standing ws e s name is c =
 -- A name and a key are kept in addition, and then the labels and names are these.
 pub record Declares (given : Given) (labels : List (List ℕ)) (standing : Standing) (ws : List (List Watching))
     (e : Declared) (s : Stated)
-    (node : List Component) (key : List ℕ) (keys : GroupKeys) (after : List (List Watching)) : Type 0 where
+    (node : List Component) (key : List ℕ) (keys : GroupKeys) (after : List (List Watching)) (mirrors : List Mirroring)
+    : Type 0 where
   pub plain : IsPlainNodeName node
   pub fits : IsKey key
   pub group : e.group ≡ true
@@ -158,14 +212,16 @@ pub record Declares (given : Given) (labels : List (List ℕ)) (standing : Stand
   pub apart : is_name_taken (standing_keys standing) node ≡ false
   pub named : NamesAreDeclared labels keys e
   pub watched : length after ≡ length e.members
-  pub says : Says given standing ws e s keys after
+  pub mirrored : MirrorsAreDeclared standing e
+  pub says : Says given standing ws e s keys after mirrors
 
 abbrev pub MemberDeclares : Given → List (List ℕ) → Standing → List (List Watching) → Declared → Stated → List ℕ
     → List Component → List ℕ
     → Type 0
 MemberDeclares given labels standing ws e s label node key =
     Declares given (labels ++ label ∷ []) standing ws e s node key (with_member_too node key (standing_keys standing))
-    (ws ++ [] ∷ []) × (length (standing_keys standing).members.names < 16)
+    (ws ++ [] ∷ []) (mirrors_begin (with_member_too node key (standing_keys standing)) (mirrors_in standing))
+    × (length (standing_keys standing).members.names < 16)
 
 member_at : (given : Given) (labels : List (List ℕ)) (standing : Standing) (ws : List (List Watching)) (e : Declared)
     (label : List ℕ)
@@ -202,12 +258,14 @@ member_at given labels standing ws e label node key c =
         watched = length-append ws ([] ∷ []) ∙ ap (λ (n : ℕ). n + 1) c.stands.watched
             ∙ sym (length-append d.members (party label node ∷ []))
             ∙ ap (λ (x : Declared). length x.members) both.1;
+        mirrored = same_mirrors standing d e (ap (λ (x : Declared). x.mirrors) (sym both.1)) c.stands.mirrored;
         says = member_says given (state_of standing ws e) e label node key
             ∙ ap (λ (w : Option World). says [] (record {
               declared = e;
               keys = with_member_too node key (standing_keys standing);
               world = w;
               watchers = ws ++ [] ∷ [];
+              mirrors = mirrors_begin (with_member_too node key (standing_keys standing)) (mirrors_in standing);
             })) (no_world standing unchanged);
       },
       subst (λ n. n < 16) (sym (length-map d.members node_of)
@@ -229,7 +287,7 @@ abbrev pub ClientDeclares : Given → List (List ℕ) → Standing → List (Lis
     → List Component → List ℕ → Type 0
 ClientDeclares given labels standing ws e s node key =
     Declares given labels standing ws e s node key (with_client_too node key (standing_keys standing)) ws
-    × (length (standing_keys standing).clients.names < 16)
+    (mirrors_in standing) × (length (standing_keys standing).clients.names < 16)
 
 client_at : (given : Given) (labels : List (List ℕ)) (standing : Standing) (ws : List (List Watching)) (e : Declared)
     (label : List ℕ)
@@ -260,12 +318,14 @@ client_at given labels standing ws e label node key c =
         apart = is_free d (standing_keys standing) label node was.members was.clients may.apart;
         named = subst (NamesAreDeclared labels (with_client_too node key (standing_keys standing))) both.1 new;
         watched = c.stands.watched ∙ ap (λ (x : Declared). length x.members) both.1;
+        mirrored = same_mirrors standing d e (ap (λ (x : Declared). x.mirrors) (sym both.1)) c.stands.mirrored;
         says = client_says given (state_of standing ws e) e label node key
             ∙ ap (λ (w : Option World). says [] (record {
               declared = e;
               keys = with_client_too node key (standing_keys standing);
               world = w;
               watchers = ws;
+              mirrors = mirrors_in standing;
             })) (no_world standing unchanged);
       },
       subst (λ n. n < 16) (sym (length-map d.clients node_of)
@@ -294,6 +354,7 @@ pub record Acts (given : Given) (labels : List (List ℕ)) (standing : Standing)
   pub events : e.events ≡ true
   pub there : has_group standing ≡ true
   pub watched : length ws ≡ length e.members
+  pub mirrored : MirrorsAreDeclared standing e
   pub acts : line_taken given (state_of standing ws e) e s ≡ acted_by given (state_of standing ws e) e s
 
 pub event_acts : (given : Given) (labels : List (List ℕ)) (standing : Standing) (ws : List (List Watching))
@@ -317,6 +378,7 @@ event_acts given labels standing ws e l is c =
       events = event.events;
       there = sym c.stands.group ∙ event.there;
       watched = c.stands.watched ∙ ap (λ (ps : List Party). length ps) (sym event.members);
+      mirrored = same_mirrors standing c.before e event.mirrors c.stands.mirrored;
       acts = event_says given (state_of standing ws e) e l is;
     }
 
@@ -339,13 +401,15 @@ module _ (given : Given) (standing found : Standing) (ws : List (List Watching))
 
   -- What is told of the event and what comes of it, by the world that was found.
   pub carried_says : (labels : List (List ℕ)) (report : List ℕ) (keys_new : GroupKeys) (next : World)
+      (begun mirrors : List Mirroring)
       → group.refusal (outside_of given keys) w (group_event keys e) ≡ None
       → report ≡ told_text labels (telling keys (outside_of given keys) w e)
       → next ≡ after_event (outside_of given keys) w (group_event keys e)
       → keys_new ≡ keys → labels ≡ map party_label d.members
+      → begun ≡ mirrors_in found → mirrors ≡ mirrors_behind next e begun
       → acted given (state_of standing ws d) d e ≡ says report
-      (record { declared = d; keys = keys_new; world = Some next; watchers = ws })
-  carried_says labels report keys_new next taken told after kept named =
+      (record { declared = d; keys = keys_new; world = Some next; watchers = ws; mirrors = mirrors })
+  carried_says labels report keys_new next begun mirrors taken told after kept named stood behind =
       let taken_so : group.refusal (outside_of given (standing_keys standing))
       (found_world given (state_of standing ws d))
       (group_event (standing_keys standing) e) ≡ None =
@@ -366,19 +430,23 @@ module _ (given : Given) (standing found : Standing) (ws : List (List Watching))
       after ∙ ap (λ (x : GroupKeys). after_event (outside_of given x) w (group_event x e)) keys_is
       ∙ ap (λ (x : World). after_event (outside_of given (standing_keys standing)) x
       (group_event (standing_keys standing) e)) world_is in
+      let mirrors_so : mirrors ≡ mirrors_behind next e (mirrors_in standing) =
+      behind ∙ ap (mirrors_behind next e) (stood ∙ ap mirrors_in is) in
       acted_says given (state_of standing ws d) d e taken_so
-      ∙ ap (λ (x : List ℕ). says x (record {
+      ∙ (λ i. says (sym told_so i) (record {
         declared = d;
         keys = standing_keys standing;
-        world = Some
-            (after_event (outside_of given (standing_keys standing)) (found_world given (state_of standing ws d))
-            (group_event (standing_keys standing) e));
+        world = Some (sym after_so i);
         watchers = ws;
-      })) (sym told_so)
-      ∙ ap (λ (x : World). says report
-      (record { declared = d; keys = standing_keys standing; world = Some x; watchers = ws })) (sym after_so)
-      ∙ ap (λ (x : GroupKeys). says report (record { declared = d; keys = x; world = Some next; watchers = ws }))
-      (sym (kept ∙ keys_is))
+        mirrors = mirrors_behind (sym after_so i) e (mirrors_in standing);
+      }))
+      ∙ (λ i. says report (record {
+        declared = d;
+        keys = sym (kept ∙ keys_is) i;
+        world = Some next;
+        watchers = ws;
+        mirrors = sym mirrors_so i;
+      }))
 
   pub carried_stops : (stop : Stop) → IsStopOf (group.refusal (outside_of given keys) w (group_event keys e)) stop
       → IsStop (acted given (state_of standing ws d) d e) stop
@@ -395,13 +463,21 @@ pub is_event : (l : Line) → ((name : Name) → l ≡ line.Group name → ⊥)
     → ((label : String Global) (name : Name) (key : Vec ℕ Global) → l ≡ line.Member label name key → ⊥)
     → ((label : String Global) (name : Name) (key : Vec ℕ Global) → l ≡ line.Client label name key → ⊥)
     → ((label : String Global) (p : Option (String Global)) (name : Name) → l ≡ line.Watch label p name → ⊥)
-    → ((label : String Global) (number : ℕ) → l ≡ line.Told label number → ⊥) → IsEventLine l
-is_event (line.Group name) g m k w t = g name refl
-is_event (line.Member label name key) g m k w t = m label name key refl
-is_event (line.Client label name key) g m k w t = k label name key refl
-is_event (line.Watch label p name) g m k w t = w label p name refl
-is_event (line.Told label number) g m k w t = t label number refl
-is_event l g m k w t = tt
+    → ((label : String Global) (number : ℕ) → l ≡ line.Told label number → ⊥)
+    → ((label : String Global) (p : Option (String Global)) (name : Name) → l ≡ line.Mirror label p name → ⊥)
+    → ((number : ℕ) (label : String Global) → l ≡ line.Mdeliver number label → ⊥)
+    → ((label : String Global) (workers tries loss : ℕ) → l ≡ line.Mfetch label workers tries loss → ⊥)
+    → ((label : String Global) → l ≡ line.Mcatalogue label → ⊥) → IsEventLine l
+is_event (line.Group name) g m k w t i h f c = g name refl
+is_event (line.Member label name key) g m k w t i h f c = m label name key refl
+is_event (line.Client label name key) g m k w t i h f c = k label name key refl
+is_event (line.Watch label p name) g m k w t i h f c = w label p name refl
+is_event (line.Told label number) g m k w t i h f c = t label number refl
+is_event (line.Mirror label p name) g m k w t i h f c = i label p name refl
+is_event (line.Mdeliver number label) g m k w t i h f c = h number label refl
+is_event (line.Mfetch label workers tries loss) g m k w t i h f c = f label workers tries loss refl
+is_event (line.Mcatalogue label) g m k w t i h f c = c label refl
+is_event l g m k w t i h f c = tt
 
 -- A declaration has no report.
 pub declared_says : {A : Type 0} (r : Result A Stop) (v : Verdict) (report : List ℕ) (s t : State) → v ≡ says [] t

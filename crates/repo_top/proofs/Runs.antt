@@ -14,7 +14,7 @@ use Rattle.std.proofs.Math.Seq.{take-append_seam, take-append-add}
 use Rattle.repo_top.specs.declared.ending.Ending.TheVariants as ending
 use Rattle.repo_io.specs.declared.status.Status.{Status}
 use Rattle.repo_io.specs.declared.status.Status.TheVariants.{Done, ReadFault, WriteFault}
-use Rattle.repo_top.specs.declared.refusal.Refusal.TheVariants.{Limit}
+use Rattle.script_report.specs.declared.refusal.Refusal.TheVariants.{Limit}
 use Rattle.repo_io.specs.Outside.{GainsText, GainsFront}
 use Rattle.repo_io.specs.Lines.{IsWhole, has_feed, lines}
 use Rattle.repo_top.specs.Judging.{Given, Verdict, foreign, refused, says, unjudged}
@@ -421,6 +421,7 @@ ran_finished given held r next a b d input rest status so_far none few f =
           record {
             keys = ap (λ (s : Story). s.keys) story ∙ ends.keys;
             world = ap (λ (s : Story). s.world) story ∙ ends.world;
+            mirrors = ap (λ (s : Story). s.mirrors) story ∙ ends.mirrors;
           };
     }
 
@@ -441,7 +442,11 @@ finishes_none given r a last none =
       });
       at = λ number at. absurd at;
       read = λ e. cc;
-      last = λ e. record { keys = ap (λ (s : Story). s.keys) ends; world = ap (λ (s : Story). s.world) ends };
+      last = λ e. record {
+        keys = ap (λ (s : Story). s.keys) ends;
+        world = ap (λ (s : Story). s.world) ends;
+        mirrors = ap (λ (s : Story). s.mirrors) ends;
+      };
     })
 
 module _ (given : Given) (r next : Reached) (a b : Option (List ℕ)) (last : List ℕ) (some : last ≢ [])
@@ -465,7 +470,11 @@ module _ (given : Given) (r next : Reached) (a b : Option (List ℕ)) (last : Li
         });
         at = λ number at. absurd at;
         read = λ e. cc;
-        last = λ e. record { keys = ap (λ (s : Story). s.keys) story; world = ap (λ (s : Story). s.world) story };
+        last = λ e. record {
+          keys = ap (λ (s : Story). s.keys) story;
+          world = ap (λ (s : Story). s.world) story;
+          mirrors = ap (λ (s : Story). s.mirrors) story;
+        };
       }
 
   pub finishes_stopped : (status : Status) → Stops given r last a b status

@@ -3,6 +3,7 @@ use Rattle.std.proofs.Common.{◌≡◌, ◌∙◌, ◌⊎◌, inl, inr, ℕ, Bo
 use Rattle.std.proofs.Common.{Some, None, Result, Ok, Err, refl, sym, ap, subst, if◌then◌else◌}
 use Rattle.std.specs.Prelude.{◌≢◌, IfErr, is_some}
 use Rattle.ndn_name.specs.Names.{Component}
+use Rattle.group_model.specs.World.{World}
 use Rattle.group_model.specs.Refusals as group
 use Rattle.script_lang.specs.declared.check_fault.CheckFault.{CheckFault}
 use Rattle.script_lang.specs.declared.check_fault.CheckFault.TheVariants as check_fault
@@ -21,12 +22,13 @@ use Rattle.script_lang.proofs.RefusalLemmas.{checked_for_a_cause, read_for_a_cau
 use Rattle.script_lang.proofs.StatedForms.{read_in_its_form}
 use Rattle.repo_watch.specs.Watching.{watch_of}
 use Rattle.bench_world.specs.EventValues.{EventValue, group_event}
-use Rattle.repo_top.specs.declared.refusal.Refusal.TheVariants as refusal
+use Rattle.script_report.specs.declared.refusal.Refusal.TheVariants as refusal
 use Rattle.repo_top.specs.Judging.{EachLineIsJudged, Given, State, SyntaxIsOfTheGrammar, Verdict, acted, acted_by}
-use Rattle.repo_top.specs.Judging.{checked, check_refused, event_refused, foreign, found_world, judged, judged_line}
+use Rattle.repo_top.specs.Judging.{checked, check_refused, event_refused, foreign, found_world, heard_if, judged}
+use Rattle.repo_top.specs.Judging.{judged_line}
 use Rattle.repo_top.specs.Judging.{line_taken, outside_of, read, refused, says, stepped, taken_by, unjudged}
 use Rattle.repo_top.specs.Judging.{watchers_at}
-use Rattle.repo_top.specs.SaidEvents.{party_number}
+use Rattle.repo_top.specs.SaidEvents.{mirror_number, party_number}
 
 -- ---- values by their kinds
 
@@ -124,16 +126,27 @@ said_or_missing : (b : Bool) (report : List ℕ) (next : State)
 said_or_missing true report next = tt
 said_or_missing false report next = tt
 
+heard_or_not : (o : Option group.Refusal) (w : World) (s : State) (d : Declared) (k i : ℕ) (label : List ℕ)
+    → IsBeyondGrammar (heard_if o w s d k i label)
+heard_or_not (Some why) w s d k i label = event_beyond why
+heard_or_not None w s d k i label = tt
+
 typed_beyond : (given : Given) (s : State) (d : Declared) (form_verb : Verb) (t : Typed (form form_verb).kinds)
     → IsBeyondGrammar (taken_by form_verb given s d (said form_verb (untyped (form form_verb).kinds t)))
 unfolding acted_by
 typed_beyond given s d verb.Group t = tt
 typed_beyond given s d verb.Member t = tt
 typed_beyond given s d verb.Client t = tt
+typed_beyond given s d verb.Mirror t = tt
 typed_beyond given s d verb.Watch t =
     full_or_said (nat_le 16 (length (watchers_at s (party_number t.0 d.members)))) _ _
 typed_beyond given s d verb.Told t =
     said_or_missing (is_some (watch_of t.1.0 (watchers_at s (party_number t.0 d.members)))) _ _
+typed_beyond given s d verb.Mdeliver t =
+    heard_or_not (group.unless_sent (found_world given s) t.0) (found_world given s) s d t.0
+    (mirror_number t.1.0 d.mirrors) t.1.0
+typed_beyond given s d verb.Mfetch t = tt
+typed_beyond given s d verb.Mcatalogue t = tt
 typed_beyond given s d form_verb t = acted_beyond given s d _
 
 taken_beyond : (given : Given) (s : State) (d : Declared) (form_verb : Verb) (values : List Value)

@@ -8,12 +8,12 @@ use Rattle.std.proofs.lemmas.List.Folds.{list_any_at}
 use Rattle.script_lang.specs.declared.line_fault.LineFault.TheVariants as line_fault
 use Rattle.script_lang.specs.Lines.{ends_with, line_of, without_last_octet}
 use Rattle.repo_top.specs.declared.ending.Ending.TheVariants.{Done, Refused}
-use Rattle.repo_top.specs.declared.refusal.Refusal.TheVariants.{Limit}
+use Rattle.script_report.specs.declared.refusal.Refusal.TheVariants.{Limit}
 use Rattle.repo_top.specs.declared.stop.Stop.{Stop}
 use Rattle.repo_top.specs.declared.stop.Stop.TheVariants as stop
 use Rattle.repo_top.specs.Judging.{Given, Verdict, judged, refused}
 use Rattle.repo_top.specs.Progressing.{IsStop}
-use Rattle.repo_top.specs.Refusals.{refusal_text}
+use Rattle.script_report.specs.Refusals.{refusal_text}
 use Rattle.repo_top.specs.Answers.{status_of}
 use Rattle.repo_io.specs.Lines.{IsWhole, has_feed, lines}
 use Rattle.repo_top.specs.Reading.{HasLine, IsTooLong}
@@ -24,7 +24,7 @@ use Rattle.repo_io.proofs.LineLaws.{long_line, whole_first}
 
 pub behind_behind : (x y : List ℕ) (s : Story) → behind_text x (behind_text y s) ≡ behind_text (x ++ y) s
 behind_behind x y s =
-    let with_text : List ℕ → Story = λ t. record { text = t; ending = s.ending; keys = s.keys; world = s.world } in
+    let with_text : List ℕ → Story = λ t. record s { text = t } in
     ap with_text (sym (append_assoc x y s.text))
 
 module _ (given : Given) (r : Reached) where

@@ -1,10 +1,11 @@
 -- What lines of watchers come to, as the run keeps it.
-use Rattle.std.proofs.Common.{◌≡◌, ◌∙◌, inl, inr, ℕ, ◌+◌, ◌<◌, Bool, true, false, not, nat_le, List, [], ◌∷◌}
-use Rattle.std.proofs.Common.{length, map, get_or, set, Option, Some, None, String, Global, refl, sym, ap, subst}
-use Rattle.std.proofs.Common.{arith, if◌then◌else◌, suc, unwrap_or, zero}
+use Rattle.std.proofs.Common.{◌≡◌, ◌∙◌, inl, inr, ℕ, ◌+◌, ◌<◌, Bool, true, not, nat_le, List, [], ◌∷◌}
+use Rattle.std.proofs.Common.{length, map, get_or, Option, Some, None, String, Global, refl, sym, ap, subst}
+use Rattle.std.proofs.Common.{arith, if◌then◌else◌, suc, zero}
 use Rattle.std.specs.Prelude.{is_some}
 use Rattle.std.specs.List.{All}
 use Rattle.std.specs.Ordering.{is_eq}
+use Rattle.std.proofs.lemmas.Bool.{not-true}
 use Rattle.std.proofs.lemmas.List.{length-map}
 use Rattle.std.proofs.lemmas.List.Elements.{All-cons, All-nil}
 use Rattle.ndn_name.specs.Names.{Component}
@@ -17,11 +18,10 @@ use Rattle.repo_catalog.specs.Entries.{IsCatalogue, entry_of, is_of, lists, publ
 use Rattle.repo_catalog.proofs.NamedLemmas.{find_first}
 use Rattle.repo_watch.specs.declared.pattern.Pattern.{Pattern}
 use Rattle.repo_watch.specs.Watching.{Watching, after_add, after_take, is_news, news_of, watch_of}
-use Rattle.group_model.specs.World.{World, catalogue_at, logs, member, opening_world}
+use Rattle.group_model.specs.World.{World, catalogue_at, logs, member}
 use Rattle.group_model.specs.Sound.{IsSoundGroup}
 use Rattle.group_model.proofs.PublicLaws.{lists_in_order}
 use Rattle.group_model.proofs.Lists.{from_filter}
-use Rattle.repo_member.specs.Groups.{GroupKeys}
 use Rattle.repo_member.specs.InGroup.{in_group}
 use Rattle.bench_world.specs.EventValues.{EventValue}
 use Rattle.bench_world.specs.Worlds.{GroupState, drawing, world_of}
@@ -33,18 +33,19 @@ use Rattle.script_lang.specs.Checking.{Declared, Party, are_members, has_label, 
 use Rattle.script_lang.proofs.Conditions.{and_left, and_right}
 use Rattle.script_report.specs.Texts.{watch_text}
 use Rattle.repo_top.specs.declared.progress.Standing.{Standing}
-use Rattle.repo_top.specs.declared.refusal.Refusal.TheVariants as refusal
+use Rattle.script_report.specs.declared.refusal.Refusal.TheVariants as refusal
 use Rattle.repo_top.specs.declared.stop.Stop.{Stop}
 use Rattle.repo_top.specs.declared.stop.Stop.TheVariants as stop
 use Rattle.script_report.specs.Labels.{label_at}
 use Rattle.repo_top.specs.SaidEvents.{party_number}
 use Rattle.repo_top.specs.ToldTexts.{news_in, news_text}
-use Rattle.repo_top.specs.Judging.{Given, State, begun_world, found_world, line_taken, refused, says, told_at, told_by}
+use Rattle.repo_top.specs.Judging.{Given, State, found_world, line_taken, refused, says, told_at, told_by}
 use Rattle.repo_top.specs.Judging.{watched, watched_by, watchers_at, watchers_of, with_watchers}
-use Rattle.repo_top.specs.Progressing.{IsStop, IsStopWhere, LineIsChecked, NamesAreDeclared, Stands, has_group}
-use Rattle.repo_top.specs.Progressing.{node_of, standing_keys, state_of, world_in}
+use Rattle.repo_top.specs.Progressing.{IsStop, IsStopWhere, LineIsChecked, MirrorsAreDeclared, NamesAreDeclared, Stands}
+use Rattle.repo_top.specs.Progressing.{has_group, node_of, standing_keys}
 use Rattle.repo_top.proofs.Fitting.{number_within}
 use Rattle.repo_top.proofs.Judgings.{IsEvent, event_after}
+use Rattle.repo_top.proofs.Progressings.{same_mirrors}
 use Rattle.repo_top.proofs.HeadlineNames.{news_among}
 
 -- ---- what is known of the line
@@ -59,6 +60,7 @@ pub record OfMember (labels : List (List ℕ)) (standing : Standing) (ws : List 
   pub events : e.events ≡ true
   pub begun : has_group standing ≡ true
   pub watched : length ws ≡ length e.members
+  pub mirrored : MirrorsAreDeclared standing e
 
 module _ (labels : List (List ℕ)) (standing : Standing) (ws : List (List Watching)) (e : Declared) (s : Stated) where
   of_member : (label : List ℕ) (before : Declared) → Stands labels standing ws before → IsEvent before e s
@@ -75,6 +77,7 @@ module _ (labels : List (List ℕ)) (standing : Standing) (ws : List (List Watch
     events = event.events;
     begun = sym stands.group ∙ event.there;
     watched = stands.watched ∙ ap (λ (ps : List Party). length ps) (sym event.members);
+    mirrored = same_mirrors standing before e event.mirrors stands.mirrored;
   }
 
 pub told_checked : (labels : List (List ℕ)) (standing : Standing) (ws : List (List Watching)) (e : Declared)
@@ -152,10 +155,6 @@ watched_stops w s d m pattern (stop.Refused why) h =
     (with_watchers w s d m (after_add pattern (catalogue_at w m) (watchers_at s m)))) h.0 ∙ ap refused (sym h.1)
 watched_stops w s d m pattern stop.Foreign h = absurd h
 
-not_true : (b : Bool) → not b ≡ true → b ≡ false
-not_true true h = cc
-not_true false h = refl
-
 pub told_stops : (w : World) (s : State) (d : Declared) (m number : ℕ) (stop : Stop)
     → IsStopWhere (not (is_some (watch_of number (watchers_at s m)))) refusal.NoSuchWatch stop
     → IsStop (told_at w s d m number) stop
@@ -165,75 +164,9 @@ told_stops w s d m number (stop.Refused why) h =
     then says (news_text (map party_label d.members) m number
     (news_in (watch_of number (watchers_at s m)) (catalogue_at w m)))
     (with_watchers w s d m (after_take number (catalogue_at w m) (watchers_at s m)))
-    else refused refusal.NoSuchWatch) (not_true (is_some (watch_of number (watchers_at s m))) h.0)
+    else refused refusal.NoSuchWatch) (not-true (is_some (watch_of number (watchers_at s m))) h.0)
     ∙ ap refused (sym h.1)
 told_stops w s d m number stop.Foreign h = absurd h
-
--- ---- what is kept behind it
-
-watched_here : (w : World) (s : State) (d : Declared) (m : ℕ) (pattern : Pattern) (label report : List ℕ)
-    (after : List (List Watching)) → nat_le 16 (length (watchers_at s m)) ≡ false
-    → after ≡ set s.watchers m (after_add pattern (catalogue_at w m) (watchers_at s m))
-    → report ≡ watch_text label (length (watchers_at s m) + 1) → label ≡ label_at (map party_label d.members) m
-    → watched w s d m pattern ≡ says report (record { declared = d; keys = s.keys; world = Some w; watchers = after })
-watched_here w s d m pattern label report after room new text named =
-    let number : ℕ = length (watchers_at s m) + 1 in
-    let said_it : report ≡ watch_text (label_at (map party_label d.members) m) number =
-    text ∙ ap (λ (l : List ℕ). watch_text l number) named in
-    ap (λ (full : Bool). if full then refused refusal.Limit
-    else says (watch_text (label_at (map party_label d.members) m) number)
-    (with_watchers w s d m (after_add pattern (catalogue_at w m) (watchers_at s m)))) room
-    ∙ (λ i. says (sym said_it i) (record { declared = d; keys = s.keys; world = Some w; watchers = sym new i }))
-
-told_here : (w : World) (s : State) (d : Declared) (m number : ℕ) (labels : List (List ℕ)) (report : List ℕ)
-    (after : List (List Watching)) → is_some (watch_of number (watchers_at s m)) ≡ true
-    → after ≡ set s.watchers m (after_take number (catalogue_at w m) (watchers_at s m))
-    → report ≡ news_text labels m number (news_in (watch_of number (watchers_at s m)) (catalogue_at w m))
-    → labels ≡ map party_label d.members
-    → told_at w s d m number ≡ says report (record { declared = d; keys = s.keys; world = Some w; watchers = after })
-told_here w s d m number labels report after found new text named =
-    let news : List Entry = news_in (watch_of number (watchers_at s m)) (catalogue_at w m) in
-    let said_it : report ≡ news_text (map party_label d.members) m number news =
-    text ∙ ap (λ (ls : List (List ℕ)). news_text ls m number news) named in
-    ap (λ (there : Bool). if there then says (news_text (map party_label d.members) m number news)
-    (with_watchers w s d m (after_take number (catalogue_at w m) (watchers_at s m)))
-    else refused refusal.NoSuchWatch) found
-    ∙ (λ i. says (sym said_it i) (record { declared = d; keys = s.keys; world = Some w; watchers = sym new i }))
-
-module _ (draw : ℕ → ℕ → ℕ) (standing found : Standing) (ws : List (List Watching)) (d : Declared) (keys : GroupKeys)
-    (w : World) (is : found ≡ standing) (k : keys ≡ standing_keys found)
-    (v : w ≡ unwrap_or (world_in found)
-    (opening_world (drawing draw) (length (standing_keys found).members.names))) where
-  keys_are : keys ≡ standing_keys standing
-  keys_are = k ∙ ap standing_keys is
-
-  world_is : w ≡ begun_world draw (state_of standing ws d)
-  world_is = v ∙ ap (λ (x : Standing). begun_world draw (state_of x ws d)) is
-
-  pub watch_said : (m : ℕ) (pattern : Pattern) (label report : List ℕ) (after : List (List Watching))
-      → nat_le 16 (length (watchers_of ws m)) ≡ false
-      → after ≡ set ws m (after_add pattern (catalogue_at w m) (watchers_of ws m))
-      → report ≡ watch_text label (length (watchers_of ws m) + 1) → label ≡ label_at (map party_label d.members) m
-      → watched (begun_world draw (state_of standing ws d)) (state_of standing ws d) d m pattern
-      ≡ says report (record { declared = d; keys = keys; world = Some w; watchers = after })
-  watch_said m pattern label report after room new text named =
-      ap (λ (x : World). watched x (state_of standing ws d) d m pattern) (sym world_is)
-      ∙ watched_here w (state_of standing ws d) d m pattern label report after room new text named
-      ∙ ap (λ (x : GroupKeys). says report (record { declared = d; keys = x; world = Some w; watchers = after }))
-      (sym keys_are)
-
-  pub news_said : (m number : ℕ) (labels : List (List ℕ)) (report : List ℕ) (after : List (List Watching))
-      → is_some (watch_of number (watchers_of ws m)) ≡ true
-      → after ≡ set ws m (after_take number (catalogue_at w m) (watchers_of ws m))
-      → report ≡ news_text labels m number (news_in (watch_of number (watchers_of ws m)) (catalogue_at w m))
-      → labels ≡ map party_label d.members
-      → told_at (begun_world draw (state_of standing ws d)) (state_of standing ws d) d m number
-      ≡ says report (record { declared = d; keys = keys; world = Some w; watchers = after })
-  news_said m number labels report after there new text named =
-      ap (λ (x : World). told_at x (state_of standing ws d) d m number) (sym world_is)
-      ∙ told_here w (state_of standing ws d) d m number labels report after there new text named
-      ∙ ap (λ (x : GroupKeys). says report (record { declared = d; keys = x; world = Some w; watchers = after }))
-      (sym keys_are)
 
 -- ---- the entries of the news
 

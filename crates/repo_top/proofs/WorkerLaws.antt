@@ -11,9 +11,9 @@ use Rattle.script_lang.specs.Forms.{Stated, said}
 use Rattle.script_lang.specs.Lines.{line_of}
 use Rattle.script_lang.specs.Limits.{script_lines}
 use Rattle.script_lang.proofs.Conditions.{le_test}
-use Rattle.repo_top.specs.declared.refusal.Refusal.TheVariants.{Limit}
+use Rattle.script_report.specs.declared.refusal.Refusal.TheVariants.{Limit}
 use Rattle.repo_io.specs.Lines.{lines}
-use Rattle.repo_top.specs.Judging.{Given, State, Verdict, acted, acted_by, checked, foreign, judged, judged_line}
+use Rattle.repo_top.specs.Judging.{Given, State, Verdict, acted, acted_by, foreign, judged, judged_line}
 use Rattle.repo_top.specs.Judging.{line_taken, opening_state, read, says, unjudged}
 use Rattle.repo_top.specs.Judging as verdict
 use Rattle.repo_top.specs.Story.{Reached, behind_text, is_within_script, judged_next}
@@ -27,6 +27,7 @@ line_alike : (given : Given) (s : State) (form : Verb) (values : List Value)
     → judged_line given s (said form values) ≡ judged_line given s (said form (with_one_worker form values))
 unfolding judged_line line_taken acted_by acted
 line_alike given s verb.Fetch (Text m ∷ Number workers ∷ Number tries ∷ Number loss ∷ []) = refl
+line_alike given s verb.Mfetch (Text l ∷ Number workers ∷ Number tries ∷ Number loss ∷ []) = refl
 line_alike given s verb.Settle (Number workers ∷ []) = refl
 line_alike given s form values = refl
 

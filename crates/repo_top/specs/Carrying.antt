@@ -1,5 +1,6 @@
 -- A script that is carried out line by line.
-use Rattle.std.specs.Prelude.{◌≡◌, ◌≤◌, ⊤, ℕ, ◌+◌, List, [], ◌∷◌, ◌++◌, length, Option, Some, None, IfSome}
+use Rattle.std.specs.Prelude.{◌≡◌, ◌≤◌, ⊤, ℕ, ◌+◌, List, [], ◌∷◌, ◌++◌, length, map, Option, Some, None}
+use Rattle.std.specs.Prelude.{IfSome}
 use Rattle.std.specs.List.{concat, filter}
 use Rattle.std.specs.Option.{option_map}
 use Rattle.script_lang.specs.Limits.{script_lines, script_octets}
@@ -12,9 +13,10 @@ use Rattle.repo_io.specs.declared.status.Status.TheVariants.{Foreign}
 use Rattle.repo_top.specs.declared.stop.Stop.{Stop}
 use Rattle.repo_top.specs.declared.stop.Stop.TheVariants as stop
 use Rattle.repo_io.specs.Outside.{GainsText, GainsFront}
-use Rattle.repo_top.specs.Refusals.{refusal_number, refusal_text}
+use Rattle.script_report.specs.Refusals.{refusal_number, refusal_text}
 use Rattle.repo_io.specs.Lines.{lines}
 use Rattle.bench_world.specs.Worlds.{GroupState, world_of}
+use Rattle.repo_top.specs.Mirrors.{mirror_as}
 use Rattle.repo_top.specs.Judging.{Given, State, says}
 use Rattle.repo_top.specs.Progressing.{IsProgress, progress_state, steps}
 use Rattle.repo_top.specs.Story.{Reached, Story, reached_behind, behind_text, judged_next, nothing_reached, story_from}
@@ -91,16 +93,19 @@ pub record Stops (given : Given) (r : Reached) (line : List ℕ) (old new : Opti
 pub record EndsIn (state : State) (s : Story) : Type 0 where
   pub keys : s.keys ≡ state.keys
   pub world : s.world ≡ state.world
+  pub mirrors : s.mirrors ≡ state.mirrors
 
--- The world that is left is that of the group.
+-- The world that is left is that of the group, with its mirrors.
 pub record Leaving (state : State) (end : Option GroupState) : Type 0 where
   pub world : option_map world_of end ≡ state.world
   pub keys : IfSome end (λ world. world.keys ≡ state.keys)
+  pub mirrors : IfSome end (λ world. map mirror_as world.mirrors ≡ state.mirrors)
 
--- The world that is left is that of the story.
+-- The world that is left is that of the story, with its mirrors.
 pub record LeavesWorld (end : Option GroupState) (s : Story) : Type 0 where
   pub world : option_map world_of end ≡ s.world
   pub keys : IfSome end (λ world. world.keys ≡ s.keys)
+  pub mirrors : IfSome end (λ world. map mirror_as world.mirrors ≡ s.mirrors)
 
 -- A run ended with the last line, or before it where there is none.
 pub record Finishes (given : Given) (r : Reached) (lines_left : List (List ℕ)) (next : Reached)

@@ -26,7 +26,7 @@ use Rattle.script_lang.specs.Checking.{party_label}
 use Rattle.script_report.specs.Texts.{catalogue_text, foreign_text}
 use Rattle.repo_top.specs.declared.ending.Ending.{Ending}
 use Rattle.repo_top.specs.declared.ending.Ending.TheVariants.{Done, Refused, Foreign}
-use Rattle.repo_top.specs.Refusals.{refusal_number, refusal_text}
+use Rattle.script_report.specs.Refusals.{refusal_number, refusal_text}
 use Rattle.script_report.specs.Labels.{label_at, publisher_label}
 use Rattle.repo_top.specs.Judging.{Given, Verdict, says, foreign, unjudged, found_world}
 use Rattle.repo_top.specs.Judging as verdict
@@ -80,7 +80,7 @@ EndsWith given r [] text ending = (text ≡ []) × (ending ≡ Done)
 EndsWith given r (line ∷ others) text ending = EndsBy (r.lines + 1) (judged_next given r line) text ending
 
 -- A story, told by its lines: the first ones are taken, and the text is their reports and what is written of the next
--- line, which is refused or foreign. The names, keys and world are those behind the last line that is taken.
+-- line, which is refused or foreign. The names, keys, world and mirrors are those behind the last line that is taken.
 pub record IsToldBy (given : Given) (r : Reached) (script : List (List ℕ)) (s : Story) : Type 0 where
   pub first : List (List ℕ)
   pub others : List (List ℕ)
@@ -94,6 +94,7 @@ pub record IsToldBy (given : Given) (r : Reached) (script : List (List ℕ)) (s 
   pub text : s.text ≡ concat reports ++ end
   pub keys : s.keys ≡ last.state.keys
   pub world : s.world ≡ last.state.world
+  pub mirrors : s.mirrors ≡ last.state.mirrors
 
 -- ---- the group that is reached
 
@@ -170,7 +171,7 @@ pub record IsSettleLine (given : Given) (r : Reached) (report : List ℕ) (new :
   pub stated : Says line (said verb.Settle (Number workers ∷ []))
   pub taken : LineIsTaken given r line report new
 
--- These forms change nothing of the group: they tell of it, or they are of watchers.
+-- These forms change nothing of the group: they tell of it, or they are of watchers or of mirrors.
 abbrev pub only_tells : Verb → Bool
 only_tells verb.Sync = true
 only_tells verb.Vector = true
@@ -179,6 +180,9 @@ only_tells verb.Dump = true
 only_tells verb.Ask = true
 only_tells verb.Watch = true
 only_tells verb.Told = true
+only_tells verb.Mdeliver = true
+only_tells verb.Mfetch = true
+only_tells verb.Mcatalogue = true
 only_tells verb.Summary = true
 only_tells verb.Traffic = true
 only_tells other = false

@@ -8,8 +8,8 @@ use Rattle.ndn_tlv.specs.declared.tlv_fault.TlvFault.{TlvFault}
 use Rattle.ndn_inspect.specs.Inspection.{Lines, inspected, printed_with_fault}
 use Rattle.repo_top.specs.declared.ending.Ending.{Ending}
 use Rattle.repo_top.specs.declared.ending.Ending.TheVariants.{Done, Refused}
-use Rattle.repo_top.specs.declared.refusal.Refusal.TheVariants.{Syntax, Limit, BadPacket}
-use Rattle.repo_top.specs.Refusals.{refusal_number}
+use Rattle.script_report.specs.declared.refusal.Refusal.TheVariants.{Syntax, Limit, BadPacket}
+use Rattle.script_report.specs.Refusals.{refusal_number}
 use Rattle.repo_top.specs.Story.{Story, plain_story, refused}
 
 -- A space, a tab, a line feed or a carriage return.

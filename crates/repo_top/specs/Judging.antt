@@ -13,21 +13,23 @@ use Rattle.script_lang.specs.Kinds.{Value, Text, Number, Named, Octets}
 use Rattle.script_lang.specs.Forms.{Stated}
 use Rattle.script_lang.specs.Lines.{line_of}
 use Rattle.script_lang.specs.Checking.{Declared, nothing_declared, after_line, party_label}
-use Rattle.script_report.specs.Texts.{watch_text}
+use Rattle.script_report.specs.Texts.{mdeliver_text, mfetch_text, watch_text}
 use Rattle.repo_watch.specs.declared.pattern.Pattern.{Pattern}
 use Rattle.repo_watch.specs.Watching.{Watching, most_watchers, after_add, after_take, watch_of}
-use Rattle.group_model.specs.World.{World, Outside, catalogue_at, opening_world}
+use Rattle.group_model.specs.World.{World, Outside, catalogue_at, opening_world, sent_at}
 use Rattle.group_model.specs.Steps.{after_event}
 use Rattle.group_model.specs.Refusals as group
 use Rattle.repo_member.specs.Groups.{GroupKeys, no_nodes, with_node}
 use Rattle.bench_world.specs.Worlds.{drawing}
 use Rattle.bench_world.specs.Serving.{outside}
 use Rattle.bench_world.specs.EventValues.{EventValue, group_event, telling}
-use Rattle.repo_top.specs.declared.refusal.Refusal.{Refusal}
-use Rattle.repo_top.specs.declared.refusal.Refusal.TheVariants as refusal
+use Rattle.script_report.specs.declared.refusal.Refusal.{Refusal}
+use Rattle.script_report.specs.declared.refusal.Refusal.TheVariants as refusal
 use Rattle.script_report.specs.Labels.{label_at}
-use Rattle.repo_top.specs.SaidEvents.{party_number, pattern_for, publisher_number, said_event}
-use Rattle.repo_top.specs.ToldTexts.{news_in, news_text, told_text}
+use Rattle.repo_top.specs.Mirrors.{Mirroring, asked_by, attempts_made, gets, mirror_begins, mirror_fetches}
+use Rattle.repo_top.specs.Mirrors.{mirror_hears, mirror_of, mirror_settles, mirrored_entries}
+use Rattle.repo_top.specs.SaidEvents.{mirror_number, party_number, pattern_for, publisher_number, said_event}
+use Rattle.repo_top.specs.ToldTexts.{listing_text, news_in, news_text, told_text}
 
 -- What no line says: the draws, and which attempts the network passes.
 pub record Given : Type 0 where
@@ -38,18 +40,20 @@ abbrev pub given_by : (ℕ → ℕ → ℕ) → (ℕ → ℕ → ℕ → ℕ →
 given_by draw passes = record { draw = draw; passes = passes }
 
 -- What the lines so far came to: what they declared, the names and keys of the group, the group itself once there was
--- an event, and the watchers of each member. No event of the group changes those.
+-- an event, the watchers of each member, and the mirrors. No event of the group changes watchers, and a settle alone
+-- changes mirrors.
 pub record State : Type 0 where
   pub declared : Declared
   pub keys : GroupKeys
   pub world : Option World
   pub watchers : List (List Watching)
+  pub mirrors : List Mirroring
 
 abbrev pub no_group : GroupKeys
 no_group = record { name = []; members = no_nodes; clients = no_nodes }
 
 abbrev pub opening_state : State
-opening_state = record { declared = nothing_declared; keys = no_group; world = None; watchers = [] }
+opening_state = record { declared = nothing_declared; keys = no_group; world = None; watchers = []; mirrors = [] }
 
 -- What a line comes to: it is refused; it brings what no member made; or it has a report, and others may follow. What
 -- is left is that no row here is for it: there is no such line.
@@ -79,6 +83,11 @@ event_refused group.Refusal.NoSuchNumber = refused refusal.NoSuchNumber
 event_refused group.Refusal.NumbersSpent = refused refusal.NumbersSpent
 event_refused group.Refusal.Foreign = foreign
 
+-- Behind a settle each mirror gains what members hold. No other event changes them.
+abbrev pub mirrors_behind : World → EventValue → List Mirroring → List Mirroring
+mirrors_behind w (EventValue.Settle workers) mirrors = map (mirror_settles w) mirrors
+mirrors_behind w e mirrors = mirrors
+
 -- An event that is taken is a step of the group, and its report is what is told of it.
 abbrev pub stepped : Outside → State → Declared → World → EventValue → Option group.Refusal → Verdict
 stepped out s d w e (Some why) = event_refused why
@@ -87,6 +96,7 @@ stepped out s d w e None = says (told_text (map party_label d.members) (telling 
   keys = s.keys;
   world = Some (after_event out w (group_event s.keys e));
   watchers = s.watchers;
+  mirrors = mirrors_behind (after_event out w (group_event s.keys e)) e s.mirrors;
 })
 
 -- The event is carried out where the lines declare so much.
@@ -105,8 +115,13 @@ watchers_at s m = watchers_of s.watchers m
 
 -- A member has these watchers from now on. The line is an event, and so there is a world behind it.
 abbrev pub with_watchers : World → State → Declared → ℕ → List Watching → State
-with_watchers w s d m watchers =
-    record { declared = d; keys = s.keys; world = Some w; watchers = slice_set s.watchers m watchers }
+with_watchers w s d m watchers = record {
+  declared = d;
+  keys = s.keys;
+  world = Some w;
+  watchers = slice_set s.watchers m watchers;
+  mirrors = s.mirrors;
+}
 
 -- A member gets one watcher more, which counts as told what the member lists. The 17th is refused.
 abbrev pub watched : World → State → Declared → ℕ → Pattern → Verdict
@@ -133,6 +148,52 @@ abbrev pub told_by : World → State → Declared → List Value → Verdict
 told_by w s d (Text m ∷ Number number ∷ []) = told_at w s d (party_number m d.members) number
 told_by w s d _ = unjudged
 
+-- ---- mirrors
+
+-- Mirrors are so from now on. The line is an event, and so there is a world behind it.
+abbrev pub with_mirrors : World → State → Declared → List Mirroring → State
+with_mirrors w s d mirrors =
+    record { declared = d; keys = s.keys; world = Some w; watchers = s.watchers; mirrors = mirrors }
+
+abbrev pub with_mirror : World → State → Declared → ℕ → Mirroring → State
+with_mirror w s d i m = with_mirrors w s d (slice_set s.mirrors i m)
+
+-- A mirror hears the sync Interest of a number, if it was sent.
+abbrev pub heard_if : Option group.Refusal → World → State → Declared → ℕ → ℕ → List ℕ → Verdict
+heard_if (Some why) w s d k i label = event_refused why
+heard_if None w s d k i label = says (mdeliver_text k label)
+    (with_mirror w s d i (mirror_hears (sent_at w k).vector (mirror_of s.mirrors i)))
+
+abbrev pub mirror_heard : World → State → Declared → ℕ → ℕ → List ℕ → Verdict
+mirror_heard w s d k i label = heard_if (group.unless_sent w k) w s d k i label
+
+-- A mirror fetches of members what it wants.
+abbrev pub mirror_fetched : Given → World → State → Declared → ℕ → List ℕ → (tries loss : ℕ) → Verdict
+mirror_fetched given w s d i label tries loss = says
+    (mfetch_text label (length (asked_by w (mirror_of s.mirrors i)))
+    (length (gets given.passes w i tries loss (mirror_of s.mirrors i)))
+    (attempts_made given.passes w i tries loss (mirror_of s.mirrors i)))
+    (with_mirror w s d i (mirror_fetches given.passes w i tries loss (mirror_of s.mirrors i)))
+
+-- A mirror's catalogue is listed.
+abbrev pub mirror_listed : World → State → Declared → ℕ → List ℕ → Verdict
+mirror_listed w s d i label = says
+    (listing_text (map party_label d.members) label (mirrored_entries w (mirror_of s.mirrors i)))
+    (with_mirrors w s d s.mirrors)
+
+abbrev pub heard_by : World → State → Declared → List Value → Verdict
+heard_by w s d (Number k ∷ Text l ∷ []) = mirror_heard w s d k (mirror_number l d.mirrors) l
+heard_by w s d _ = unjudged
+
+abbrev pub fetched_by : Given → World → State → Declared → List Value → Verdict
+fetched_by given w s d (Text l ∷ Number workers ∷ Number tries ∷ Number loss ∷ []) =
+    mirror_fetched given w s d (mirror_number l d.mirrors) l tries loss
+fetched_by given w s d _ = unjudged
+
+abbrev pub listed_by : World → State → Declared → List Value → Verdict
+listed_by w s d (Text l ∷ []) = mirror_listed w s d (mirror_number l d.mirrors) l
+listed_by w s d _ = unjudged
+
 -- ---- lines
 
 -- A group of this name that nobody is in.
@@ -148,8 +209,18 @@ with_client_too node key keys = record keys { clients = with_node node key keys.
 
 abbrev pub with_group : State → Declared → List Value → Verdict
 with_group s d (Named name ∷ []) =
-    says [] (record { declared = d; keys = group_named name; world = s.world; watchers = s.watchers })
+    says [] (record {
+      declared = d;
+      keys = group_named name;
+      world = s.world;
+      watchers = s.watchers;
+      mirrors = s.mirrors;
+    })
 with_group s d _ = unjudged
+
+-- The mirrors so far, in a group of these members, before anything has happened.
+abbrev pub mirrors_begin : GroupKeys → List Mirroring → List Mirroring
+mirrors_begin keys mirrors = map (λ m. mirror_begins (length keys.members.names) m.pattern) mirrors
 
 abbrev pub declaring_member : State → Declared → List Value → Verdict
 declaring_member s d (Text label ∷ Named node ∷ Octets key ∷ []) = says [] (record {
@@ -157,13 +228,31 @@ declaring_member s d (Text label ∷ Named node ∷ Octets key ∷ []) = says []
   keys = with_member_too node key s.keys;
   world = s.world;
   watchers = s.watchers ++ [] ∷ [];
+  mirrors = mirrors_begin (with_member_too node key s.keys) s.mirrors;
 })
 declaring_member s d _ = unjudged
 
 abbrev pub with_client : State → Declared → List Value → Verdict
 with_client s d (Text label ∷ Named node ∷ Octets key ∷ []) =
-    says [] (record { declared = d; keys = with_client_too node key s.keys; world = s.world; watchers = s.watchers })
+    says [] (record {
+      declared = d;
+      keys = with_client_too node key s.keys;
+      world = s.world;
+      watchers = s.watchers;
+      mirrors = s.mirrors;
+    })
 with_client s d _ = unjudged
+
+abbrev pub declaring_mirror : State → Declared → List Value → Verdict
+declaring_mirror s d (Text label ∷ publisher ∷ Named prefix ∷ []) = says [] (record {
+  declared = d;
+  keys = s.keys;
+  world = s.world;
+  watchers = s.watchers;
+  mirrors = s.mirrors
+      ++ mirror_begins (length s.keys.members.names) (pattern_for (publisher_number d publisher) prefix) ∷ [];
+})
+declaring_mirror s d _ = unjudged
 
 abbrev pub acted_if : Given → State → Declared → Option EventValue → Verdict
 acted_if given s d (Some e) = acted given s d e
@@ -177,8 +266,12 @@ abbrev pub taken_by : Verb → Given → State → Declared → Stated → Verdi
 taken_by verb.Group given s d line = with_group s d line.values
 taken_by verb.Member given s d line = declaring_member s d line.values
 taken_by verb.Client given s d line = with_client s d line.values
+taken_by verb.Mirror given s d line = declaring_mirror s d line.values
 taken_by verb.Watch given s d line = watched_by (found_world given s) s d line.values
 taken_by verb.Told given s d line = told_by (found_world given s) s d line.values
+taken_by verb.Mdeliver given s d line = heard_by (found_world given s) s d line.values
+taken_by verb.Mfetch given s d line = fetched_by given (found_world given s) s d line.values
+taken_by verb.Mcatalogue given s d line = listed_by (found_world given s) s d line.values
 taken_by _ given s d line = acted_by given s d line
 
 unfoldable pub line_taken : Given → State → Declared → Stated → Verdict

@@ -4,10 +4,10 @@ pub use Rattle.repo_io.specs.Lines
 pub use Rattle.repo_io.specs.Statuses
 pub use Rattle.script_report.specs.Labels
 pub mod Words
-pub mod Refusals
 pub mod RefusalTexts
 pub mod ToldTexts
 pub mod SaidEvents
+pub mod Mirrors
 pub mod Judging
 pub mod Stopping
 pub mod Progressing
@@ -27,3 +27,4 @@ pub mod HeldPackets
 pub mod ShownCatalogues
 pub mod Workers
 pub mod Watchers
+pub mod MirrorLaws

@@ -8,10 +8,11 @@ use Rattle.group_model.specs.World.{World}
 use Rattle.repo_member.specs.Groups.{GroupKeys}
 use Rattle.repo_top.specs.declared.ending.Ending.{Ending}
 use Rattle.repo_top.specs.declared.ending.Ending.TheVariants.{Done, Refused, Foreign}
-use Rattle.repo_top.specs.declared.refusal.Refusal.{Refusal}
-use Rattle.repo_top.specs.declared.refusal.Refusal.TheVariants.{Limit, TooLarge}
-use Rattle.repo_top.specs.Refusals.{refusal_number, refusal_text}
+use Rattle.script_report.specs.declared.refusal.Refusal.{Refusal}
+use Rattle.script_report.specs.declared.refusal.Refusal.TheVariants.{Limit, TooLarge}
+use Rattle.script_report.specs.Refusals.{refusal_number, refusal_text}
 use Rattle.repo_io.specs.Lines.{lines}
+use Rattle.repo_top.specs.Mirrors.{Mirroring}
 use Rattle.repo_top.specs.Judging.{Given, State, Verdict, no_group, opening_state, judged, says, foreign, unjudged}
 use Rattle.repo_top.specs.Judging as verdict
 
@@ -58,20 +59,22 @@ judged_next given r line =
 -- ---- the whole
 
 -- The text of a report, how the script ends, and behind the last line that was taken the names and keys of the group,
--- and its world once there was an event.
+-- its world once there was an event, and its mirrors.
 pub record Story : Type 0 where
   pub text : List ℕ
   pub ending : Ending
   pub keys : GroupKeys
   pub world : Option World
+  pub mirrors : List Mirroring
 
 -- A text, and then a story.
 abbrev pub behind_text : List ℕ → Story → Story
-behind_text text s = record { text = text ++ s.text; ending = s.ending; keys = s.keys; world = s.world }
+behind_text text s = record s { text = text ++ s.text }
 
 -- A story that ends here, with this text.
 abbrev pub ended : State → List ℕ → Ending → Story
-ended s text ending = record { text = text; ending = ending; keys = s.keys; world = s.world }
+ended s text ending =
+    record { text = text; ending = ending; keys = s.keys; world = s.world; mirrors = s.mirrors }
 
 -- The story of a line and of those behind it. A line that is refused or foreign ends it. One that no row judges would
 -- end it as refused under 0, which is the number of no refusal.
@@ -94,7 +97,7 @@ story_of given input = story_from given nothing_reached (lines input)
 
 -- The story of what is no script: there is no group in it.
 abbrev pub plain_story : List ℕ → Ending → Story
-plain_story text ending = record { text = text; ending = ending; keys = no_group; world = None }
+plain_story text ending = record { text = text; ending = ending; keys = no_group; world = None; mirrors = [] }
 
 -- The input as its first line is refused.
 abbrev pub refused : Refusal → Story

@@ -1,5 +1,5 @@
 -- The line of a report for what is told of an event, under the labels of the members.
-use Rattle.std.specs.Prelude.{ℕ, List, [], map, length, codes, Option, Some, None}
+use Rattle.std.specs.Prelude.{ℕ, Bool, true, false, if◌then◌else◌, List, [], map, length, codes, Option, Some, None}
 use Rattle.std.specs.List.{filter}
 use Rattle.repo_catalog.specs.declared.entry.Entry.{Entry}
 use Rattle.script_report.specs.Texts.{publish_text, deliver_steady_text, deliver_suppressed_text, sync_text}
@@ -16,7 +16,7 @@ use Rattle.bench_world.specs.EventValues.{Told}
 use Rattle.script_report.specs.Labels.{label_at, publisher_label}
 use Rattle.repo_top.specs.RefusalTexts.{hear_refusal_text, part_refusal_text, packet_fault_text}
 
--- Each is a line, and where nothing is told there is none.
+-- One line for each event, and where nothing is told there is none.
 abbrev pub told_text : List (List ℕ) → Told → List ℕ
 told_text labels Told.Nothing = []
 told_text labels (Told.Publish m seq segments sync) = publish_text (label_at labels m) seq segments sync
@@ -71,6 +71,63 @@ told_text labels (Told.Summary members entries segments octets) =
 told_text labels (Told.Traffic syncs delivered attempts parts octets) =
     traffic_text syncs delivered attempts parts octets
 
+-- ---- the kinds of what is told, as the code goes through them
+
+-- A command that came as octets, or a deletion.
+abbrev pub of_commands : Told → Bool
+of_commands (Told.Order m code process inserted deleted) = true
+of_commands (Told.Delete m code process inserted deleted) = true
+of_commands told = false
+
+-- One of these, or an insertion, its status or a block of it.
+abbrev pub of_insertions : Told → Bool
+of_insertions (Told.Insert m code process inserted deleted) = true
+of_insertions (Told.Status m code process inserted deleted) = true
+of_insertions (Told.Block300 m) = true
+of_insertions (Told.Block404 m) = true
+of_insertions (Told.Block200 m) = true
+of_insertions (Told.BlockPublished m seq sync) = true
+of_insertions told = of_commands told
+
+-- One of these, or a fetch, or a packet that comes or is asked for.
+abbrev pub of_packets : Told → Bool
+of_packets (Told.Fetch m planned kept attempts) = true
+of_packets (Told.DumpHex m octets) = true
+of_packets (Told.DumpNone m) = true
+of_packets (Told.HearSteady m) = true
+of_packets (Told.HearSuppressed m) = true
+of_packets (Told.HearRefused m refusal) = true
+of_packets (Told.AskFound m octets) = true
+of_packets (Told.AskNone m) = true
+of_packets (Told.AskRefused m refusal) = true
+of_packets (Told.FeedKept m f) = true
+of_packets (Told.FeedRefused m f refusal) = true
+of_packets told = of_insertions told
+
+-- One of these, or a part that is claimed.
+abbrev pub of_parts : Told → Bool
+of_parts (Told.ClaimPart m f publisher seq x) = true
+of_parts (Told.ClaimNone m f) = true
+of_parts (Told.Lose m f publisher seq x) = true
+of_parts (Told.AnswerKept m f) = true
+of_parts (Told.AnswerNone m f) = true
+of_parts told = of_packets told
+
+-- One of these, or what members have, or of the whole group.
+abbrev pub of_group : Told → Bool
+of_group (Told.Vector m members numbers) = true
+of_group (Told.Catalogue m count entries) = true
+of_group (Told.Settle syncs kept) = true
+of_group (Told.Summary members entries segments octets) = true
+of_group (Told.Traffic syncs delivered attempts parts octets) = true
+of_group told = of_parts told
+
+-- The line of what is of a kind, and nothing of anything else.
+abbrev pub told_if : (Told → Bool) → List (List ℕ) → Told → List ℕ
+told_if is_of labels told = if is_of told then told_text labels told else []
+
+-- ---- what watchers are told, and what mirrors list
+
 -- The entries that are news to the watcher that a number may have.
 abbrev pub news_in : Option Watching → List Entry → List Entry
 news_in None entries = []
@@ -83,3 +140,8 @@ labelled_news labels label number entries =
 
 abbrev pub news_text : List (List ℕ) → ℕ → ℕ → List Entry → List ℕ
 news_text labels m number entries = labelled_news labels (label_at labels m) number entries
+
+-- What a mirror lists, under its label.
+abbrev pub listing_text : List (List ℕ) → List ℕ → List Entry → List ℕ
+listing_text labels label entries =
+    report.mcatalogue_text label (length entries) (map (publisher_label labels) entries) entries

@@ -15,6 +15,8 @@ use Rattle.repo_top.specs.Story.{story_of}
 abbrev pub with_one_worker : Verb → List Value → List Value
 with_one_worker verb.Fetch (Text m ∷ Number workers ∷ Number tries ∷ Number loss ∷ []) =
     Text m ∷ Number 1 ∷ Number tries ∷ Number loss ∷ []
+with_one_worker verb.Mfetch (Text l ∷ Number workers ∷ Number tries ∷ Number loss ∷ []) =
+    Text l ∷ Number 1 ∷ Number tries ∷ Number loss ∷ []
 with_one_worker verb.Settle (Number workers ∷ []) = Number 1 ∷ []
 with_one_worker form values = values
 
@@ -24,7 +26,7 @@ but_for_workers (Ok (Some line)) = Ok (Some (said line.verb (with_one_worker lin
 but_for_workers (Ok None) = Ok None
 but_for_workers (Err fault) = Err fault
 
--- Line by line two scripts are read as the same, but for the workers of their `fetch` and `settle` lines.
+-- Line by line two scripts are read as the same, but for the workers of their `fetch`, `mfetch` and `settle` lines.
 abbrev pub DifferInWorkers : List (List ℕ) → List (List ℕ) → Type 0
 DifferInWorkers a b = map (λ line. but_for_workers (line_of line)) a ≡ map (λ line. but_for_workers (line_of line)) b
 

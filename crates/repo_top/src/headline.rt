@@ -10,6 +10,7 @@ ghost use Rattle.repo_top.specs.Listings.{ListedStay, SettledListWhatIsHeld, Set
 ghost use Rattle.repo_top.specs.ShownCatalogues.{CatalogueLinesShow, SettleLinesShow};
 ghost use Rattle.repo_top.specs.Story.{nothing_reached, story_of};
 ghost use Rattle.repo_top.specs.ToldMembers.{ReportsTellOfMembers};
+ghost use Rattle.repo_top.specs.MirrorLaws.{MirrorsAreListed, MirrorsListTheirJoin};
 ghost use Rattle.repo_top.specs.Watchers.{SettledAreTold, WatchersAreToldAll, WatchersAreToldOnce};
 ghost use Rattle.repo_top.specs.Workers.{WorkersMakeNoDifference};
 
@@ -112,8 +113,16 @@ pub fn watchers_are_told_all()
     ensures settled { SettledAreTold }
 {}
 
-/// Two inputs that are read as the same lines, but for how many workers their `fetch` and `settle` lines ask for, have
-/// the same story, where neither has more octets than a script may have.
+/// Two inputs that are read as the same lines, but for how many workers their `fetch`, `mfetch` and `settle` lines ask
+/// for, have the same story, where neither has more octets than a script may have.
 pub fn workers_make_no_difference()
     ensures { WorkersMakeNoDifference }
+{}
+
+/// An `mcatalogue` line prints exactly the objects that the mirror's pattern is for, of which it holds every part and
+/// no withdrawal. Right behind a `settle` line, where no line was taken that can delete, that is what its pattern is
+/// for of the join of all publications.
+pub fn mirrors_list_what_they_ask_for()
+    ensures listed { MirrorsAreListed }
+    ensures joined { MirrorsListTheirJoin }
 {}

@@ -3,11 +3,9 @@ ghost use Rattle.repo_top.specs.Inspection.{inspect_story, is_space, octets_stor
 ghost use Rattle.repo_top.specs.Story.{refused};
 
 use crate::ending::Ending;
-use crate::refusal::Refusal;
 use hex::FromHexError;
-use script_report::put_refused;
+use script_report::{Refusal, put_refused};
 use std::alloc::{AllocError, Global};
-use std::marker::Model;
 
 // How many octets of the input are taken at most.
 pub(crate) const MOST_OCTETS: usize = 16_777_216;
@@ -22,18 +20,11 @@ pub(crate) struct Told {
     pub(crate) ending: Ending,
 }
 
-impl Model for Told {
-    ghost use Rattle.repo_top.specs.Story.{Story, plain_story};
-
-    ghost Value = { Story };
-
-    ghost view = { λ t. plain_story t.text.items t.ending };
-}
-
 // Inspects the octets whose digits the input gives.
 #[tactic(auto, unfolding(crate::specs::Inspection::inspect_story))]
 pub(crate) fn tell_inspection(alloc: Global, input: Vec<u8>) -> Result<Told, AllocError>
-    ensures { IfOk result (λ told. told ≡ inspect_story input.items) }
+    ensures text { IfOk result (λ told. told.text.items ≡ (inspect_story input.items).text) }
+    ensures ending { IfOk result (λ told. told.ending ≡ (inspect_story input.items).ending) }
 {
     if input.len() > MOST_OCTETS {
         return refuse(alloc, Refusal::Limit);
@@ -48,7 +39,8 @@ pub(crate) fn tell_inspection(alloc: Global, input: Vec<u8>) -> Result<Told, All
 
 // Inspects the octets, where a packet may have so many.
 fn tell_octets(alloc: Global, octets: &[u8]) -> Result<Told, AllocError>
-    ensures { IfOk result (λ told. told ≡ octets_story octets.now) }
+    ensures text { IfOk result (λ told. told.text.items ≡ (octets_story octets.now).text) }
+    ensures ending { IfOk result (λ told. told.ending ≡ (octets_story octets.now).ending) }
 {
     if octets.len() > MOST_OF_PACKET {
         return refuse(alloc, Refusal::Limit);
@@ -69,7 +61,8 @@ fn tell_octets(alloc: Global, octets: &[u8]) -> Result<Told, AllocError>
 
 // The input as its first line is refused.
 fn refuse(alloc: Global, refusal: Refusal) -> Result<Told, AllocError>
-    ensures { IfOk result (λ told. told ≡ refused refusal) }
+    ensures text { IfOk result (λ told. told.text.items ≡ (refused refusal).text) }
+    ensures ending { IfOk result (λ told. told.ending ≡ (refused refusal).ending) }
 {
     let mut text = Vec::new(alloc);
     let number = refusal.number();

@@ -35,6 +35,13 @@ pub fn small_stories()
     ensures watched { (given : Given)
         → Reports given (codes "group /g\nmember alice /alice 6b31\nwatch alice * /\ntold alice 1\ntold alice 2\n")
         (codes "watch alice 1\ntold alice 1 0\nrefused 5 15 NoSuchWatch\n") (Refused 5 15) }
+    ensures mirrored { (given : Given)
+        → Reports given (codes "group /g\nmember alice /alice 6b31\nmirror mia alice /doc\npublish alice /doc 1 text:\n"
+        ++ codes "mdeliver 1 mia\nmcatalogue mia\nsettle 1\nmcatalogue mia\nmfetch mia 1 1 0\nmdeliver 3 mia\n")
+        (codes "publish alice 1 segments 0 sync 1\nmdeliver 1 mia\nmcatalogue mia 0\nsettle syncs 1 kept 0\n"
+        ++ codes "mcatalogue mia 1\nentry alice 1 /doc segments 0 octets 0 sha256 "
+        ++ codes "e3b0c44298fc1c149afbf4c8996fb92427ae41e4649b934ca495991b7852b855\n"
+        ++ codes "mfetch mia planned 0 kept 0 attempts 0\nrefused 10 5 NoSuchPacket\n") (Refused 10 5) }
 {}
 
 /// One publication that reaches two catalogues, worked out.

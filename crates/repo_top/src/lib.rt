@@ -13,7 +13,6 @@ mod inspection;
 mod laws;
 mod line_reader;
 mod progress;
-mod refusal;
 mod running;
 mod said;
 mod script;
@@ -25,8 +24,8 @@ mod words;
 pub use headline::{
     a_settle_line_joins, catalogue_lines_show_what_is_held, entries_tell_what_dumps_show,
     held_parts_passed_their_checks, lines_reach_sound_groups, listed_objects_stay_listed,
-    printed_catalogues_list_what_is_held, printed_labels_are_declared,
-    settled_catalogues_list_what_was_held, stories_are_their_lines,
+    mirrors_list_what_they_ask_for, printed_catalogues_list_what_is_held,
+    printed_labels_are_declared, settled_catalogues_list_what_was_held, stories_are_their_lines,
     told_members_join_without_a_settle, watchers_are_told_all, watchers_are_told_once,
     workers_make_no_difference,
 };

@@ -11,15 +11,18 @@ ghost use Rattle.bench_world.specs.Serving.{outside};
 ghost use Rattle.bench_world.specs.Steps.{IsReady, NamesClient};
 ghost use Rattle.bench_world.specs.Worlds.{drawing, world_of};
 ghost use Rattle.repo_top.specs.ToldTexts.{told_text};
+ghost use Rattle.repo_top.specs.Mirrors.{mirror_as, mirror_begins};
 ghost use Rattle.repo_top.specs.Judging.{acted, acted_by, given_by, group_named, judged, judged_line, line_taken};
-ghost use Rattle.repo_top.specs.Judging.{opening_state, says, with_client_too, with_member_too};
+ghost use Rattle.repo_top.specs.Judging.{mirrors_begin, mirrors_behind, opening_state, says, with_client_too};
+ghost use Rattle.repo_top.specs.Judging.{with_member_too};
 ghost use Rattle.repo_top.specs.Progressing.{IsEventLine, NamesAreDeclared, LineIsChecked, IsLine, IsProgress, IsStop};
-ghost use Rattle.repo_top.specs.Progressing.{IsStopOf};
-ghost use Rattle.repo_top.specs.Progressing.{StatesFit, has_group, has_world, standing_keys, progress_state, steps};
-ghost use Rattle.repo_top.specs.Progressing.{steps_in, world_in};
+ghost use Rattle.repo_top.specs.Progressing.{IsStopOf, MirrorsAreDeclared, StatesFit, has_group, has_world};
+ghost use Rattle.repo_top.specs.Progressing.{mirrors_in, progress_state, standing_keys, steps, steps_in, world_in};
 
+mod mirroring;
 mod watching;
 
+use crate::progress::mirroring::{begin_world, settle_behind};
 use crate::said::said;
 use crate::stop::{Stop, step_stop};
 use crate::telling::put_happened;
@@ -27,7 +30,7 @@ use bench_net::{Draws, Net};
 use bench_world::{Event, World};
 use ndn_name::Name;
 use repo_member::{Group, GroupFault};
-use repo_watch::Watchers;
+use repo_watch::{Pattern, Watchers};
 use script_lang::{Line, Words, read_line};
 use std::alloc::Global;
 use std::mem;
@@ -37,7 +40,8 @@ use std::thread::Threads;
 #[derive(Drop)]
 pub(crate) enum Standing {
     Opening,
-    Declaring(Group),
+    // With what the mirrors ask for.
+    Declaring(Group, Vec<Pattern>),
     Acting(World),
 }
 
@@ -149,8 +153,21 @@ impl Progress {
                 name,
                 key,
             } => self.declare_client(&name, &key),
+            Line::Mirror {
+                label: _label,
+                p,
+                name,
+            } => self.declare_mirror(&p, name),
             Line::Watch { m, p, name } => self.watch(m, p, name, report, draws),
             Line::Told { m, w } => self.tell(m, w, report, draws),
+            Line::Mdeliver { k, l } => self.mirror_hear(k, l, report, draws),
+            Line::Mfetch {
+                l,
+                workers,
+                tries,
+                loss,
+            } => self.mirror_fetch(rt, l, workers, tries, loss, report, net, draws),
+            Line::Mcatalogue { l } => self.mirror_list(l, report, draws),
             line => self.act(rt, line, report, net, draws),
         }
     }
@@ -162,17 +179,19 @@ impl Progress {
         requires named { NamesAreDeclared (map string_bytes self.old.labels.items)
             (group_named name.now) self.old.words }
         requires watched { length self.old.watchers.items ≡ length self.old.words.members }
+        requires mirrored { length self.old.words.mirrors ≡ 0 }
         ensures state { OnOk result (progress_state self.new ≡ record {
           declared = self.old.words;
           keys = group_named name.now;
           world = None;
           watchers = self.old.watchers.items;
+          mirrors = [];
         }) }
         ensures is { OnOk result (IsProgress self.new) }
         ensures steps { OnOk result (steps self.new ≡ 0) }
         ensures err { IfErr result (λ stop. stop ≡ Stop.NoMemory) }
     {
-        self.standing = Standing::Declaring(Group::new(self.alloc, name)?);
+        self.standing = Standing::Declaring(Group::new(self.alloc, name)?, Vec::new(self.alloc));
         Ok(())
     }
 
@@ -188,11 +207,14 @@ impl Progress {
         requires named { NamesAreDeclared (map string_bytes self.old.labels.items ++ string_bytes label ∷ [])
             (with_member_too node.now key.now (standing_keys self.old.standing)) self.old.words }
         requires watched { length self.old.watchers.items + 1 ≡ length self.old.words.members }
+        requires mirrored { MirrorsAreDeclared self.old.standing self.old.words }
         ensures state { OnOk result (progress_state self.new ≡ record {
           declared = self.old.words;
           keys = with_member_too node.now key.now (standing_keys self.old.standing);
           world = None;
           watchers = self.old.watchers.items ++ [] ∷ [];
+          mirrors = mirrors_begin (with_member_too node.now key.now (standing_keys self.old.standing))
+              (mirrors_in self.old.standing);
         }) }
         ensures is { OnOk result (IsProgress self.new) }
         ensures steps { OnOk result (steps self.new ≡ 0) }
@@ -216,11 +238,13 @@ impl Progress {
         requires named { NamesAreDeclared (map string_bytes self.old.labels.items)
             (with_client_too node.now key.now (standing_keys self.old.standing)) self.old.words }
         requires watched { length self.old.watchers.items ≡ length self.old.words.members }
+        requires mirrored { MirrorsAreDeclared self.old.standing self.old.words }
         ensures state { OnOk result (progress_state self.new ≡ record {
           declared = self.old.words;
           keys = with_client_too node.now key.now (standing_keys self.old.standing);
           world = None;
           watchers = self.old.watchers.items;
+          mirrors = mirrors_in self.old.standing;
         }) }
         ensures is { OnOk result (IsProgress self.new) }
         ensures steps { OnOk result (steps self.new ≡ 0) }
@@ -243,6 +267,7 @@ impl Progress {
         requires named { NamesAreDeclared (map string_bytes self.old.labels.items)
             (standing_keys self.old.standing) self.old.words }
         requires watched { length self.old.watchers.items ≡ length self.old.words.members }
+        requires mirrored { MirrorsAreDeclared self.old.standing self.old.words }
         requires group { self.old.words.group ≡ true }
         requires events { self.old.words.events ≡ true }
         requires there { has_group self.old.standing ≡ true }
@@ -276,6 +301,7 @@ impl Progress {
         requires named { NamesAreDeclared (map string_bytes self.old.labels.items)
             (standing_keys self.old.standing) self.old.words }
         requires watched { length self.old.watchers.items ≡ length self.old.words.members }
+        requires mirrored { MirrorsAreDeclared self.old.standing self.old.words }
         requires group { self.old.words.group ≡ true }
         requires events { self.old.words.events ≡ true }
         requires there { has_group self.old.standing ≡ true }
@@ -300,6 +326,7 @@ impl Progress {
     pub(crate) fn into_world(self) -> Option<World>
         ensures world { option_map world_of result ≡ (progress_state self).world }
         ensures keys { IfSome result (λ world. world.keys ≡ (progress_state self).keys) }
+        ensures mirrors { IfSome result (λ world. map mirror_as world.mirrors ≡ (progress_state self).mirrors) }
     {
         let Progress { standing, .. } = self;
         match standing {
@@ -322,10 +349,12 @@ impl Standing {
         ensures there { OnOk result (has_group self.new ≡ true) }
         ensures world { OnOk result (world_in self.new ≡ None) }
         ensures unchanged { OnOk result (has_world self.new ≡ false) }
+        ensures mirrors { OnOk result (mirrors_in self.new
+            ≡ mirrors_begin (with_member_too node.now key.now (standing_keys self.old)) (mirrors_in self.old)) }
         ensures steps { OnOk result (steps_in self.new ≡ 0) }
         ensures err { IfErr result (λ stop. stop ≡ Stop.NoMemory) }
     {
-        let Standing::Declaring(group) = self else {
+        let Standing::Declaring(group, _) = self else {
             unreachable!()
         };
         match group.add_member(node, key) {
@@ -347,10 +376,11 @@ impl Standing {
         ensures there { OnOk result (has_group self.new ≡ true) }
         ensures world { OnOk result (world_in self.new ≡ None) }
         ensures unchanged { OnOk result (has_world self.new ≡ false) }
+        ensures mirrors { OnOk result (mirrors_in self.new ≡ mirrors_in self.old) }
         ensures steps { OnOk result (steps_in self.new ≡ 0) }
         ensures err { IfErr result (λ stop. stop ≡ Stop.NoMemory) }
     {
-        let Standing::Declaring(group) = self else {
+        let Standing::Declaring(group, _) = self else {
             unreachable!()
         };
         match group.add_client(node, key) {
@@ -360,18 +390,40 @@ impl Standing {
         }
     }
 
-    // The world that an event finds: its members have nothing before the first.
+    // A mirror more, which asks for this.
+    fn add_mirror(&mut self, pattern: Pattern) -> Result<(), Stop>
+        requires there { has_group self.old ≡ true }
+        requires unchanged { has_world self.old ≡ false }
+        ensures keys { OnOk result (standing_keys self.new ≡ standing_keys self.old) }
+        ensures there { OnOk result (has_group self.new ≡ true) }
+        ensures world { OnOk result (world_in self.new ≡ None) }
+        ensures unchanged { OnOk result (has_world self.new ≡ false) }
+        ensures mirrors { OnOk result (mirrors_in self.new ≡ mirrors_in self.old
+            ++ mirror_begins (length (standing_keys self.old).members.names) pattern ∷ []) }
+        ensures steps { OnOk result (steps_in self.new ≡ 0) }
+        ensures err { IfErr result (λ stop. stop ≡ Stop.NoMemory) }
+    {
+        let Standing::Declaring(_, patterns) = self else {
+            unreachable!()
+        };
+        patterns.push(pattern)?;
+        Ok(())
+    }
+
+    // The world that an event finds: its members have nothing before the first, and its mirrors know of nothing.
     fn begin<D: Draws>(self, alloc: Global, draws: &D) -> Result<World, Stop>
         requires there { has_group self ≡ true }
+        requires few { length (mirrors_in self) ≤ 4 }
         ensures world { IfOk result (λ world. world_of world ≡ unwrap_or (world_in self)
             (opening_world (drawing (D.draw draws.now)) (length (standing_keys self).members.names))) }
         ensures keys { IfOk result (λ world. world.keys ≡ standing_keys self) }
+        ensures mirrors { IfOk result (λ world. map mirror_as world.mirrors ≡ mirrors_in self) }
         ensures steps { IfOk result (λ world. world.steps ≡ steps_in self) }
         ensures err { IfErr result (λ stop. stop ≡ Stop.NoMemory) }
     {
         match self {
             Standing::Opening => unreachable!(),
-            Standing::Declaring(group) => Ok(World::new(alloc, group, draws)?),
+            Standing::Declaring(group, patterns) => begin_world(alloc, group, patterns, draws),
             Standing::Acting(world) => Ok(world),
         }
     }
@@ -397,6 +449,8 @@ fn step<N: Net + Sync, D: Draws, R: Threads + Sync>(
     ensures world { OnOk result (world_of world.new
         ≡ after_event (outside world.old.keys (D.draw draws.now) (N.passes net.now)) (world_of world.old)
         (group_event world.old.keys (event_value event.now))) }
+    ensures mirrors { OnOk result (map mirror_as world.new.mirrors
+        ≡ mirrors_behind (world_of world.new) (event_value event.now) (map mirror_as world.old.mirrors)) }
     ensures report { OnOk result (report.new.items ≡ told_text (map string_bytes labels.now)
         (telling world.old.keys (outside world.old.keys (D.draw draws.now) (N.passes net.now)) (world_of world.old)
         (event_value event.now))) }
@@ -410,5 +464,5 @@ fn step<N: Net + Sync, D: Draws, R: Threads + Sync>(
         Err(fault) => return Err(step_stop(fault)),
     };
     put_happened(report, labels, &happened)?;
-    Ok(())
+    settle_behind(rt, world, event)
 }

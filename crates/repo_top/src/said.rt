@@ -1,26 +1,24 @@
 ghost use Rattle.std.specs.Prelude.{◌≡◌, ◌∷◌, [], true};
 ghost use Rattle.std.specs.Option.{option_map};
 ghost use Rattle.script_lang.specs.Forms.{publisher_value, stated};
-ghost use Rattle.script_lang.specs.Checking.{are_known, are_members, has_label, labels_in};
+ghost use Rattle.script_lang.specs.Checking.{are_known, are_members, has_label, is_mirror, labels_in};
 ghost use Rattle.bench_world.specs.EventValues.{event_value};
-ghost use Rattle.repo_top.specs.SaidEvents.{party_number, pattern_for, publisher_number, said_event};
+ghost use Rattle.repo_top.specs.SaidEvents.{mirror_number, party_number, pattern_for, publisher_number, said_event};
+ghost use Rattle.repo_top.specs.SaidEvents.{said_of_commands, said_of_group, said_of_insertions, said_of_packets};
+ghost use Rattle.repo_top.specs.SaidEvents.{said_of_parts};
 
 use bench_world::Event;
 use ndn_name::Name;
 use repo_watch::Pattern;
 use script_lang::{Line, Words};
 
-// The event that a line states, whose labels the words have declared; none of a declaration or a line of watchers.
+// The event that a line states, whose labels the words have declared; none of a declaration or a line of watchers or
+// mirrors.
 pub(crate) fn said(words: &Words, line: Line) -> Option<Event>
     requires { are_known words.now (stated line) ≡ true }
     ensures { option_map event_value result ≡ said_event words.now (stated line) }
 {
     let event = match line {
-        Line::Group { .. }
-        | Line::Member { .. }
-        | Line::Client { .. }
-        | Line::Watch { .. }
-        | Line::Told { .. } => return None,
         Line::Publish {
             m,
             name,
@@ -48,12 +46,37 @@ pub(crate) fn said(words: &Words, line: Line) -> Option<Event>
         Line::Restart { m } => Event::Restart {
             m: member(words, &m),
         },
+        line => return said_of_group(words, line),
+    };
+    Some(event)
+}
+
+// The event of a line that asks what members have or is of the whole group, or of a kind below.
+fn said_of_group(words: &Words, line: Line) -> Option<Event>
+    requires { are_known words.now (stated line) ≡ true }
+    ensures { option_map event_value result ≡ said_of_group (stated line).verb words.now (stated line).values }
+{
+    let event = match line {
         Line::Vector { m } => Event::Vector {
             m: member(words, &m),
         },
         Line::Catalogue { m } => Event::Catalogue {
             m: member(words, &m),
         },
+        Line::Settle { workers } => Event::Settle { workers },
+        Line::Summary => Event::Summary,
+        Line::Traffic => Event::Traffic,
+        line => return said_of_parts(words, line),
+    };
+    Some(event)
+}
+
+// The event of a line of parts that are claimed, or of a kind below.
+fn said_of_parts(words: &Words, line: Line) -> Option<Event>
+    requires { are_known words.now (stated line) ≡ true }
+    ensures { option_map event_value result ≡ said_of_parts (stated line).verb words.now (stated line).values }
+{
+    let event = match line {
         Line::Claim { m, f } => Event::Claim {
             m: member(words, &m),
             f,
@@ -67,6 +90,17 @@ pub(crate) fn said(words: &Words, line: Line) -> Option<Event>
             f,
             q: member(words, &q),
         },
+        line => return said_of_packets(words, line),
+    };
+    Some(event)
+}
+
+// The event of a line that fetches, or brings a packet or asks for one, or of a kind below.
+fn said_of_packets(words: &Words, line: Line) -> Option<Event>
+    requires { are_known words.now (stated line) ≡ true }
+    ensures { option_map event_value result ≡ said_of_packets (stated line).verb words.now (stated line).values }
+{
+    let event = match line {
         Line::Fetch {
             m,
             workers,
@@ -78,7 +112,6 @@ pub(crate) fn said(words: &Words, line: Line) -> Option<Event>
             tries,
             loss,
         },
-        Line::Settle { workers } => Event::Settle { workers },
         Line::Dump { m, p, s, x } => Event::Dump {
             m: member(words, &m),
             p: member(words, &p),
@@ -86,10 +119,6 @@ pub(crate) fn said(words: &Words, line: Line) -> Option<Event>
             x,
         },
         Line::Hear { m, octets } => Event::Hear {
-            m: member(words, &m),
-            octets,
-        },
-        Line::Order { m, octets } => Event::Order {
             m: member(words, &m),
             octets,
         },
@@ -102,6 +131,17 @@ pub(crate) fn said(words: &Words, line: Line) -> Option<Event>
             f,
             octets,
         },
+        line => return said_of_insertions(words, line),
+    };
+    Some(event)
+}
+
+// The event of a line of an insertion and its blocks, or of a kind below.
+fn said_of_insertions(words: &Words, line: Line) -> Option<Event>
+    requires { are_known words.now (stated line) ≡ true }
+    ensures { option_map event_value result ≡ said_of_insertions (stated line).verb words.now (stated line).values }
+{
+    let event = match line {
         Line::Insert {
             m,
             client: label,
@@ -135,6 +175,21 @@ pub(crate) fn said(words: &Words, line: Line) -> Option<Event>
             client: client(words, &label),
             process,
         },
+        line => return said_of_commands(words, line),
+    };
+    Some(event)
+}
+
+// The event of a line that gives a command as octets or deletes; none of any other line.
+fn said_of_commands(words: &Words, line: Line) -> Option<Event>
+    requires { are_known words.now (stated line) ≡ true }
+    ensures { option_map event_value result ≡ said_of_commands (stated line).verb words.now (stated line).values }
+{
+    let event = match line {
+        Line::Order { m, octets } => Event::Order {
+            m: member(words, &m),
+            octets,
+        },
         Line::Delete {
             m,
             client: label,
@@ -144,13 +199,12 @@ pub(crate) fn said(words: &Words, line: Line) -> Option<Event>
             client: client(words, &label),
             name,
         },
-        Line::Summary => Event::Summary,
-        Line::Traffic => Event::Traffic,
+        _ => return None,
     };
     Some(event)
 }
 
-// What a watcher asks for: the publisher of a label, or every one, and the prefix of names.
+// What a watcher or a mirror asks for: the publisher of a label, or every one, and the prefix of names.
 pub(crate) fn pattern(words: &Words, p: &Option<String>, prefix: Name) -> Pattern
     requires { are_members words.now (labels_in (publisher_value p.now ∷ [])) ≡ true }
     ensures { result ≡ pattern_for (publisher_number words.now (publisher_value p.now)) prefix }
@@ -167,10 +221,7 @@ pub(crate) fn member(words: &Words, label: &str) -> u32
     requires { has_label label.now words.now.members ≡ true }
     ensures { result ≡ party_number label.now words.now.members }
 {
-    let Some(number) = words.member(label) else {
-        unreachable!()
-    };
-    number
+    words.member(label).unwrap()
 }
 
 // The number of the client with this label.
@@ -178,8 +229,13 @@ fn client(words: &Words, label: &str) -> u32
     requires { has_label label.now words.now.clients ≡ true }
     ensures { result ≡ party_number label.now words.now.clients }
 {
-    let Some(number) = words.client(label) else {
-        unreachable!()
-    };
-    number
+    words.client(label).unwrap()
+}
+
+// The number of the mirror with this label.
+pub(crate) fn mirror(words: &Words, label: &str) -> u32
+    requires { is_mirror label.now words.now.mirrors ≡ true }
+    ensures { result ≡ mirror_number label.now words.now.mirrors }
+{
+    words.mirror(label).unwrap()
 }

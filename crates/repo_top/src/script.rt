@@ -1,20 +1,20 @@
-ghost use Rattle.std.specs.Prelude.{◌≡◌, ◌≤◌, ◌+◌, IfErr, IfOk, IfSome, OnErr, OnOk, Err};
+ghost use Rattle.std.specs.Prelude.{◌≡◌, ◌≤◌, ◌+◌, map, IfErr, IfOk, IfSome, OnErr, OnOk, Err};
 ghost use Rattle.std.specs.Option.{option_map};
 ghost use Rattle.bench_world.specs.Worlds.{world_of};
 ghost use Rattle.repo_io.specs.Outside.{HasRisen};
+ghost use Rattle.repo_top.specs.Mirrors.{mirror_as};
 ghost use Rattle.repo_top.specs.Judging.{given_by, says};
 ghost use Rattle.repo_top.specs.Progressing.{IsStop};
 ghost use Rattle.repo_top.specs.Story.{reached_behind, judged_next, nothing_reached};
 ghost use Rattle.repo_top.specs.Carrying.{Halts, IsScript, Stops, Took, reached, stop_status, stop_text};
 
 use crate::progress::Progress;
-use crate::refusal::Refusal;
 use crate::stop::Stop;
 use bench_net::{Draws, Net};
 use bench_world::World;
 use repo_io::{Sink, Status, write_whole};
 use script_lang::{LINES_LIMIT, SCRIPT_LIMIT};
-use script_report::{REPORT_LIMIT, put_foreign, put_refused};
+use script_report::{REPORT_LIMIT, Refusal, put_foreign, put_refused};
 use std::alloc::{AllocError, Global};
 use std::thread::Threads;
 
@@ -125,6 +125,7 @@ impl Script {
     pub(crate) fn into_world(self) -> Option<World>
         ensures world { option_map world_of result ≡ (reached self).state.world }
         ensures keys { IfSome result (λ world. world.keys ≡ (reached self).state.keys) }
+        ensures mirrors { IfSome result (λ world. map mirror_as world.mirrors ≡ (reached self).state.mirrors) }
     {
         self.progress.into_world()
     }

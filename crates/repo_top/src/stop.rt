@@ -1,10 +1,10 @@
 ghost use Rattle.std.specs.Prelude.{◌≡◌, Some, IsSome};
 ghost use Rattle.repo_top.specs.Stopping.{step_stop};
 
-use crate::refusal::Refusal;
 use bench_world::StepFault;
 use repo_watch::{TakeFault, WatchFault};
 use script_lang::{CheckFault, LineFault};
+use script_report::Refusal;
 use std::alloc::{AllocError, AllocFailed};
 
 // Why a line was not taken.

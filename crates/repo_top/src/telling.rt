@@ -3,7 +3,8 @@ ghost use Rattle.std.specs.List.{All};
 ghost use Rattle.script_report.specs.Pieces.{Appends};
 ghost use Rattle.bench_world.specs.EventValues.{told_value};
 ghost use Rattle.bench_world.specs.Steps.{NamesAll};
-ghost use Rattle.repo_top.specs.ToldTexts.{news_text, told_text};
+ghost use Rattle.repo_top.specs.ToldTexts.{listing_text, news_text, of_commands, of_group, of_insertions};
+ghost use Rattle.repo_top.specs.ToldTexts.{of_packets, of_parts, told_if, told_text};
 
 mod refusal_text;
 
@@ -16,9 +17,9 @@ use script_report::{
     put_block_published, put_catalogue, put_claim_none, put_claim_part, put_delete,
     put_deliver_steady, put_deliver_suppressed, put_dump_hex, put_dump_none, put_feed_kept,
     put_feed_refused, put_fetch, put_fire_early, put_fire_quiet, put_fire_sent, put_hear_refused,
-    put_hear_steady, put_hear_suppressed, put_insert, put_lose, put_order, put_publish,
-    put_restart, put_settle, put_status, put_summary, put_sync, put_told, put_traffic, put_vector,
-    put_withdraw,
+    put_hear_steady, put_hear_suppressed, put_insert, put_lose, put_mcatalogue, put_order,
+    put_publish, put_restart, put_settle, put_status, put_summary, put_sync, put_told, put_traffic,
+    put_vector, put_withdraw,
 };
 use std::alloc::AllocError;
 
@@ -32,7 +33,6 @@ pub(crate) fn put_happened(
     ensures { Appends (told_text (map string_bytes labels.now) (told_value happened.now))
         report.old.items report.new.items result }
 {
-    let alloc = *report.allocator();
     match happened {
         Happened::Publish {
             m,
@@ -56,6 +56,22 @@ pub(crate) fn put_happened(
         Happened::FireQuiet { m } => put_fire_quiet(report, label(labels, *m)),
         Happened::FireSent { m, k } => put_fire_sent(report, label(labels, *m), *k),
         Happened::Restart { m } => put_restart(report, label(labels, *m)),
+        _ => put_of_group(report, labels, happened),
+    }
+}
+
+// Writes the report of what members have or of the whole group, or of a kind below.
+fn put_of_group(
+    report: &mut Vec<u8>,
+    labels: &[String],
+    happened: &Happened,
+) -> Result<(), AllocError>
+    requires all { NamesAll (length labels.now) (told_value happened.now) }
+    ensures { Appends (told_if of_group (map string_bytes labels.now) (told_value happened.now))
+        report.old.items report.new.items result }
+{
+    let alloc = *report.allocator();
+    match happened {
         Happened::Vector { m, numbers, .. } => {
             put_vector(report, label(labels, *m), labels, numbers)
         }
@@ -63,6 +79,35 @@ pub(crate) fn put_happened(
             let publishers = publisher_labels(alloc, labels, entries)?;
             put_catalogue(report, label(labels, *m), *count, &publishers, entries)
         }
+        Happened::Settle { syncs, kept } => put_settle(report, *syncs, *kept),
+        Happened::Summary {
+            entries,
+            segments,
+            octets,
+            ..
+        } => put_summary(report, labels, entries, segments, octets),
+        Happened::Traffic {
+            syncs,
+            delivered,
+            attempts,
+            parts,
+            octets,
+        } => put_traffic(report, *syncs, *delivered, *attempts, *parts, *octets),
+        _ => put_of_parts(report, labels, happened),
+    }
+}
+
+// Writes the report of parts that are claimed, or of a kind below.
+fn put_of_parts(
+    report: &mut Vec<u8>,
+    labels: &[String],
+    happened: &Happened,
+) -> Result<(), AllocError>
+    requires all { NamesAll (length labels.now) (told_value happened.now) }
+    ensures { Appends (told_if of_parts (map string_bytes labels.now) (told_value happened.now))
+        report.old.items report.new.items result }
+{
+    match happened {
         Happened::ClaimPart {
             m,
             f,
@@ -94,13 +139,28 @@ pub(crate) fn put_happened(
         ),
         Happened::AnswerKept { m, f } => put_answer_kept(report, label(labels, *m), *f),
         Happened::AnswerNone { m, f } => put_answer_none(report, label(labels, *m), *f),
+        _ => put_of_packets(report, labels, happened),
+    }
+}
+
+// Writes the report of fetches or of packets that come or are asked for, or of a kind below.
+fn put_of_packets(
+    report: &mut Vec<u8>,
+    labels: &[String],
+    happened: &Happened,
+) -> Result<(), AllocError>
+    requires all { NamesAll (length labels.now) (told_value happened.now) }
+    ensures { Appends (told_if of_packets (map string_bytes labels.now) (told_value happened.now))
+        report.old.items report.new.items result }
+{
+    let alloc = *report.allocator();
+    match happened {
         Happened::Fetch {
             m,
             planned,
             kept,
             attempts,
         } => put_fetch(report, label(labels, *m), *planned, *kept, *attempts),
-        Happened::Settle { syncs, kept } => put_settle(report, *syncs, *kept),
         Happened::DumpHex { m, octets } => put_dump_hex(report, label(labels, *m), octets),
         Happened::DumpNone { m } => put_dump_none(report, label(labels, *m)),
         Happened::HearSteady { m } => put_hear_steady(report, label(labels, *m)),
@@ -120,20 +180,21 @@ pub(crate) fn put_happened(
             let refusal = part_refusal(alloc, refusal)?;
             put_feed_refused(report, label(labels, *m), *f, &refusal)
         }
-        Happened::Order {
-            m,
-            code,
-            process,
-            inserted,
-            deleted,
-        } => put_order(
-            report,
-            label(labels, *m),
-            *code,
-            *process,
-            *inserted,
-            *deleted,
-        ),
+        _ => put_of_insertions(report, labels, happened),
+    }
+}
+
+// Writes the report of an insertion and its blocks, or of a kind below.
+fn put_of_insertions(
+    report: &mut Vec<u8>,
+    labels: &[String],
+    happened: &Happened,
+) -> Result<(), AllocError>
+    requires all { NamesAll (length labels.now) (told_value happened.now) }
+    ensures { Appends (told_if of_insertions (map string_bytes labels.now) (told_value happened.now))
+        report.old.items report.new.items result }
+{
+    match happened {
         Happened::Insert {
             m,
             code,
@@ -162,6 +223,41 @@ pub(crate) fn put_happened(
             *inserted,
             *deleted,
         ),
+        Happened::Block300 { m } => put_block_300(report, label(labels, *m)),
+        Happened::Block404 { m } => put_block_404(report, label(labels, *m)),
+        Happened::Block200 { m } => put_block_200(report, label(labels, *m)),
+        Happened::BlockPublished { m, seq, sync } => {
+            put_block_published(report, label(labels, *m), *seq, *sync)
+        }
+        _ => put_of_commands(report, labels, happened),
+    }
+}
+
+// Writes the report of a command as octets or of a deletion, and nothing of any other event.
+fn put_of_commands(
+    report: &mut Vec<u8>,
+    labels: &[String],
+    happened: &Happened,
+) -> Result<(), AllocError>
+    requires all { NamesAll (length labels.now) (told_value happened.now) }
+    ensures { Appends (told_if of_commands (map string_bytes labels.now) (told_value happened.now))
+        report.old.items report.new.items result }
+{
+    match happened {
+        Happened::Order {
+            m,
+            code,
+            process,
+            inserted,
+            deleted,
+        } => put_order(
+            report,
+            label(labels, *m),
+            *code,
+            *process,
+            *inserted,
+            *deleted,
+        ),
         Happened::Delete {
             m,
             code,
@@ -176,25 +272,7 @@ pub(crate) fn put_happened(
             *inserted,
             *deleted,
         ),
-        Happened::Block300 { m } => put_block_300(report, label(labels, *m)),
-        Happened::Block404 { m } => put_block_404(report, label(labels, *m)),
-        Happened::Block200 { m } => put_block_200(report, label(labels, *m)),
-        Happened::BlockPublished { m, seq, sync } => {
-            put_block_published(report, label(labels, *m), *seq, *sync)
-        }
-        Happened::Summary {
-            entries,
-            segments,
-            octets,
-            ..
-        } => put_summary(report, labels, entries, segments, octets),
-        Happened::Traffic {
-            syncs,
-            delivered,
-            attempts,
-            parts,
-            octets,
-        } => put_traffic(report, *syncs, *delivered, *attempts, *parts, *octets),
+        _ => Ok(()),
     }
 }
 
@@ -220,4 +298,18 @@ pub(crate) fn put_news(
         &publishers,
         entries,
     )
+}
+
+// Writes what a mirror lists.
+pub(crate) fn put_mirrored(
+    report: &mut Vec<u8>,
+    labels: &[String],
+    mirror: &str,
+    entries: &[Entry],
+) -> Result<(), AllocError>
+    ensures { Appends (listing_text (map string_bytes labels.now) mirror.now entries.now)
+        report.old.items report.new.items result }
+{
+    let publishers = publisher_labels(*report.allocator(), labels, entries)?;
+    put_mcatalogue(report, mirror, entries.len() as u64, &publishers, entries)
 }

@@ -7,6 +7,7 @@ ghost use Rattle.repo_top.specs.Forms.{IsGenerated, IsInspected, InputIsRead, Is
 ghost use Rattle.repo_top.specs.Generator.{gen_text};
 ghost use Rattle.repo_top.specs.Inspection.{inspect_story};
 ghost use Rattle.repo_top.specs.Judging.{given_by};
+ghost use Rattle.repo_top.specs.Mirrors.{mirror_as};
 ghost use Rattle.repo_io.specs.Outside.{GainsText, GainsFront, HasRisen};
 ghost use Rattle.repo_top.specs.Taken.{FallsShortNear, IsStoppedAt, IsTakenNear, lines_so_far, lines_taken, report_of};
 ghost use Rattle.repo_top.specs.Taken.{taken};
@@ -56,7 +57,7 @@ pub fn run<R: Threads + Sync, S: Source, K: Sink, N: Net + Sync, D: Draws>(
     ensures read_to_end { result ≡ Status.Done → InputIsRead (asked_of (map string_bytes words.now))
         → IfSome (S.left source.old) (λ input. S.left source.new ≡ Some []) }
 
-    // On `Done` the world that is left is the story's, and there is none in any other case.
+    // On `Done` the world that is left is the story's, with its mirrors, and there is none in any other case.
     ensures world { result ≡ Status.Done
         → IfSome (asked_story (given_by (D.draw draws.now) (N.passes net.now))
         (asked_of (map string_bytes words.now)) (S.left source.old))
@@ -65,6 +66,10 @@ pub fn run<R: Threads + Sync, S: Source, K: Sink, N: Net + Sync, D: Draws>(
         → IfSome (asked_story (given_by (D.draw draws.now) (N.passes net.now))
         (asked_of (map string_bytes words.now)) (S.left source.old))
         (λ story. IfSome end.new (λ world. world.keys ≡ story.keys)) }
+    ensures mirrors { result ≡ Status.Done
+        → IfSome (asked_story (given_by (D.draw draws.now) (N.passes net.now))
+        (asked_of (map string_bytes words.now)) (S.left source.old))
+        (λ story. IfSome end.new (λ world. map mirror_as world.mirrors ≡ story.mirrors)) }
     ensures no_world { (result ≢ Status.Done) ⊎ ¬ IsRun (asked_of (map string_bytes words.now))
         → end.new ≡ None }
 

@@ -2,7 +2,7 @@
 use Rattle.std.proofs.Common.{◌≡◌, ◌≢◌, ◌<◌, ◌≤◌, ℕ, Bool, true, false, not, ◌&&◌, ◌||◌, eqb, List, [], ◌∷◌, nat_le}
 use Rattle.std.proofs.Common.{nat_lt, Result, Ok, Err, if◌then◌else◌, refl, arith, inl, inr}
 use Rattle.std.specs.List.{list_all}
-use Rattle.std.proofs.lemmas.Bool.{false≢true}
+use Rattle.std.proofs.lemmas.Bool.{false≢true, and_from}
 use Rattle.std.proofs.lemmas.Bool.Decides.{nat_tests, eqb_tells}
 
 pub and_right : (a b : Bool) → (a && b) ≡ true → b ≡ true
@@ -12,9 +12,6 @@ and_right false b h = absurd (false≢true h)
 pub and_left : (a b : Bool) → (a && b) ≡ true → a ≡ true
 and_left true b h = refl
 and_left false b h = absurd (false≢true h)
-
-pub and_both : (a b : Bool) → a ≡ true → b ≡ true → (a && b) ≡ true
-and_both a b p q = rw (p, q) refl
 
 pub or_left : (a b : Bool) → a ≡ true → (a || b) ≡ true
 or_left a b h = rw h refl
@@ -41,7 +38,7 @@ pub weaker : (p q : ℕ → Bool) → ((x : ℕ) → p x ≡ true → q x ≡ tr
     (xs : List ℕ) → list_all p xs ≡ true
     → list_all q xs ≡ true
 weaker p q f [] h = refl
-weaker p q f (x ∷ xs) h = and_both (q x) (list_all q xs) (f x (and_left (p x) _ h))
+weaker p q f (x ∷ xs) h = and_from (q x) (list_all q xs) (f x (and_left (p x) _ h))
     (weaker p q f xs (and_right (p x) _ h))
 
 -- where a test chose an answer

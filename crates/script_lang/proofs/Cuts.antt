@@ -6,26 +6,8 @@ use Rattle.std.specs.Option.{option_copied, option_map}
 use Rattle.std.specs.Str.Pattern.{FindsTextPrefix, StripsPrefix}
 use Rattle.std.proofs.lemmas.Str.Pattern.{split_parts, IsSplitOnceResult}
 use Rattle.ndn_name.specs.UriText.{behind_word, cut_at}
+use Rattle.ndn_name.proofs.ComputedNames.{behind-append, is_behind}
 use Rattle.script_lang.proofs.Conditions.{other_test}
-
-pub behind_front : (front text : List ℕ) → behind_word front (front ++ text) ≡ Some text
-unfolding behind_word
-behind_front [] text = refl
-behind_front (c ∷ front) text = rw (eq-eqb c c refl) (behind_front front text)
-
-pub front_of : (front text rest : List ℕ) → behind_word front text ≡ Some rest → text ≡ front ++ rest
-unfolding behind_word
-front_of [] text rest h = cc
-front_of (c ∷ front) [] rest h = cc
-front_of (c ∷ front) (d ∷ text) rest h = elim (eqb_tells c d) [
-  | inl p ↦ (let e = front_of front text rest (rw p.0 at h) in same c d p.1 text (front ++ rest) e)
-  | inr p ↦ absurd (none rest (rw p.0 at h))
-] where
-  same : (c d : ℕ) → c ≡ d → (s t : List ℕ) → s ≡ t → d ∷ s ≡ c ∷ t
-  same c d e s t f = cc
-
-  none : (rest : List ℕ) → None ≡ Some rest → ⊥
-  none rest h = cc
 
 pub cut_found : (c : ℕ) (xs ys : List ℕ) → ((i : ℕ) → i < length xs → get_or xs i 0 ≢ c)
     → cut_at c (xs ++ c ∷ ys) ≡ Some (xs, ys)
@@ -54,8 +36,8 @@ pub stripped : (front text : List ℕ) (r : Option (Bor (List ℕ)))
 stripped front text None lacks = go (behind_word front text) refl where
   go : (o : Option (List ℕ)) → behind_word front text ≡ o → None ≡ behind_word front text
   go None e = sym e
-  go (Some rest) e = absurd (lacks rest (front_of front text rest e))
-stripped front text (Some x) h = rw h.2 (sym (ap (behind_word front) h.1.1 ∙ behind_front front (drop h.0 text)))
+  go (Some rest) e = absurd (lacks rest (is_behind front text rest e))
+stripped front text (Some x) h = rw h.2 (sym (ap (behind_word front) h.1.1 ∙ behind-append front (drop h.0 text)))
 
 pub cut_once : (c : ℕ) (bs : List ℕ) (r : Option (Bor (List ℕ) × Bor (List ℕ))) → IsSplitOnceResult c bs
     r → c < 128

@@ -2,13 +2,13 @@
 use Rattle.std.proofs.Common.{◌≡◌, ℕ, Bool, true, false, List, [], ◌∷◌, ◌++◌, map, Some, if◌then◌else◌, refl, sym, ap}
 use Rattle.std.proofs.Common.{◌∙◌, arith}
 use Rattle.std.specs.Str.{bytes_eq}
-use Rattle.std.proofs.lemmas.Slice.Eq.{bytes_eq-Decides}
+use Rattle.ndn_name.proofs.Heads.{is_word}
 use Rattle.script_lang.specs.declared.verb.Verb.{Verb}
-use Rattle.script_lang.specs.declared.verb.Verb.TheVariants.{Group, Member, Client, Publish, Withdraw, Deliver, Sync}
-use Rattle.script_lang.specs.declared.verb.Verb.TheVariants.{Advance, Fire, Restart, Vector, Catalogue, Claim, Lose}
-use Rattle.script_lang.specs.declared.verb.Verb.TheVariants.{Answer, Fetch, Settle, Dump, Hear, Order, Ask, Feed}
-use Rattle.script_lang.specs.declared.verb.Verb.TheVariants.{Insert, Block, Status, Delete, Watch, Told, Summary}
-use Rattle.script_lang.specs.declared.verb.Verb.TheVariants.{Traffic}
+use Rattle.script_lang.specs.declared.verb.Verb.TheVariants.{Group, Member, Client, Mirror, Publish, Withdraw}
+use Rattle.script_lang.specs.declared.verb.Verb.TheVariants.{Deliver, Sync, Advance, Fire, Restart, Vector, Catalogue}
+use Rattle.script_lang.specs.declared.verb.Verb.TheVariants.{Claim, Lose, Answer, Fetch, Settle, Dump, Hear, Order, Ask}
+use Rattle.script_lang.specs.declared.verb.Verb.TheVariants.{Feed, Insert, Block, Status, Delete, Watch, Told, Mdeliver}
+use Rattle.script_lang.specs.declared.verb.Verb.TheVariants.{Mfetch, Mcatalogue, Summary, Traffic}
 use Rattle.script_lang.specs.Forms.{form}
 use Rattle.script_lang.specs.Lines.{verb_named, verb_of_word, verbs, says_nothing}
 use Rattle.script_lang.specs.Texts.{IsWord}
@@ -18,6 +18,7 @@ unfolding verb_named
 verb_back Group = refl
 verb_back Member = refl
 verb_back Client = refl
+verb_back Mirror = refl
 verb_back Publish = refl
 verb_back Withdraw = refl
 verb_back Deliver = refl
@@ -43,6 +44,9 @@ verb_back Status = refl
 verb_back Delete = refl
 verb_back Watch = refl
 verb_back Told = refl
+verb_back Mdeliver = refl
+verb_back Mfetch = refl
+verb_back Mcatalogue = refl
 verb_back Summary = refl
 verb_back Traffic = refl
 
@@ -50,6 +54,7 @@ pub verb_is_word : (verb : Verb) → IsWord (form verb).word
 verb_is_word Group = record { some = omega arith; graphic = refl }
 verb_is_word Member = record { some = omega arith; graphic = refl }
 verb_is_word Client = record { some = omega arith; graphic = refl }
+verb_is_word Mirror = record { some = omega arith; graphic = refl }
 verb_is_word Publish = record { some = omega arith; graphic = refl }
 verb_is_word Withdraw = record { some = omega arith; graphic = refl }
 verb_is_word Deliver = record { some = omega arith; graphic = refl }
@@ -75,6 +80,9 @@ verb_is_word Status = record { some = omega arith; graphic = refl }
 verb_is_word Delete = record { some = omega arith; graphic = refl }
 verb_is_word Watch = record { some = omega arith; graphic = refl }
 verb_is_word Told = record { some = omega arith; graphic = refl }
+verb_is_word Mdeliver = record { some = omega arith; graphic = refl }
+verb_is_word Mfetch = record { some = omega arith; graphic = refl }
+verb_is_word Mcatalogue = record { some = omega arith; graphic = refl }
 verb_is_word Summary = record { some = omega arith; graphic = refl }
 verb_is_word Traffic = record { some = omega arith; graphic = refl }
 
@@ -82,6 +90,7 @@ pub speaks : (verb : Verb) (rest : List ℕ) → says_nothing ((form verb).word 
 speaks Group rest = refl
 speaks Member rest = refl
 speaks Client rest = refl
+speaks Mirror rest = refl
 speaks Publish rest = refl
 speaks Withdraw rest = refl
 speaks Deliver rest = refl
@@ -107,13 +116,13 @@ speaks Status rest = refl
 speaks Delete rest = refl
 speaks Watch rest = refl
 speaks Told rest = refl
+speaks Mdeliver rest = refl
+speaks Mfetch rest = refl
+speaks Mcatalogue rest = refl
 speaks Summary rest = refl
 speaks Traffic rest = refl
 
 -- ---- a word that has a verb is that verb's
-
-same_word : (a b : List ℕ) → bytes_eq a b ≡ true → a ≡ b
-same_word a b h = (bytes_eq-Decides a b).0 h
 
 one_of : (vs : List Verb) (word : List ℕ) (verb : Verb) → verb_named
     (map (λ v. ((form v).word, v)) vs) word ≡ Some verb
@@ -125,7 +134,7 @@ one_of (v ∷ vs) word verb h = go (bytes_eq (form v).word word) refl h (one_of 
       → (if b then Some v else verb_named (map (λ x. ((form x).word, x)) vs) word) ≡ Some verb
       → (verb_named (map (λ x. ((form x).word, x)) vs) word ≡ Some verb → word ≡ (form verb).word)
       → word ≡ (form verb).word
-  go true e k others = (let s : v ≡ verb = cc in sym (same_word (form v).word word e) ∙ ap (λ x. (form x).word) s)
+  go true e k others = (let s : v ≡ verb = cc in sym (is_word (form v).word word e) ∙ ap (λ x. (form x).word) s)
   go false e k others = others k
 
 pub verb_word : (word : List ℕ) (verb : Verb) → verb_of_word word ≡ Some verb → word ≡ (form verb).word

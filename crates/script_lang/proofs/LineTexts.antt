@@ -4,6 +4,7 @@ use Rattle.std.proofs.Common.{[], ◌∷◌, ◌++◌, length, take, slice_index
 use Rattle.std.proofs.Common.{if◌then◌else◌, refl, sym, ap, subst, ◌∙◌, arith, length-append}
 use Rattle.std.specs.Prelude.{◌↔◌, replicate}
 use Rattle.std.specs.List.{list_all}
+use Rattle.std.proofs.lemmas.Bool.{and_from}
 use Rattle.std.proofs.lemmas.Bool.Decides.{nat_tests}
 use Rattle.std.proofs.Math.Seq.{get_or-append_seam, take-append_seam, take-suc, take-length}
 use Rattle.script_lang.specs.declared.line_fault.LineFault.{LineFault}
@@ -16,7 +17,7 @@ use Rattle.script_lang.specs.Lines.{word_then, values_of, are_within, stated_of,
 use Rattle.script_lang.specs.Lines.{spaced_words, says_nothing, is_printable, mapped_line, line_in, line_within}
 use Rattle.script_lang.specs.Lines.{ends_with, without_last_octet, without_return, line_of}
 use Rattle.script_lang.specs.Texts.{AreOf, AreWordTexts, IsSpaced, IsEnded, by_input, by_feed, by_return, IsLineText}
-use Rattle.script_lang.proofs.Conditions.{and_both, chosen, never, same_ok, and_left, and_right, le_test, le_tested}
+use Rattle.script_lang.proofs.Conditions.{chosen, never, same_ok, and_left, and_right, le_test, le_tested}
 use Rattle.script_lang.proofs.Conditions.{same_tested, some_test}
 use Rattle.script_lang.proofs.Spaces.{spaced_is, spaced_printable, is_spaced}
 use Rattle.script_lang.proofs.FirstWords.{verb_back, verb_word, speaks}
@@ -189,15 +190,16 @@ one_shorter c front = omega (arith, length-append front (c ∷ []))
 at_end : (c : ℕ) (front : List ℕ) → ends_with c (front ++ c ∷ []) ≡ true
 at_end c front =
     let more : 0 < length (front ++ c ∷ []) = omega (arith, length-append front (c ∷ [])) in
-    and_both _ _ (some_test (length (front ++ c ∷ [])) more)
+    and_from _ _ (some_test (length (front ++ c ∷ [])) more)
     (eq-eqb (slice_index (front ++ c ∷ []) (length (front ++ c ∷ []) - 1)) c
     (ap (slice_index (front ++ c ∷ [])) (one_shorter c front) ∙ get_or-append_seam front c [] 0))
 
 gone : (c : ℕ) (front : List ℕ) → without_last_octet (front ++ c ∷ []) ≡ front
 gone c front = ap (λ n. take n (front ++ c ∷ [])) (one_shorter c front) ∙ take-append_seam front (c ∷ [])
 
-element_at : (p : ℕ → Bool) (xs : List ℕ) (i : ℕ) → list_all p xs ≡ true → i < length xs → p
-    (slice_index xs i) ≡ true
+-- each element passes what the whole list passes
+pub element_at : (p : ℕ → Bool) (xs : List ℕ) (i : ℕ) → list_all p xs ≡ true → i < length xs
+    → p (slice_index xs i) ≡ true
 element_at p [] i h lt = absurd (omega arith)
 element_at p (x ∷ xs) zero h lt = and_left (p x) _ h
 element_at p (x ∷ xs) (suc i) h lt = element_at p xs i (and_right (p x) _ h) (omega arith)

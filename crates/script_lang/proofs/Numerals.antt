@@ -1,21 +1,20 @@
 -- Numerals are read as numbers.
-use Rattle.std.proofs.Common.{rules, ◌∙◌, suc, zero, not, ◌||◌, ◌%◌, get_or, ap, nat_le, ◌≡◌, ◌≢◌, ◌<◌, ◌≤◌, ◌^◌, ◌+◌}
-use Rattle.std.proofs.Common.{ℕ, Bool, true, false, List, [], ◌∷◌, length, arith, refl, eqb, inl, inr}
+use Rattle.std.proofs.Common.{get_or, nat_le, ◌≡◌, ◌≢◌, ◌<◌, ◌≤◌, ◌^◌}
+use Rattle.std.proofs.Common.{ℕ, true, List, [], ◌∷◌, length, arith, refl}
 use Rattle.std.specs.Char.{is_ascii_digit, digit_value}
 use Rattle.std.specs.List.{list_all}
 use Rattle.std.specs.Str.Parse.{digits_value, AllDigits, IsNumeral, without_leading_plus}
 use Rattle.std.proofs.lemmas.Int.Digits.{digits_value-lt}
-use Rattle.std.proofs.lemmas.Bool.Decides.{nat_tests, eqb_tells}
-use Rattle.std.proofs.lemmas.Bool.{false≢true}
+use Rattle.std.proofs.lemmas.Bool.Decides.{nat_tests}
+use Rattle.std.proofs.lemmas.Bool.{false≢true, and_from}
 use Rattle.std.proofs.lemmas.Grind.{common_steps}
 use Rattle.std.proofs.Math.Nat.{pow-le-pow_right}
 use Rattle.std.specs.Fmt.{decimal}
-use Rattle.std.proofs.lemmas.Fmt.{decimal_by_steps, length-decimal-le, decimal_nonempty, first_decimal, decimal_digit}
+use Rattle.std.proofs.lemmas.Fmt.{length-decimal-le, decimal_nonempty}
 use Rattle.std.proofs.lemmas.Fmt.{decimal_is_IsNumeral, decimal-digits_value}
-use Rattle.std.proofs.lemmas.List.Folds.{list_all-append}
-use Rattle.std.proofs.lemmas.Str.Parse.{IsNumeralModel, numerals_by_value}
+use Rattle.ndn_name.proofs.ComputedValues.{numerals, decimal_digits, first_of_decimal, zero_alone, zero_first}
 use Rattle.script_lang.specs.Kinds.{is_numeral}
-use Rattle.script_lang.proofs.Conditions.{and_left, and_right, and_both, le_test, other_test}
+use Rattle.script_lang.proofs.Conditions.{and_left, and_right, le_test, other_test}
 
 digit_below : (c : ℕ) → is_ascii_digit c ≡ true → digit_value c < 10
 digit_below c h = grind (arith, nat_tests)
@@ -31,7 +30,7 @@ all_digits (c ∷ cs) h = (
       (and_right (is_ascii_digit c) _ h),
 )
 
-are_digits : (word : List ℕ) → is_numeral word ≡ true → list_all is_ascii_digit word ≡ true
+pub are_digits : (word : List ℕ) → is_numeral word ≡ true → list_all is_ascii_digit word ≡ true
 are_digits [] h = refl
 are_digits (first ∷ others) h = and_right _ (list_all is_ascii_digit (first ∷ others)) h
 
@@ -64,36 +63,13 @@ is_parsed (c ∷ cs) h =
 
 -- ---- numbers as they are printed
 
-digit_of : (k : ℕ) → k < 10 → is_ascii_digit (48 + k) ≡ true
-digit_of k lt = grind (arith, nat_tests)
-
-pub decimal_digits : (n : ℕ) → n < 2 ^ 64 → list_all is_ascii_digit (decimal n) ≡ true
-decimal_digits n small = decimal_by_steps (λ _ ds. list_all is_ascii_digit ds ≡ true)
-    (λ n lt. and_both _ true (digit_of n lt) refl)
-    (λ n ds le h. list_all-append is_ascii_digit ds ((48 + n % 10) ∷ []) ∙ and_both _ _ h
-    (and_both _ true (digit_of (n % 10) (omega arith)) refl)) n small
-
-zero_alone : (c n : ℕ) → (c ≡ 48 → n ≡ 0) → (not (eqb c 48) || eqb n 0) ≡ true
-zero_alone c n h = elim (eqb_tells c 48) [
-  | inl p ↦ rw (h p.1)
-      (or_true (not (eqb c 48)))
-  | inr p ↦ rw p.0 refl
-] where
-  or_true : (b : Bool) → (b || true) ≡ true
-  or_true true = refl
-  or_true false = refl
-
 numeral_from : (ds : List ℕ) → 0 < length ds → length ds ≤ 18 → list_all is_ascii_digit ds ≡ true
     → (get_or ds 0 0 ≡ 48 → length ds ≡ 1) → is_numeral ds ≡ true
 numeral_from [] some short digits first = absurd (omega arith)
 numeral_from (c ∷ cs) some short digits first =
-    and_both _ (list_all is_ascii_digit (c ∷ cs))
-    (and_both (nat_le (length cs) 17) _ (le_test (length cs) 17 (omega arith))
+    and_from _ (list_all is_ascii_digit (c ∷ cs))
+    (and_from (nat_le (length cs) 17) _ (le_test (length cs) 17 (omega arith))
     (zero_alone c (length cs) (λ h. (let one = first h in omega arith)))) digits
-
-first_of_decimal : (n : ℕ) → n < 2 ^ 64 → get_or (decimal n) 0 0 ≡ 48 → length (decimal n) ≡ 1
-first_of_decimal zero small h = ap length (decimal_digit 0 (omega arith))
-first_of_decimal (suc n) small h = let more = first_decimal (suc n) (omega arith) small in absurd (omega arith)
 
 pub decimal_numeral : (n : ℕ) → n < 10 ^ 18 → is_numeral (decimal n) ≡ true
 decimal_numeral n small =
@@ -106,16 +82,10 @@ decimal_value n small = let low : n < 2 ^ 64 = omega arith in (decimal_is_IsNume
 
 -- ---- and back
 
-own : IsNumeralModel (λ ds. list_all is_ascii_digit ds ≡ true) (digits_value 10)
-own = numerals_by_value _ (search rules)
-
-zero_first : (c n : ℕ) → (not (eqb c 48) || eqb n 0) ≡ true → c ≡ 48 → n ≡ 0
-zero_first c n h e = grind (arith, nat_tests)
-
 pub printed_again : (word : List ℕ) → is_numeral word ≡ true → decimal (digits_value 10 word) ≡ word
 printed_again [] h = absurd (false≢true h)
 printed_again (c ∷ cs) h =
     let low = below_limit (c ∷ cs) h in
-    decimal-digits_value own (c ∷ cs) (are_digits (c ∷ cs) h) (omega arith)
+    decimal-digits_value numerals (c ∷ cs) (are_digits (c ∷ cs) h) (omega arith)
     (λ e. (let none : length cs ≡ 0 = zero_first c (length cs)
     (and_right _ _ (and_left _ _ h)) e in omega arith)) (omega (arith, low))

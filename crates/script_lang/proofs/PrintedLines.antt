@@ -1,12 +1,12 @@
 -- A line that is printed from its values is read back.
-use Rattle.std.proofs.Common.{◌≡◌, ◌/◌, ◌%◌, ◌<◌, ◌≤◌, ◌^◌, ℕ, zero, suc, Bool, true, List, [], ◌∷◌, ◌++◌, length}
+use Rattle.std.proofs.Common.{◌≡◌, ◌/◌, ◌%◌, ◌<◌, ◌≤◌, ◌^◌, ℕ, suc, true, List, [], ◌∷◌, ◌++◌, length}
 use Rattle.std.proofs.Common.{slice_index, Some, Ok, refl, arith, inl, inr}
 use Rattle.std.specs.Fmt.{decimal}
 use Rattle.std.specs.List.{list_all}
 use Rattle.std.specs.Char.{is_ascii_digit, is_ascii_lowercase, is_ascii_graphic}
 use Rattle.std.proofs.lemmas.Fmt.{decimal_nonempty}
 use Rattle.std.proofs.lemmas.Bool.Decides.{nat_tests}
-use Rattle.std.proofs.lemmas.Bool.{false≢true}
+use Rattle.std.proofs.lemmas.Bool.{false≢true, and_from}
 use Rattle.hex.specs.Hex.{encode_lower, encode_with, lower_digits, IsBytes}
 use Rattle.hex.proofs.HexLemmas.{decode_of-encode_lower, length-encode_with}
 use Rattle.ndn_name.specs.Names.{Component, IsName}
@@ -20,11 +20,11 @@ use Rattle.script_lang.specs.Forms.{Stated, form}
 use Rattle.script_lang.specs.Lines.{are_within, line_of}
 use Rattle.script_lang.specs.Texts.{IsOfKind, IsWordText, digits, AreOf, AreWordTexts, is_graphic, IsWord, IsSpaced}
 use Rattle.script_lang.specs.Texts.{by_input, word_text, words_text, printed_line, IsPlainValue, ArePlainValues}
-use Rattle.script_lang.proofs.Conditions.{and_left, and_right, and_both, or_left, weaker}
-use Rattle.script_lang.proofs.Numerals.{decimal_digits}
+use Rattle.script_lang.proofs.Conditions.{and_left, and_right, or_left, weaker}
+use Rattle.ndn_name.proofs.ComputedValues.{decimal_digits}
 use Rattle.script_lang.proofs.HexTexts.{decoded_digits}
 use Rattle.script_lang.proofs.FirstWords.{verb_is_word}
-use Rattle.script_lang.proofs.LineTexts.{line_texts}
+use Rattle.script_lang.proofs.LineTexts.{element_at, line_texts}
 use Rattle.ndn_name.proofs.VisibleTexts.{uri-visible, uri-some}
 
 -- ---- what is printed is a word
@@ -40,7 +40,7 @@ visible_graphic c h = grind (arith, nat_tests)
 
 label_octets : (text : List ℕ) → is_label text ≡ true → list_all is_label_octet text ≡ true
 label_octets [] h = absurd (false≢true h)
-label_octets (c ∷ cs) h = and_both (is_label_octet c) _
+label_octets (c ∷ cs) h = and_from (is_label_octet c) _
     (or_left (is_ascii_lowercase c) (is_ascii_digit c)
     (and_left (is_ascii_lowercase c) _ (and_left _ _ h))) (and_right _ _ h)
 
@@ -51,12 +51,6 @@ label_is_word (c ∷ cs) h = record {
   graphic = weaker is_label_octet is_graphic label_graphic (c ∷ cs) (label_octets (c ∷ cs) h);
 }
 
-element_at : (p : ℕ → Bool) (xs : List ℕ) (i : ℕ) → list_all p xs ≡ true → i < length xs → p
-    (slice_index xs i) ≡ true
-element_at p [] i h lt = absurd (omega arith)
-element_at p (x ∷ xs) zero h lt = and_left (p x) _ h
-element_at p (x ∷ xs) (suc i) h lt = element_at p xs i (and_right (p x) _ h) (omega arith)
-
 hex_digit : (k : ℕ) → k < 16 → is_graphic (slice_index lower_digits k) ≡ true
 hex_digit k lt = element_at is_graphic lower_digits k refl lt
 
@@ -65,8 +59,8 @@ unfolding encode_with
 hex_graphic [] bytes = refl
 hex_graphic (b ∷ bs) bytes =
     let low : b < 256 = bytes 0 in
-    and_both _ _ (hex_digit (b / 16) (omega arith))
-    (and_both _ _ (hex_digit (b % 16) (omega arith)) (hex_graphic bs (λ i. bytes (suc i))))
+    and_from _ _ (hex_digit (b / 16) (omega arith))
+    (and_from _ _ (hex_digit (b % 16) (omega arith)) (hex_graphic bs (λ i. bytes (suc i))))
 
 printed_uri : (name : List Component) → IsName name → HasUri name (uri name)
 printed_uri name h = (parts_at 0 name, uri-is name h, parts-name 0 name)

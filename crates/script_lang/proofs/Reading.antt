@@ -2,7 +2,7 @@
 use Rattle.std.proofs.Common.{◌≡◌, ℕ, Bool, true, false, List, [], ◌∷◌, Result, Ok, Err, refl, if◌then◌else◌}
 use Rattle.script_lang.specs.declared.line_fault.LineFault.{LineFault}
 use Rattle.script_lang.specs.declared.line_fault.LineFault.TheVariants.{Syntax, Limit, NoMemory}
-use Rattle.script_lang.specs.Kinds.{Kind, Value, word_of, mapped}
+use Rattle.script_lang.specs.Kinds.{Kind, Value, word_of}
 use Rattle.script_lang.specs.Lines.{with_value, without_value, values_of, stated_of}
 use Rattle.script_lang.specs.Reading.{Gives, FaultTells, Unread, left_of, KeepsValue, ReadsWord, with_all}
 use Rattle.script_lang.specs.declared.verb.Verb.{Verb}
@@ -61,14 +61,6 @@ reads view kind word before between behind instead (Err Syntax) result at_word g
     rw (keeps, at_word) (λ kinds. took_syntax between.over kind kinds word between.words gives)
 reads view kind word before between behind instead (Err NoMemory) result at_word gives keeps =
     rw keeps (λ kinds. tt)
-
--- a value of a type as a value of any
-pub gives_mapped : {X A B : Type 0} (view : X → A) (f : A → B) (read : Result X LineFault)
-    (found : Result A LineFault) → Gives view read found → Gives (λ x. f (view x)) read (mapped f found)
-gives_mapped view f (Ok x) found gives = rw gives refl
-gives_mapped view f (Err Limit) found gives = rw gives refl
-gives_mapped view f (Err Syntax) found gives = rw gives refl
-gives_mapped view f (Err NoMemory) found gives = tt
 
 all_fault : (values : List Value) (fault : LineFault) → with_all values (Err fault) ≡ Err fault
 all_fault [] fault = refl

@@ -14,7 +14,7 @@ use Rattle.script_lang.specs.declared.line_fault.LineFault.TheVariants.{Syntax, 
 use Rattle.script_lang.specs.declared.check_fault.CheckFault.{CheckFault}
 use Rattle.script_lang.specs.declared.check_fault.CheckFault.TheVariants as refusal
 use Rattle.script_lang.specs.declared.verb.Verb.{Verb}
-use Rattle.script_lang.specs.declared.verb.Verb.TheVariants.{Group, Member, Client}
+use Rattle.script_lang.specs.declared.verb.Verb.TheVariants.{Group, Member, Client, Mirror}
 use Rattle.script_lang.specs.Kinds.{Kind, LABEL, PUBLISHER, N, URI, HEX, CONTENT, Value, Text, Anyone, Number, Named}
 use Rattle.script_lang.specs.Kinds.{Octets, label_of, publisher_of}
 use Rattle.script_lang.specs.Kinds.{is_label, is_numeral, numeral_of, octets_within, decoded_within, hex_of, filled}
@@ -27,7 +27,7 @@ use Rattle.script_lang.specs.Lines.{without_return}
 use Rattle.script_lang.specs.Checking.{Declared, Party, after_group, after_declaration, after_event, after_by}
 use Rattle.script_lang.specs.Checking.{after_line}
 use Rattle.script_lang.specs.Checking.{may_declare, declared_then, is_there, are_known, adds, are_within_limits}
-use Rattle.script_lang.specs.Checking.{with_totals, party}
+use Rattle.script_lang.specs.Checking.{with_totals, party, are_members, is_label_there, labels_in, may_mirror}
 
 -- ---- the text of a line
 
@@ -196,6 +196,14 @@ may_err d p count =
     (refused (is_there d p) refusal.Duplicate _ (λ e. absurd cc)
     (refused (nat_le 16 count) refusal.Limit _ (λ e. absurd cc) tt)))
 
+mirror_may_err : (d : Declared) (label : List ℕ) (publishers : List (List ℕ))
+    → IfErr (may_mirror d label publishers) IsOfOthers
+mirror_may_err d label publishers =
+    refused (not d.group) refusal.NoGroup _ (λ e. absurd cc) (refused d.events refusal.Late _ (λ e. absurd cc)
+    (refused (not (are_members d publishers)) refusal.UnknownLabel _ (λ e. absurd cc)
+    (refused (is_label_there d label) refusal.Duplicate _ (λ e. absurd cc)
+    (refused (nat_le 4 (length d.mirrors)) refusal.Limit _ (λ e. absurd cc) tt))))
+
 declared_err : (r : Result (Unit {0}) CheckFault) (after : Declared) → IfErr r IsOfOthers
     → IfErr (declared_then r after) IsOfOthers
 declared_err (Ok x) after h = tt
@@ -241,11 +249,37 @@ client_err d values h =
     rw h.is (declared_err (may_declare d (party h.label h.node) (length d.clients)) _
     (may_err d (party h.label h.node) (length d.clients)))
 
+-- What a mirror's line states.
+record StatesMirror (values : List Value) : Type 0 where
+  label : List ℕ
+  publisher : Value
+  prefix : Value
+  is : values ≡ Text label ∷ publisher ∷ prefix ∷ []
+
+states_mirror : (values : List Value) → AreShaped (LABEL ∷ PUBLISHER ∷ URI 0 400 ∷ []) values → StatesMirror values
+states_mirror (Text label ∷ publisher ∷ prefix ∷ []) h =
+    record { label = label; publisher = publisher; prefix = prefix; is = refl }
+states_mirror (Text label ∷ publisher ∷ prefix ∷ other ∷ values) h = absurd h.1.1.1
+states_mirror (Text label ∷ publisher ∷ []) h = absurd h.1.1
+states_mirror (Text label ∷ []) h = absurd h.1
+states_mirror (Anyone ∷ values) h = absurd h.0
+states_mirror (Number n ∷ values) h = absurd h.0
+states_mirror (Named name ∷ values) h = absurd h.0
+states_mirror (Octets octets ∷ values) h = absurd h.0
+states_mirror [] h = absurd h
+
+mirror_err : (d : Declared) (values : List Value) → StatesMirror values
+    → IfErr (after_declaration d Mirror values) IsOfOthers
+mirror_err d values h =
+    rw h.is (declared_err (may_mirror d h.label (labels_in (h.publisher ∷ []))) _
+    (mirror_may_err d h.label (labels_in (h.publisher ∷ []))))
+
 by_others : (d : Declared) (s : Stated) (verb : Verb) (values : List Value) → AreShaped (form verb).kinds values
     → IfErr (after_by d s verb values) IsOfOthers
 by_others d s Group values h = group_err d
 by_others d s Member values h = member_err d values (states_party values h)
 by_others d s Client values h = client_err d values (states_party values h)
+by_others d s Mirror values h = mirror_err d values (states_mirror values h)
 by_others d s verb values h = event_err d s
 
 pub checked_for_a_cause : (d : Declared) (s : Stated) → AreShaped (form s.verb).kinds s.values

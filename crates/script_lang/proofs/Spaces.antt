@@ -3,11 +3,12 @@ use Rattle.std.proofs.Common.{◌≡◌, ◌⊎◌, ℕ, zero, suc, Bool, true, 
 use Rattle.std.proofs.Common.{filter, refl, sym, ap, subst, ◌∙◌, arith, inl, inr, append-nil}
 use Rattle.std.specs.Prelude.{replicate}
 use Rattle.std.specs.List.{list_all, slice_split}
+use Rattle.std.proofs.lemmas.Bool.{and_from}
 use Rattle.std.proofs.lemmas.Bool.Decides.{nat_tests, eqb_tells}
 use Rattle.std.proofs.lemmas.List.Folds.{list_all-append}
 use Rattle.script_lang.specs.Lines.{spaced_words, is_printable}
 use Rattle.script_lang.specs.Texts.{is_graphic, IsSpaced}
-use Rattle.script_lang.proofs.Conditions.{and_left, and_right, and_both, some_test, weaker}
+use Rattle.script_lang.proofs.Conditions.{and_left, and_right, some_test, weaker}
 
 abbrev is_space : ℕ → Bool
 is_space octet = eqb octet 32
@@ -77,9 +78,9 @@ spaced_printable [] text h = rw h.1 (spaces_printable h.0)
 spaced_printable (word ∷ words) text h =
     ap (list_all is_printable) h.2
     ∙ list_all-append is_printable (replicate h.0 32) (word ++ h.1)
-    ∙ and_both _ _ (spaces_printable h.0)
+    ∙ and_from _ _ (spaces_printable h.0)
     (list_all-append is_printable word h.1
-    ∙ and_both _ _ (weaker is_graphic is_printable graphic_printable word h.3.graphic)
+    ∙ and_from _ _ (weaker is_graphic is_printable graphic_printable word h.3.graphic)
     (elim h.4 [
       | inl end ↦ rw end.0 refl
       | inr more ↦ rw more.1 (spaced_printable words more.0 more.2)
@@ -160,7 +161,7 @@ split_text (c ∷ cs) h = elim (eqb_tells c 32) [
       rest = s.begins.rest;
       is = ap
           (λ (t : List ℕ). c ∷ t) s.begins.is;
-      graphic = and_both _ _ g s.begins.graphic;
+      graphic = and_from _ _ g s.begins.graphic;
       behind = s.begins.behind;
     };
   }

@@ -13,6 +13,8 @@ pub states_its_form : (l : Line) → AreShaped (form (stated l).verb).kinds (sta
 states_its_form (line.Group _) = (tt, tt)
 states_its_form (line.Member _ _ _) = (tt, (tt, (tt, tt)))
 states_its_form (line.Client _ _ _) = (tt, (tt, (tt, tt)))
+states_its_form (line.Mirror _ None _) = (tt, (tt, (tt, tt)))
+states_its_form (line.Mirror _ (Some _) _) = (tt, (tt, (tt, tt)))
 states_its_form (line.Publish _ _ _ _) = (tt, (tt, (tt, (tt, tt))))
 states_its_form (line.Withdraw _ _) = (tt, (tt, tt))
 states_its_form (line.Deliver _ _) = (tt, (tt, tt))
@@ -39,6 +41,9 @@ states_its_form (line.Insert _ _ _ _ _) = (tt, (tt, (tt, (tt, (tt, tt)))))
 states_its_form (line.Watch _ None _) = (tt, (tt, (tt, tt)))
 states_its_form (line.Watch _ (Some _) _) = (tt, (tt, (tt, tt)))
 states_its_form (line.Told _ _) = (tt, (tt, tt))
+states_its_form (line.Mdeliver _ _) = (tt, (tt, tt))
+states_its_form (line.Mfetch _ _ _ _) = (tt, (tt, (tt, (tt, tt))))
+states_its_form (line.Mcatalogue _) = (tt, tt)
 states_its_form line.Summary = tt
 states_its_form line.Traffic = tt
 

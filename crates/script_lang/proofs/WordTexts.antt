@@ -25,10 +25,11 @@ use Rattle.script_lang.specs.Kinds.{mapped, is_label, label_of, is_numeral, nume
 use Rattle.script_lang.specs.Kinds.{hex_of, filled, filled_of, content_by, content_of, name_within, uri_of}
 use Rattle.script_lang.specs.Texts.{IsOfKind, IsWordText, IsContentText, plain, digits, filled as fills}
 use Rattle.script_lang.proofs.Conditions.{chosen, never, same_ok, and_left, and_right, le_test, le_tested}
-use Rattle.script_lang.proofs.Numerals.{decimal_digits, below_limit, printed_again, decimal_numeral, decimal_value}
+use Rattle.script_lang.proofs.Numerals.{below_limit, printed_again, decimal_numeral, decimal_value}
 use Rattle.script_lang.proofs.HexTexts.{digits_decoded, decoded_digits}
-use Rattle.script_lang.proofs.Cuts.{front_of, cut_found, cut_is}
-use Rattle.ndn_name.proofs.ComputedNames.{texts-computed}
+use Rattle.script_lang.proofs.Cuts.{cut_found, cut_is}
+use Rattle.ndn_name.proofs.ComputedNames.{is_behind, texts-computed}
+use Rattle.ndn_name.proofs.ComputedValues.{decimal_digits}
 
 mapped_ok : {A B : Type 0} (f : A → B) (r : Result A LineFault) (v : B) → mapped f r ≡ Ok v
     → (x : A) × (r ≡ Ok x) × (v ≡ f x)
@@ -212,14 +213,14 @@ content_ok least most word octets h = go (behind_word (codes "text:") word) refl
           → IsContentText octets word × (least ≤ length octets) × (length octets ≤ most)
       go (Some text) p b q c r k =
           let m = many_ok least most text octets k in
-          (plain (front_of (codes "text:") word text p ∙ ap (λ t. codes "text:" ++ t) m.0), m.1, m.2)
+          (plain (is_behind (codes "text:") word text p ∙ ap (λ t. codes "text:" ++ t) m.0), m.1, m.2)
       go None p (Some tail) q c r k =
           let x = hex_ok least most tail octets k in
-          (digits tail (front_of (codes "hex:") word tail q) x.0, x.1, x.2)
+          (digits tail (is_behind (codes "hex:") word tail q) x.0, x.1, x.2)
       go None p None q (Some counts) r k =
           let f = filled_ok least most (cut_at 58 counts) octets counts (cut_is 58 counts) k in
           subst (λ t. IsContentText octets t × (least ≤ length octets) × (length octets ≤ most))
-          (sym (front_of (codes "fill:") word counts r)) f
+          (sym (is_behind (codes "fill:") word counts r)) f
       go None p None q None r k = never Syntax octets k
 
 read_content : (least most : ℕ) (word : List ℕ) (value : Value) → word_of (CONTENT least most) word ≡ Ok value

@@ -11,14 +11,15 @@ use Rattle.script_lang.specs.declared.check_fault.CheckFault.{CheckFault}
 use Rattle.script_lang.specs.declared.check_fault.CheckFault.TheVariants.{NoGroup, Late, UnknownLabel, Duplicate, Limit}
 use Rattle.script_lang.specs.declared.check_fault.CheckFault.TheVariants.{TooLarge, NoMemory}
 use Rattle.script_lang.specs.declared.verb.Verb.{Verb}
-use Rattle.script_lang.specs.declared.verb.Verb.TheVariants.{Group, Member, Client, Publish, Withdraw, Deliver, Sync}
-use Rattle.script_lang.specs.declared.verb.Verb.TheVariants.{Advance, Fire, Restart, Vector, Catalogue, Claim, Lose}
-use Rattle.script_lang.specs.declared.verb.Verb.TheVariants.{Answer, Fetch, Settle, Dump, Hear, Order, Ask, Feed}
-use Rattle.script_lang.specs.declared.verb.Verb.TheVariants.{Insert, Block, Status, Delete, Watch, Told, Summary}
-use Rattle.script_lang.specs.declared.verb.Verb.TheVariants.{Traffic}
+use Rattle.script_lang.specs.declared.verb.Verb.TheVariants.{Group, Member, Client, Mirror, Publish, Withdraw}
+use Rattle.script_lang.specs.declared.verb.Verb.TheVariants.{Deliver, Sync, Advance, Fire, Restart, Vector, Catalogue}
+use Rattle.script_lang.specs.declared.verb.Verb.TheVariants.{Claim, Lose, Answer, Fetch, Settle, Dump, Hear, Order, Ask}
+use Rattle.script_lang.specs.declared.verb.Verb.TheVariants.{Feed, Insert, Block, Status, Delete, Watch, Told, Mdeliver}
+use Rattle.script_lang.specs.declared.verb.Verb.TheVariants.{Mfetch, Mcatalogue, Summary, Traffic}
 use Rattle.script_lang.specs.Kinds.{Value, Text, Anyone, Number, Named, Octets}
 use Rattle.script_lang.specs.Forms.{Stated}
-use Rattle.script_lang.specs.Limits.{members_limit, listed_limit, contents_limit, parts_limit, settles_limit}
+use Rattle.script_lang.specs.Limits.{members_limit, mirrors_limit, listed_limit, contents_limit, parts_limit}
+use Rattle.script_lang.specs.Limits.{settles_limit}
 
 -- A label and a node name.
 pub record Party : Type 0 where
@@ -34,11 +35,12 @@ pub record LineTotals : Type 0 where
 abbrev pub line_totals : Sums → LineTotals
 line_totals s = record { contents = s.contents; parts = s.parts; settles = s.settles }
 
--- What the lines so far have declared.
+-- What the lines so far have declared. A mirror has a label alone.
 pub record Declared : Type 0 where
   pub group : Bool
   pub members : List Party
   pub clients : List Party
+  pub mirrors : List (List ℕ)
   pub events : Bool
   pub totals : LineTotals
 
@@ -57,6 +59,13 @@ party_place label parties = position (λ (p : Party). bytes_eq p.label label) pa
 
 abbrev pub has_label : List ℕ → List Party → Bool
 has_label label parties = list_any (λ (p : Party). bytes_eq p.label label) parties
+
+-- The place of the first mirror with this label.
+abbrev pub mirror_place : List ℕ → List (List ℕ) → Option ℕ
+mirror_place label mirrors = position (λ mirror. bytes_eq mirror label) mirrors
+
+abbrev pub is_mirror : List ℕ → List (List ℕ) → Bool
+is_mirror label mirrors = list_any (λ mirror. bytes_eq mirror label) mirrors
 
 -- The labels among values.
 abbrev pub labels_in : List Value → List (List ℕ)
@@ -80,17 +89,22 @@ are_those d (m ∷ clients) = has_label m d.members && are_clients d clients
 abbrev pub are_members : Declared → List (List ℕ) → Bool
 are_members d labels = list_all (λ label. has_label label d.members) labels
 
--- What a form is: it declares the group, a member or a client; it is an event whose labels are members'; or it is an
--- event by a client's command, with the client's label behind the member's.
+abbrev pub are_mirrors : Declared → List (List ℕ) → Bool
+are_mirrors d labels = list_all (λ label. is_mirror label d.mirrors) labels
+
+-- What a form is: it declares the group, a member, a client or a mirror; it is an event whose labels are members'; it
+-- is an event by a client's command, with the client's label behind the member's; or it is an event of a mirror.
 pub data Sort : Type 0 where
   declaration : Sort
   event : Sort
   command : Sort
+  mirroring : Sort
 
 abbrev pub sort_of : Verb → Sort
 sort_of Group = declaration
 sort_of Member = declaration
 sort_of Client = declaration
+sort_of Mirror = declaration
 sort_of Publish = event
 sort_of Withdraw = event
 sort_of Deliver = event
@@ -116,6 +130,9 @@ sort_of Status = command
 sort_of Delete = command
 sort_of Watch = event
 sort_of Told = event
+sort_of Mdeliver = mirroring
+sort_of Mfetch = mirroring
+sort_of Mcatalogue = mirroring
 sort_of Summary = event
 sort_of Traffic = event
 
@@ -124,6 +141,7 @@ abbrev pub are_known_of : Sort → Declared → List (List ℕ) → Bool
 are_known_of declaration d labels = false
 are_known_of event d labels = are_members d labels
 are_known_of command d labels = are_those d labels
+are_known_of mirroring d labels = are_mirrors d labels
 
 abbrev pub are_known_by : Verb → Declared → List (List ℕ) → Bool
 are_known_by verb d labels = are_known_of (sort_of verb) d labels
@@ -136,6 +154,7 @@ abbrev pub is_declaration : Sort → Bool
 is_declaration declaration = true
 is_declaration event = false
 is_declaration command = false
+is_declaration mirroring = false
 
 abbrev pub declares : Verb → Bool
 declares verb = is_declaration (sort_of verb)
@@ -160,6 +179,7 @@ abbrev pub adds : Verb → List Value → LineTotals
 adds Group values = nothing_added
 adds Member values = nothing_added
 adds Client values = nothing_added
+adds Mirror values = nothing_added
 adds Publish (m ∷ name ∷ Number size ∷ Octets content ∷ []) = record {
   contents = length content;
   parts = publication_parts (segments (length content) size);
@@ -192,6 +212,9 @@ adds Status values = nothing_added
 adds Delete values = nothing_added
 adds Watch values = nothing_added
 adds Told values = nothing_added
+adds Mdeliver values = nothing_added
+adds Mfetch values = nothing_added
+adds Mcatalogue values = nothing_added
 adds Summary values = nothing_added
 adds Traffic values = nothing_added
 
@@ -218,7 +241,10 @@ is_party_among p parties =
     parties
 
 abbrev pub is_there : Declared → Party → Bool
-is_there d p = is_party_among p d.members || is_party_among p d.clients
+is_there d p = is_party_among p d.members || is_party_among p d.clients || is_mirror p.label d.mirrors
+
+abbrev pub is_label_there : Declared → List ℕ → Bool
+is_label_there d label = has_label label d.members || has_label label d.clients || is_mirror label d.mirrors
 
 -- Whether a member or client may be declared, where so many of its kind are there.
 abbrev pub may_declare : Declared → Party → ℕ → Result (Unit {0}) CheckFault
@@ -227,6 +253,16 @@ may_declare d p count =
     else if d.events then Err Late
     else if is_there d p then Err Duplicate
     else if nat_le members_limit count then Err Limit
+    else Ok tt
+
+-- Whether a mirror may be declared of publishers with these labels.
+abbrev pub may_mirror : Declared → List ℕ → List (List ℕ) → Result (Unit {0}) CheckFault
+may_mirror d label publishers =
+    if not d.group then Err NoGroup
+    else if d.events then Err Late
+    else if not (are_members d publishers) then Err UnknownLabel
+    else if is_label_there d label then Err Duplicate
+    else if nat_le mirrors_limit (length d.mirrors) then Err Limit
     else Ok tt
 
 abbrev pub declared_then : Result (Unit {0}) CheckFault → Declared → Result Declared CheckFault
@@ -253,12 +289,16 @@ after_declaration d Member (Text label ∷ Named node ∷ key ∷ []) =
 after_declaration d Client (Text label ∷ Named node ∷ key ∷ []) =
     declared_then (may_declare d (party label node) (length d.clients))
     (record d { clients = d.clients ++ party label node ∷ [] })
+after_declaration d Mirror (Text label ∷ publisher ∷ prefix ∷ []) =
+    declared_then (may_mirror d label (labels_in (publisher ∷ [])))
+    (record d { mirrors = d.mirrors ++ label ∷ [] })
 after_declaration d verb values = Err NoMemory
 
 abbrev pub after_sort : Sort → Declared → Stated → Verb → List Value → Result Declared CheckFault
 after_sort declaration d s verb values = after_declaration d verb values
 after_sort event d s verb values = after_event d s
 after_sort command d s verb values = after_event d s
+after_sort mirroring d s verb values = after_event d s
 
 abbrev pub after_by : Declared → Stated → Verb → List Value → Result Declared CheckFault
 after_by d s verb values = after_sort (sort_of verb) d s verb values
@@ -272,6 +312,7 @@ nothing_declared = record {
   group = false;
   members = [];
   clients = [];
+  mirrors = [];
   events = false;
   totals = nothing_added;
 }
@@ -282,6 +323,7 @@ abbrev pub asks_the_group_first : Verb → Bool
 asks_the_group_first Group = false
 asks_the_group_first Member = false
 asks_the_group_first Client = false
+asks_the_group_first Mirror = false
 asks_the_group_first Publish = false
 asks_the_group_first Withdraw = false
 asks_the_group_first Deliver = true
@@ -307,5 +349,8 @@ asks_the_group_first Status = false
 asks_the_group_first Delete = false
 asks_the_group_first Watch = true
 asks_the_group_first Told = false
+asks_the_group_first Mdeliver = true
+asks_the_group_first Mfetch = false
+asks_the_group_first Mcatalogue = false
 asks_the_group_first Summary = false
 asks_the_group_first Traffic = false

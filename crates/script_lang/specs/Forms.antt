@@ -4,11 +4,11 @@ use Rattle.std.specs.String.{string_bytes}
 use Rattle.script_lang.specs.declared.line.Line.{Line}
 use Rattle.script_lang.specs.declared.line.Line.TheVariants as line
 use Rattle.script_lang.specs.declared.verb.Verb.{Verb}
-use Rattle.script_lang.specs.declared.verb.Verb.TheVariants.{Group, Member, Client, Publish, Withdraw, Deliver, Sync}
-use Rattle.script_lang.specs.declared.verb.Verb.TheVariants.{Advance, Fire, Restart, Vector, Catalogue, Claim, Lose}
-use Rattle.script_lang.specs.declared.verb.Verb.TheVariants.{Answer, Fetch, Settle, Dump, Hear, Order, Ask, Feed}
-use Rattle.script_lang.specs.declared.verb.Verb.TheVariants.{Insert, Block, Status, Delete, Watch, Told, Summary}
-use Rattle.script_lang.specs.declared.verb.Verb.TheVariants.{Traffic}
+use Rattle.script_lang.specs.declared.verb.Verb.TheVariants.{Group, Member, Client, Mirror, Publish, Withdraw}
+use Rattle.script_lang.specs.declared.verb.Verb.TheVariants.{Deliver, Sync, Advance, Fire, Restart, Vector, Catalogue}
+use Rattle.script_lang.specs.declared.verb.Verb.TheVariants.{Claim, Lose, Answer, Fetch, Settle, Dump, Hear, Order, Ask}
+use Rattle.script_lang.specs.declared.verb.Verb.TheVariants.{Feed, Insert, Block, Status, Delete, Watch, Told, Mdeliver}
+use Rattle.script_lang.specs.declared.verb.Verb.TheVariants.{Mfetch, Mcatalogue, Summary, Traffic}
 use Rattle.script_lang.specs.Limits.{last_part}
 use Rattle.script_lang.specs.Kinds.{Kind, LABEL, PUBLISHER, N, URI, HEX, CONTENT, Value, Text, Anyone, Number}
 use Rattle.script_lang.specs.Kinds.{Named, Octets}
@@ -30,6 +30,7 @@ abbrev pub form : Verb → Form
 form Group = row (codes "group") (URI 1 200 ∷ [])
 form Member = row (codes "member") (LABEL ∷ URI 1 200 ∷ HEX 128 ∷ [])
 form Client = row (codes "client") (LABEL ∷ URI 1 200 ∷ HEX 128 ∷ [])
+form Mirror = row (codes "mirror") (LABEL ∷ PUBLISHER ∷ URI 0 400 ∷ [])
 form Publish = row (codes "publish") (LABEL ∷ URI 1 400 ∷ N 1 8000 ∷ CONTENT 0 16000000 ∷ [])
 form Withdraw = row (codes "withdraw") (LABEL ∷ N 1 65535 ∷ [])
 form Deliver = row (codes "deliver") (N 1 4294967295 ∷ LABEL ∷ [])
@@ -57,6 +58,9 @@ form Status = row (codes "status") (LABEL ∷ LABEL ∷ N 1 4294967295 ∷ [])
 form Delete = row (codes "delete") (LABEL ∷ LABEL ∷ URI 1 400 ∷ [])
 form Watch = row (codes "watch") (LABEL ∷ PUBLISHER ∷ URI 0 400 ∷ [])
 form Told = row (codes "told") (LABEL ∷ N 1 4294967295 ∷ [])
+form Mdeliver = row (codes "mdeliver") (N 1 4294967295 ∷ LABEL ∷ [])
+form Mfetch = row (codes "mfetch") (LABEL ∷ N 1 16 ∷ N 1 16 ∷ N 0 1000 ∷ [])
+form Mcatalogue = row (codes "mcatalogue") (LABEL ∷ [])
 form Summary = row (codes "summary") []
 form Traffic = row (codes "traffic") []
 
@@ -80,6 +84,8 @@ stated (line.Member label name key) =
     said Member (Text (string_bytes label) ∷ Named name ∷ Octets key.items ∷ [])
 stated (line.Client label name key) =
     said Client (Text (string_bytes label) ∷ Named name ∷ Octets key.items ∷ [])
+stated (line.Mirror label p name) =
+    said Mirror (Text (string_bytes label) ∷ publisher_value p ∷ Named name ∷ [])
 stated (line.Publish m name size content) =
     said Publish (Text (string_bytes m) ∷ Named name ∷ Number size ∷ Octets content.items ∷ [])
 stated (line.Withdraw m s) =
@@ -131,6 +137,12 @@ stated (line.Watch m p name) =
     said Watch (Text (string_bytes m) ∷ publisher_value p ∷ Named name ∷ [])
 stated (line.Told m w) =
     said Told (Text (string_bytes m) ∷ Number w ∷ [])
+stated (line.Mdeliver k l) =
+    said Mdeliver (Number k ∷ Text (string_bytes l) ∷ [])
+stated (line.Mfetch l workers tries loss) =
+    said Mfetch (Text (string_bytes l) ∷ Number workers ∷ Number tries ∷ Number loss ∷ [])
+stated (line.Mcatalogue l) =
+    said Mcatalogue (Text (string_bytes l) ∷ [])
 stated line.Summary = said Summary []
 stated line.Traffic = said Traffic []
 

@@ -17,6 +17,10 @@ line_octets = 32768
 abbrev pub members_limit : ℕ
 members_limit = 16
 
+-- Mirrors of a group.
+abbrev pub mirrors_limit : ℕ
+mirrors_limit = 4
+
 -- Segments of a publication.
 abbrev pub segments_limit : ℕ
 segments_limit = 20000

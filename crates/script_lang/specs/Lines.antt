@@ -6,11 +6,11 @@ use Rattle.std.specs.Prelude.{Result, Ok, Err, nat_le, nat_lt, ◌==◌, if◌th
 use Rattle.std.specs.List.{list_all, slice_split, find}
 use Rattle.std.specs.Str.{bytes_eq}
 use Rattle.script_lang.specs.declared.verb.Verb.{Verb}
-use Rattle.script_lang.specs.declared.verb.Verb.TheVariants.{Group, Member, Client, Publish, Withdraw, Deliver, Sync}
-use Rattle.script_lang.specs.declared.verb.Verb.TheVariants.{Advance, Fire, Restart, Vector, Catalogue, Claim, Lose}
-use Rattle.script_lang.specs.declared.verb.Verb.TheVariants.{Answer, Fetch, Settle, Dump, Hear, Order, Ask, Feed}
-use Rattle.script_lang.specs.declared.verb.Verb.TheVariants.{Insert, Block, Status, Delete, Watch, Told, Summary}
-use Rattle.script_lang.specs.declared.verb.Verb.TheVariants.{Traffic}
+use Rattle.script_lang.specs.declared.verb.Verb.TheVariants.{Group, Member, Client, Mirror, Publish, Withdraw}
+use Rattle.script_lang.specs.declared.verb.Verb.TheVariants.{Deliver, Sync, Advance, Fire, Restart, Vector, Catalogue}
+use Rattle.script_lang.specs.declared.verb.Verb.TheVariants.{Claim, Lose, Answer, Fetch, Settle, Dump, Hear, Order, Ask}
+use Rattle.script_lang.specs.declared.verb.Verb.TheVariants.{Feed, Insert, Block, Status, Delete, Watch, Told, Mdeliver}
+use Rattle.script_lang.specs.declared.verb.Verb.TheVariants.{Mfetch, Mcatalogue, Summary, Traffic}
 use Rattle.script_lang.specs.declared.line_fault.LineFault.{LineFault}
 use Rattle.script_lang.specs.declared.line_fault.LineFault.TheVariants.{Syntax, Limit, NoMemory}
 use Rattle.script_lang.specs.Limits.{line_octets, segments_limit, blocks_limit}
@@ -50,6 +50,7 @@ abbrev pub are_within : Verb → List Value → Bool
 are_within Group values = true
 are_within Member values = true
 are_within Client values = true
+are_within Mirror values = true
 are_within Publish (m ∷ name ∷ Number size ∷ Octets content ∷ []) =
     nat_le (length content) (segments_limit * size)
 are_within Publish _ = false
@@ -79,6 +80,9 @@ are_within Status values = true
 are_within Delete values = true
 are_within Watch values = true
 are_within Told values = true
+are_within Mdeliver values = true
+are_within Mfetch values = true
+are_within Mcatalogue values = true
 are_within Summary values = true
 are_within Traffic values = true
 
@@ -94,9 +98,9 @@ verb_named (first ∷ others) word = if bytes_eq first.0 word then Some first.1 
 
 abbrev pub verbs : List Verb
 verbs =
-    Group ∷ Member ∷ Client ∷ Publish ∷ Withdraw ∷ Deliver ∷ Sync ∷ Advance ∷ Fire ∷ Restart ∷ Vector
-    ∷ Catalogue ∷ Claim ∷ Lose ∷ Answer ∷ Fetch ∷ Settle ∷ Dump ∷ Hear ∷ Order ∷ Ask ∷ Feed
-    ∷ Insert ∷ Block ∷ Status ∷ Delete ∷ Watch ∷ Told ∷ Summary ∷ Traffic ∷ []
+    Group ∷ Member ∷ Client ∷ Mirror ∷ Publish ∷ Withdraw ∷ Deliver ∷ Sync ∷ Advance ∷ Fire ∷ Restart
+    ∷ Vector ∷ Catalogue ∷ Claim ∷ Lose ∷ Answer ∷ Fetch ∷ Settle ∷ Dump ∷ Hear ∷ Order ∷ Ask ∷ Feed
+    ∷ Insert ∷ Block ∷ Status ∷ Delete ∷ Watch ∷ Told ∷ Mdeliver ∷ Mfetch ∷ Mcatalogue ∷ Summary ∷ Traffic ∷ []
 
 abbrev pub first_words : List (List ℕ × Verb)
 first_words = map (λ verb. ((form verb).word, verb)) verbs

@@ -1,6 +1,6 @@
 ghost use Rattle.std.specs.Prelude.{◌≡◌};
 ghost use Rattle.script_lang.specs.Reading.{Gives, ReadsForm, left_of};
-ghost use Rattle.script_lang.specs.declared.verb.Verb.TheVariants.{Block, Dump, Fetch, Insert, Publish};
+ghost use Rattle.script_lang.specs.declared.verb.Verb.TheVariants.{Block, Dump, Fetch, Insert, Mfetch, Publish};
 ghost use Rattle.script_lang.specs.Forms.{form, stated};
 ghost use Rattle.script_lang.specs.Lines.{are_within, stated_of};
 
@@ -45,6 +45,11 @@ fn values_in(alloc: Global, verb: Verb, words: &mut Cursor<'_>) -> Result<Line, 
             label: words.label(alloc)?,
             name: words.name(alloc, 1, NODE_NAME)?,
             key: words.hex(alloc, KEY)?,
+        }),
+        Verb::Mirror => Ok(Line::Mirror {
+            label: words.label(alloc)?,
+            p: words.publisher(alloc)?,
+            name: words.name(alloc, 0, OBJECT_NAME)?,
         }),
         Verb::Publish => publication(alloc, words),
         Verb::Withdraw => Ok(Line::Withdraw {
@@ -129,6 +134,14 @@ fn values_in(alloc: Global, verb: Verb, words: &mut Cursor<'_>) -> Result<Line, 
             m: words.label(alloc)?,
             w: words.small(1, u32::MAX)?,
         }),
+        Verb::Mdeliver => Ok(Line::Mdeliver {
+            k: words.small(1, u32::MAX)?,
+            l: words.label(alloc)?,
+        }),
+        Verb::Mfetch => mirror_fetch(alloc, words),
+        Verb::Mcatalogue => Ok(Line::Mcatalogue {
+            l: words.label(alloc)?,
+        }),
         Verb::Summary => Ok(Line::Summary),
         Verb::Traffic => Ok(Line::Traffic),
     }
@@ -152,6 +165,18 @@ fn fetch(alloc: Global, words: &mut Cursor<'_>) -> Result<Line, LineFault>
 {
     Ok(Line::Fetch {
         m: words.label(alloc)?,
+        workers: words.small(1, 16)?,
+        tries: words.small(1, 16)?,
+        loss: words.small(0, 1_000)?,
+    })
+}
+
+// A fetch by a mirror.
+fn mirror_fetch(alloc: Global, words: &mut Cursor<'_>) -> Result<Line, LineFault>
+    ensures { ReadsForm Mfetch words.old words.new result }
+{
+    Ok(Line::Mfetch {
+        l: words.label(alloc)?,
         workers: words.small(1, 16)?,
         tries: words.small(1, 16)?,
         loss: words.small(0, 1_000)?,

@@ -1,16 +1,25 @@
-ghost use Rattle.std.specs.Prelude.{◌≡◌, false};
-ghost use Rattle.script_lang.specs.Forms.{stated};
-ghost use Rattle.script_lang.specs.Checking.{parties_of, are_known_by, declares, labels_in, Declared};
+ghost use Rattle.std.specs.Prelude.{◌≡◌, [], ◌∷◌, false, map};
+ghost use Rattle.std.specs.String.{string_bytes};
+ghost use Rattle.script_lang.specs.Forms.{publisher_value, stated};
+ghost use Rattle.script_lang.specs.Checking.{Declared, are_known_by, are_members, declares, labels_in, parties_of};
 
 use crate::declaration::{Declaration, has_label};
 use crate::line::Line;
+use crate::mirror::is_mirror;
 
-// Whether the labels of an event line are of members, and of a client where a client stands.
-pub(crate) fn are_known(members: &[Declaration], clients: &[Declaration], line: &Line) -> bool
+// Whether the labels of an event line are of members, of a client where a client stands, and of a mirror where a mirror
+// stands.
+pub(crate) fn are_known(
+    members: &[Declaration],
+    clients: &[Declaration],
+    mirrors: &[String],
+    line: &Line,
+) -> bool
     requires { declares (stated line.now).verb ≡ false }
     ensures { (d : Declared)
         → d.members ≡ parties_of members.now
         → d.clients ≡ parties_of clients.now
+        → d.mirrors ≡ map string_bytes mirrors.now
         → result ≡ are_known_by (stated line.now).verb d (labels_in (stated line.now).values) }
 {
     match line {
@@ -41,11 +50,28 @@ pub(crate) fn are_known(members: &[Declaration], clients: &[Declaration], line: 
         | Line::Block { m, .. }
         | Line::Watch { m, p: None, .. }
         | Line::Told { m, .. } => has_label(m, members),
+        Line::Mdeliver { l, .. } | Line::Mfetch { l, .. } | Line::Mcatalogue { l } => {
+            is_mirror(l, mirrors)
+        }
         Line::Sync { .. }
         | Line::Advance { .. }
         | Line::Settle { .. }
         | Line::Summary
         | Line::Traffic => true,
-        Line::Group { .. } | Line::Member { .. } | Line::Client { .. } => unreachable!(),
+        Line::Group { .. } | Line::Member { .. } | Line::Client { .. } | Line::Mirror { .. } => {
+            unreachable!()
+        }
+    }
+}
+
+// Whether a publisher is that of a member's label, or every one.
+pub(crate) fn is_publisher(p: &Option<String>, members: &[Declaration]) -> bool
+    ensures { (d : Declared)
+        → d.members ≡ parties_of members.now
+        → result ≡ are_members d (labels_in (publisher_value p.now ∷ [])) }
+{
+    match p {
+        Some(label) => has_label(label, members),
+        None => true,
     }
 }

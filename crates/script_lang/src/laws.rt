@@ -5,9 +5,9 @@ ghost use Rattle.script_lang.specs.declared.line_fault.LineFault.TheVariants.{Li
 ghost use Rattle.script_lang.specs.declared.check_fault.CheckFault.TheVariants as refusal;
 ghost use Rattle.script_lang.specs.declared.check_fault.CheckFault.TheVariants.{TooLarge};
 ghost use Rattle.script_lang.specs.declared.verb.Verb.{Verb};
-ghost use Rattle.script_lang.specs.declared.verb.Verb.TheVariants.{Claim, Group, Publish, Watch, Withdraw};
-ghost use Rattle.script_lang.specs.Limits.{contents_limit, last_part, line_octets, members_limit, parts_limit};
-ghost use Rattle.script_lang.specs.Limits.{script_lines, script_octets, segments_limit, settles_limit};
+ghost use Rattle.script_lang.specs.declared.verb.Verb.TheVariants.{Claim, Group, Mirror, Publish, Watch, Withdraw};
+ghost use Rattle.script_lang.specs.Limits.{contents_limit, last_part, line_octets, members_limit, mirrors_limit};
+ghost use Rattle.script_lang.specs.Limits.{parts_limit, script_lines, script_octets, segments_limit, settles_limit};
 ghost use Rattle.script_lang.specs.Kinds.{Anyone, Kind, Named, Number, Octets, Text, Value, word_of};
 ghost use Rattle.script_lang.specs.declared.line.Line.{Line};
 ghost use Rattle.script_lang.specs.Forms.{AreShaped, Stated, form, said, stated};
@@ -17,8 +17,8 @@ ghost use Rattle.script_lang.specs.Checking.{publication_parts};
 ghost use Rattle.script_lang.specs.Texts.{AreOf, ArePlainValues, IsLineText, IsOfKind, IsWordText, printed_line};
 
 use crate::limits::{
-    CONTENTS_LIMIT, LINE_LIMIT, LINES_LIMIT, MEMBERS_LIMIT, PARTS_LIMIT, SCRIPT_LIMIT,
-    SETTLES_LIMIT,
+    CONTENTS_LIMIT, LINE_LIMIT, LINES_LIMIT, MEMBERS_LIMIT, MIRRORS_LIMIT, PARTS_LIMIT,
+    SCRIPT_LIMIT, SETTLES_LIMIT,
 };
 
 /// The limits of a script, and that a part's number is at most that of the last part of the largest publication.
@@ -27,6 +27,7 @@ pub fn limits_are_these()
     ensures lines { LINES_LIMIT ≡ script_lines }
     ensures line { LINE_LIMIT ≡ line_octets }
     ensures members { MEMBERS_LIMIT ≡ members_limit }
+    ensures mirrors { MIRRORS_LIMIT ≡ mirrors_limit }
     ensures contents { CONTENTS_LIMIT ≡ contents_limit }
     ensures parts { PARTS_LIMIT ≡ parts_limit }
     ensures settles { SETTLES_LIMIT ≡ settles_limit }
@@ -87,6 +88,8 @@ pub fn worked_lines()
     ensures filled { line_of (codes "publish a /x 4 fill:3:65")
         ≡ Ok (Some (said Publish (Text (codes "a") ∷ Named ((8, codes "x") ∷ []) ∷ Number 4
         ∷ Octets (codes "AAA") ∷ []))) }
+    ensures mirror { line_of (codes "mirror mia alice /doc")
+        ≡ Ok (Some (said Mirror (Text (codes "mia") ∷ Text (codes "alice") ∷ Named ((8, codes "doc") ∷ []) ∷ []))) }
     ensures every_object { line_of (codes "watch bob * /")
         ≡ Ok (Some (said Watch (Text (codes "bob") ∷ Anyone ∷ Named [] ∷ []))) }
     ensures blocks { line_of (codes "insert a c /in 5 205") ≡ Err Limit }

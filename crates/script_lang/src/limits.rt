@@ -10,6 +10,9 @@ pub const LINE_LIMIT: usize = 32_768;
 /// How many members there may be, and how many clients.
 pub const MEMBERS_LIMIT: usize = 16;
 
+/// How many mirrors there may be.
+pub const MIRRORS_LIMIT: usize = 4;
+
 /// How many octets the contents of all `publish` and `block` lines may have together.
 pub const CONTENTS_LIMIT: u64 = 67_108_864;
 

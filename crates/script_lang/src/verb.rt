@@ -7,6 +7,7 @@ pub enum Verb {
     Group,
     Member,
     Client,
+    Mirror,
     Publish,
     Withdraw,
     Deliver,
@@ -32,14 +33,18 @@ pub enum Verb {
     Delete,
     Watch,
     Told,
+    Mdeliver,
+    Mfetch,
+    Mcatalogue,
     Summary,
     Traffic,
 }
 
-const VERBS: [(&str, Verb); 30] = [
+const VERBS: [(&str, Verb); 34] = [
     ("group", Verb::Group),
     ("member", Verb::Member),
     ("client", Verb::Client),
+    ("mirror", Verb::Mirror),
     ("publish", Verb::Publish),
     ("withdraw", Verb::Withdraw),
     ("deliver", Verb::Deliver),
@@ -65,6 +70,9 @@ const VERBS: [(&str, Verb); 30] = [
     ("delete", Verb::Delete),
     ("watch", Verb::Watch),
     ("told", Verb::Told),
+    ("mdeliver", Verb::Mdeliver),
+    ("mfetch", Verb::Mfetch),
+    ("mcatalogue", Verb::Mcatalogue),
     ("summary", Verb::Summary),
     ("traffic", Verb::Traffic),
 ];

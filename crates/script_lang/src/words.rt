@@ -1,26 +1,29 @@
 ghost use Rattle.std.specs.Prelude.{◌≡◌, ◌<◌, ◌⊎◌, false, map, length, slice_get, IfErr, IfSome, OnOk, OnErr, Ok, Err};
-ghost use Rattle.std.specs.Prelude.{Some};
-ghost use Rattle.script_lang.specs.Forms.{stated};
-ghost use Rattle.script_lang.specs.Checking.{Declared, after_event, after_line, declares, party_label, may_declare};
-ghost use Rattle.script_lang.specs.Checking.{nothing_declared, party, party_place};
+ghost use Rattle.std.specs.Prelude.{Some, [], ◌∷◌};
+ghost use Rattle.script_lang.specs.Forms.{publisher_value, stated};
+ghost use Rattle.script_lang.specs.Checking.{Declared, after_event, after_line, declares, labels_in, may_declare};
+ghost use Rattle.script_lang.specs.Checking.{may_mirror, mirror_place, nothing_declared, party, party_label};
+ghost use Rattle.script_lang.specs.Checking.{party_place};
 
 use crate::check_fault::CheckFault;
-use crate::declaration::{Declaration, is_among, place_of};
-use crate::known::are_known;
-use crate::limits::MEMBERS_LIMIT;
+use crate::declaration::{Declaration, has_label, is_among, place_of};
+use crate::known::{are_known, is_publisher};
+use crate::limits::{MEMBERS_LIMIT, MIRRORS_LIMIT};
 use crate::line::Line;
+use crate::mirror::{is_mirror, place_of_mirror};
 use crate::sums::Sums;
 use ndn_name::Name;
 use std::alloc::Global;
 use std::marker::Model;
 
-/// What the lines of a script have declared: its members and clients by their labels and node names, and
-/// the totals over its lines.
+/// What the lines of a script have declared: its members and clients by their labels and node names, its mirrors by
+/// their labels, and the totals over its lines.
 #[derive(Debug, Drop)]
 pub struct Words {
     group: bool,
     members: Vec<Declaration>,
     clients: Vec<Declaration>,
+    mirrors: Vec<String>,
     // Whether a line was an event.
     events: bool,
     sums: Sums,
@@ -28,7 +31,8 @@ pub struct Words {
 
 // It is seen as what is declared.
 impl Model for Words {
-    ghost use Rattle.std.specs.Prelude.{◌≡◌, ◌≤◌, length, true};
+    ghost use Rattle.std.specs.Prelude.{◌≡◌, ◌≤◌, length, map, true};
+    ghost use Rattle.std.specs.String.{string_bytes};
     ghost use Rattle.script_lang.specs.Checking.{Declared, are_within_limits, parties_of, line_totals};
 
     ghost Value = { Declared };
@@ -37,12 +41,13 @@ impl Model for Words {
       group = w.group;
       members = parties_of w.members.items;
       clients = parties_of w.clients.items;
+      mirrors = map string_bytes w.mirrors.items;
       events = w.events;
       totals = line_totals w.sums;
     } };
 
     ghost invariant = { λ w. (are_within_limits (line_totals w.sums) ≡ true)
-        × (length w.members.items ≤ 16) × (length w.clients.items ≤ 16) };
+        × (length w.members.items ≤ 16) × (length w.clients.items ≤ 16) × (length w.mirrors.items ≤ 4) };
 }
 
 impl Words {
@@ -54,6 +59,7 @@ impl Words {
             group: false,
             members: Vec::new(alloc),
             clients: Vec::new(alloc),
+            mirrors: Vec::new(alloc),
             events: false,
             sums: Sums::none(),
         }
@@ -84,6 +90,11 @@ impl Words {
                 self.clients.push(Declaration::new(label, name)?)?;
                 Ok(())
             }
+            Line::Mirror { label, p, .. } => {
+                self.may_mirror(label, p)?;
+                self.mirrors.push(label.clone()?)?;
+                Ok(())
+            }
             _ => self.event(line),
         }
     }
@@ -99,10 +110,41 @@ impl Words {
         if self.events {
             return Err(CheckFault::Late);
         }
-        if is_among(label, node, &self.members) || is_among(label, node, &self.clients) {
+        if is_among(label, node, &self.members)
+            || is_among(label, node, &self.clients)
+            || is_mirror(label, &self.mirrors)
+        {
             return Err(CheckFault::Duplicate);
         }
         if count >= MEMBERS_LIMIT {
+            return Err(CheckFault::Limit);
+        }
+        Ok(())
+    }
+
+    // Whether a mirror of this publisher may be declared.
+    fn may_mirror(&self, label: &str, p: &Option<String>) -> Result<(), CheckFault>
+        ensures ok { OnOk result
+            (may_mirror self.now label.now (labels_in (publisher_value p.now ∷ [])) ≡ Ok tt) }
+        ensures err { IfErr result
+            (λ fault. may_mirror self.now label.now (labels_in (publisher_value p.now ∷ [])) ≡ Err fault) }
+    {
+        if !self.group {
+            return Err(CheckFault::NoGroup);
+        }
+        if self.events {
+            return Err(CheckFault::Late);
+        }
+        if !is_publisher(p, &self.members) {
+            return Err(CheckFault::UnknownLabel);
+        }
+        if has_label(label, &self.members)
+            || has_label(label, &self.clients)
+            || is_mirror(label, &self.mirrors)
+        {
+            return Err(CheckFault::Duplicate);
+        }
+        if self.mirrors.len() >= MIRRORS_LIMIT {
             return Err(CheckFault::Limit);
         }
         Ok(())
@@ -118,7 +160,7 @@ impl Words {
         if !self.group {
             return Err(CheckFault::NoGroup);
         }
-        if !are_known(&self.members, &self.clients, line) {
+        if !are_known(&self.members, &self.clients, &self.mirrors, line) {
             return Err(CheckFault::UnknownLabel);
         }
         let Some(sums) = self.sums.with(Sums::of_line(line)) else {
@@ -145,6 +187,14 @@ impl Words {
             (λ n. slice_get (map party_label self.now.clients) n ≡ Some label.now) }
     {
         place_of(label, &self.clients).map(|place| place as u32)
+    }
+
+    /// The number of the mirror with this label, in the order of their declarations from 0.
+    pub fn mirror(&self, label: &str) -> Option<u32>
+        ensures value { result ≡ mirror_place label.now self.now.mirrors }
+        ensures named { IfSome result (λ n. slice_get self.now.mirrors n ≡ Some label.now) }
+    {
+        place_of_mirror(label, &self.mirrors).map(|place| place as u32)
     }
 
     /// The label of a member.

@@ -44,7 +44,8 @@ fn spelled(alloc: Global, line: &Line) -> Result<String, AllocError> {
             size,
             content,
         } => publication(alloc, m, name, *size, content),
-        Line::Watch { m, p, name } => watch(alloc, m, p, name),
+        Line::Mirror { label, p, name } => pattern(alloc, "mirror", label, p, name),
+        Line::Watch { m, p, name } => pattern(alloc, "watch", m, p, name),
         Line::Hear { m, octets } => given(alloc, "hear", m, octets),
         Line::Order { m, octets } => given(alloc, "order", m, octets),
         Line::Ask { m, octets } => given(alloc, "ask", m, octets),
@@ -90,6 +91,14 @@ fn plain(alloc: Global, line: &Line) -> Result<String, AllocError> {
         Line::Dump { m, p, s, x } => format!(in alloc; "dump {m} {p} {s} {x}"),
         Line::Status { m, client, process } => format!(in alloc; "status {m} {client} {process}"),
         Line::Told { m, w } => labelled(alloc, "told", m, &[*w]),
+        Line::Mdeliver { k, l } => format!(in alloc; "mdeliver {k} {l}"),
+        Line::Mfetch {
+            l,
+            workers,
+            tries,
+            loss,
+        } => labelled(alloc, "mfetch", l, &[*workers, *tries, *loss]),
+        Line::Mcatalogue { l } => labelled(alloc, "mcatalogue", l, &[]),
         Line::Summary => String::from_str(alloc, "summary"),
         Line::Traffic => String::from_str(alloc, "traffic"),
         _ => String::from_str(alloc, "no plain line"),
@@ -175,8 +184,9 @@ fn party(
     )
 }
 
-fn watch(
+fn pattern(
     alloc: Global,
+    verb: &str,
     label: &str,
     publisher: &Option<String>,
     name: &Name,
@@ -185,7 +195,7 @@ fn watch(
         Some(publisher) => publisher.as_str(),
         None => "*",
     };
-    format!(in alloc; "watch {label} {publisher} {}", name.to_uri(alloc)?)
+    format!(in alloc; "{verb} {label} {publisher} {}", name.to_uri(alloc)?)
 }
 
 fn content_text(alloc: Global, content: &[u8]) -> Result<String, AllocError> {
@@ -229,7 +239,7 @@ const ENDS: [(&str, &str); 9] = [
 ];
 
 // Lines in which one word is so long: the last length in its range, and the next.
-const LENGTHS_OF_WORDS: [(&str, usize, usize, u8, &str); 16] = [
+const LENGTHS_OF_WORDS: [(&str, usize, usize, u8, &str); 17] = [
     ("group /", 198, 199, b'g', ""),
     ("member a /", 198, 199, b'a', " 61"),
     ("client c /", 198, 199, b'c', " 61"),
@@ -245,6 +255,7 @@ const LENGTHS_OF_WORDS: [(&str, usize, usize, u8, &str); 16] = [
     ("block a 1 1 text:", 8_000, 8_001, b'x', ""),
     ("block a 1 1 hex:", 16_000, 16_002, b'0', ""),
     ("delete a c /", 396, 397, b'i', ""),
+    ("mirror l * /", 396, 397, b'i', ""),
     ("watch a a /", 396, 397, b'i', ""),
 ];
 
@@ -315,7 +326,25 @@ group /g;member a /a 61;watch b * / => UnknownLabel
 group /g;member a /a 61;watch a b / => UnknownLabel
 group /g;member a /a 61;told b 1 => UnknownLabel
 group /g;member a /a 61;client c /c 61;watch a c / => UnknownLabel
+group /g;member a /a 61;mirror l a /x;watch l a / => UnknownLabel
+group /g;member a /a 61;mirror l a /x;watch a l / => UnknownLabel
 group /g;member a /a 61;watch a * /;watch a a /x;told a 1 => taken
+mirror l * / => NoGroup
+group /g;member a /a 61;summary;mirror l b / => Late
+group /g;member a /a 61;mirror l b / => UnknownLabel
+group /g;member a /a 61;mirror a b / => UnknownLabel
+group /g;client c /c 61;mirror l c / => UnknownLabel
+group /g;mirror k * /;mirror l k / => UnknownLabel
+group /g;member a /a 61;mirror a * / => Duplicate
+group /g;client c /c 61;mirror c * / => Duplicate
+group /g;mirror l * /;mirror l * / => Duplicate
+group /g;mirror l * /;member l /a 61 => Duplicate
+group /g;mirror l * /;client l /c 61 => Duplicate
+group /g;member a /a 61;mirror l * /;mdeliver 1 a => UnknownLabel
+group /g;member a /a 61;mirror l * /;mfetch a 1 1 0 => UnknownLabel
+group /g;member a /a 61;mirror l * /;mcatalogue a => UnknownLabel
+group /g;member a /a 61;mirror l * /;catalogue l => UnknownLabel
+group /g;mirror l * /;mdeliver 1 l;mfetch l 1 1 0;mcatalogue l => taken
 group /g;deliver 1 a => UnknownLabel
 group /g;sync 9;advance 1;settle 1;summary;traffic => taken";
 
@@ -415,14 +444,14 @@ fn totals_are_passed_by_one(rt: HostRuntime) {
 }
 
 #[test]
-fn members_and_clients_are_numbered(rt: HostRuntime) {
+fn members_clients_and_mirrors_are_numbered(rt: HostRuntime) {
     let mut words = Words::new(rt.alloc());
-    declares_sixteen(&rt, &mut words);
+    declares_all(&rt, &mut words);
     are_numbered(&rt, &words);
 }
 
-// 16 of each kind, and no more.
-fn declares_sixteen(rt: &(impl Abort + AllocGlobal), words: &mut Words) {
+// 16 members, 16 clients and 4 mirrors, and no more.
+fn declares_all(rt: &(impl Abort + AllocGlobal), words: &mut Words) {
     comes_to(rt, words, "group /g", "taken");
     for i in 0..16u32 {
         let lines = format!(in rt.alloc(); "member m{i} /m/{i} 61;client c{i} /c/{i} 61");
@@ -431,6 +460,10 @@ fn declares_sixteen(rt: &(impl Abort + AllocGlobal), words: &mut Words) {
     comes_to(rt, words, "member m16 /m/16 61", "Limit");
     comes_to(rt, words, "client c16 /c/16 61", "Limit");
     comes_to(rt, words, "client m3 /c/16 61", "Duplicate");
+    let mirrors = "mirror l0 * /;mirror l1 m1 /x;mirror l2 * /x;mirror l3 m15 /";
+    comes_to(rt, words, mirrors, "taken");
+    comes_to(rt, words, "mirror l4 * /", "Limit");
+    comes_to(rt, words, "mirror l3 * /", "Duplicate");
 }
 
 fn are_numbered(rt: &impl Abort, words: &Words) {
@@ -438,6 +471,9 @@ fn are_numbered(rt: &impl Abort, words: &Words) {
     assert!(rt; words.member("c0").is_none());
     assert!(rt; words.client("c7") == Some(7));
     assert!(rt; words.client("m7").is_none());
+    assert!(rt; words.mirror("l2") == Some(2));
+    assert!(rt; words.mirror("m2").is_none());
+    assert!(rt; words.member("l2").is_none());
     let member = words.member("m9").expect(rt, "m9");
     assert!(rt; words.label(member) == "m9");
 }

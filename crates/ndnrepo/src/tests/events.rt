@@ -36,8 +36,7 @@ fn plain_name(rt: &(impl Abort + AllocGlobal), text: &str) -> Name
 fn clients_of(g: &Group) -> usize
     ensures { result ≡ length g.now.clients.names }
 {
-    // Read for its clause alone: the group is one.
-    let _roster = g.roster();
+    g.is_sound();
     g.clients().len()
 }
 

@@ -9,11 +9,11 @@ ghost use Rattle.script_lang.specs.declared.line.Line.TheVariants as line;
 ghost use Rattle.script_lang.specs.Forms.{stated};
 ghost use Rattle.script_report.specs.Texts.{watch_text};
 ghost use Rattle.repo_watch.specs.Watching.{after_add, after_take, most_watchers, watch_of};
-ghost use Rattle.repo_top.specs.declared.refusal.Refusal.TheVariants as refusal;
+ghost use Rattle.script_report.specs.declared.refusal.Refusal.TheVariants as refusal;
 ghost use Rattle.repo_top.specs.ToldTexts.{news_in, news_text};
 ghost use Rattle.repo_top.specs.Judging.{begun_world, says, told_at, told_by, watched, watched_by, watchers_of};
-ghost use Rattle.repo_top.specs.Progressing.{IsProgress, IsStop, IsStopWhere, LineIsChecked, NamesAreDeclared};
-ghost use Rattle.repo_top.specs.Progressing.{has_group, progress_state, standing_keys, steps};
+ghost use Rattle.repo_top.specs.Progressing.{IsProgress, IsStop, IsStopWhere, LineIsChecked, MirrorsAreDeclared};
+ghost use Rattle.repo_top.specs.Progressing.{NamesAreDeclared, has_group, progress_state, standing_keys, steps};
 
 use super::{Progress, Standing};
 use crate::accepting::accepts;
@@ -90,6 +90,7 @@ impl Progress {
         requires named { NamesAreDeclared (map string_bytes self.old.labels.items)
             (standing_keys self.old.standing) self.old.words }
         requires watched { length self.old.watchers.items ≡ length self.old.words.members }
+        requires mirrored { MirrorsAreDeclared self.old.standing self.old.words }
         requires group { self.old.words.group ≡ true }
         requires events { self.old.words.events ≡ true }
         requires begun { has_group self.old.standing ≡ true }
@@ -131,6 +132,7 @@ impl Progress {
         requires named { NamesAreDeclared (map string_bytes self.old.labels.items)
             (standing_keys self.old.standing) self.old.words }
         requires watched { length self.old.watchers.items ≡ length self.old.words.members }
+        requires mirrored { MirrorsAreDeclared self.old.standing self.old.words }
         requires group { self.old.words.group ≡ true }
         requires events { self.old.words.events ≡ true }
         requires begun { has_group self.old.standing ≡ true }
@@ -180,8 +182,7 @@ fn add_watcher(
     ensures stopped { IfErr result
         (IsStopWhere (nat_le most_watchers (length (watchers_of watchers.old m))) refusal.Limit) }
 {
-    // Read for its clauses alone: the invariant holds.
-    let _count = world.members();
+    world.is_sound();
     let catalogue = world.member(m).catalogue();
     let number = watchers[m as usize].add(alloc, pattern, catalogue)?;
     put_watch(report, label, u64::from(number))?;
@@ -213,8 +214,7 @@ fn tell_news(
     let filter = Filter::new(|pattern: &Pattern, publisher: u32, name: &Name| {
         accepts(pattern, publisher, name)
     });
-    // Read for its clauses alone: the invariant holds.
-    let _count = world.members();
+    world.is_sound();
     let catalogue = world.member(m).catalogue();
     let pairs = watchers[m as usize].take(alloc, number, &filter, catalogue)?;
     let entries = entries_of(alloc, catalogue, &pairs)?;
@@ -234,24 +234,8 @@ fn entries_of(
 {
     let mut entries = Vec::with_capacity(alloc, pairs.len())?;
     for &(publisher, seq) in pairs {
-        let Some(entry) = catalogue.entry(publisher, seq) else {
-            unreachable!()
-        };
-        entries.push(copy_of(entry)?)?;
+        let entry = catalogue.entry(publisher, seq).unwrap();
+        entries.push(entry.clone()?)?;
     }
     Ok(entries)
-}
-
-// A copy of an entry.
-fn copy_of(entry: &Entry) -> Result<Entry, AllocError>
-    ensures { IfOk result (λ copy. copy ≡ entry.now) }
-{
-    Ok(Entry {
-        publisher: entry.publisher,
-        seq: entry.seq,
-        name: entry.name.clone()?,
-        segments: entry.segments,
-        octets: entry.octets,
-        digest: entry.digest,
-    })
 }

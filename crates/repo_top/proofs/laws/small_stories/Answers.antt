@@ -1,6 +1,7 @@
 use Rattle.std.proofs.Common.{refl}
 use Rattle.std.specs.Fmt.{digits}
-use Rattle.hex.specs.Hex.{decode_pairs}
+use Rattle.hex.specs.Hex.{decode_pairs, encode_with}
+use Rattle.sha2.specs.Sha256.{compress, digest_bytes, first_words, hash_after, rounds, schedule, sha256}
 use Rattle.ndn_tlv.specs.Spelling.{number}
 use Rattle.ndn_name.specs.Names.{encoding}
 use Rattle.ndn_name.specs.UriText.{behind_word, component_of_text, components_of_texts, cut_at, name_of_text}
@@ -61,3 +62,11 @@ unfolding decode_pairs digits number encoding behind_word component_of_text comp
     content_of filled_of hex_of label_of publisher_of uri_of numeral_of verb_named values_of entries_text line
     labelled_numbers summary_text lines acted acted_by line_taken judged_line judged story_from
 returns-clause-watched c = λ given. record { text_is = refl; ending_is = refl }
+
+pub returns-clause-mirrored : goal.returns-clause-mirrored
+unfolding decode_pairs encode_with digits number encoding behind_word component_of_text components_of_texts cut_at
+    name_of_text octets_of_digits unescaped covers join join_all after_all_kept after_kept after_sync_event
+    after_sync_events content_of filled_of hex_of label_of publisher_of uri_of numeral_of verb_named values_of
+    entries_text line labelled_numbers summary_text lines acted acted_by line_taken judged_line judged story_from
+    sha256 digest_bytes hash_after compress rounds schedule first_words
+returns-clause-mirrored c = λ given. record { text_is = refl; ending_is = refl }

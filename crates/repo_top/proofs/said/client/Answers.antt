@@ -1,9 +1,8 @@
-use Rattle.std.proofs.Common.{◌∙◌, sym}
+use Rattle.std.proofs.Common.{◌∙◌, ap}
+use Rattle.std.specs.Prelude.{is_some}
 use Rattle.repo_top.proofs.Fitting.{place_of_known}
 use Rattle.repo_top.proofs.said.client.Goals as goal
 
-pub unreachable-requires : goal.unreachable-requires
-unreachable-requires c =
-    let found = sym c.in_default.is ∙ c.client.ensures.value
-    ∙ place_of_known c.args.label.now c.args.words.now.clients c.requires in
-    absurd cc
+pub unwrap-requires : goal.unwrap-requires
+unwrap-requires c =
+    ap is_some (c.client.ensures.value ∙ place_of_known c.args.label.now c.args.words.now.clients c.requires)

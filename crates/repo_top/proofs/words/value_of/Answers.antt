@@ -1,5 +1,6 @@
 use Rattle.std.proofs.Common.{◌<◌, get_or, arith}
-use Rattle.repo_top.proofs.Numerals.{is_short, small_power, ten_times, digit_is, digit_bounds, value_more}
+use Rattle.script_lang.proofs.Numerals.{is_short}
+use Rattle.repo_top.proofs.Numerals.{small_power, ten_times, digit_is, digit_bounds, value_more}
 use Rattle.repo_top.proofs.words.value_of.Goals as goal
 
 pub overflow_mul-value : goal.overflow_mul-value

@@ -18,6 +18,7 @@ returns c = record {
   long_number = refl;
   withdrawal = refl;
   filled = refl;
+  mirror = refl;
   every_object = refl;
   blocks = refl;
   comment = refl;

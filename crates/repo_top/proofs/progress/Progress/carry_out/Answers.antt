@@ -3,8 +3,10 @@ use Rattle.std.specs.String.{string_bytes}
 use Rattle.repo_member.specs.Groups.{GroupKeys}
 use Rattle.bench_world.specs.EventValues.{event_value}
 use Rattle.bench_world.specs.Worlds.{world_of}
+use Rattle.repo_top.specs.Mirrors.{mirror_as}
 use Rattle.repo_top.specs.Judging.{acted, given_by}
 use Rattle.repo_top.specs.Progressing.{IsStop, standing_keys, progress_state}
+use Rattle.repo_top.proofs.MirrorLines.{stands_behind}
 use Rattle.repo_top.proofs.Progressings.{as_many, carried_says, carried_stops, stops_so}
 use Rattle.repo_top.proofs.progress.Progress.carry_out.Goals as goal
 
@@ -34,5 +36,15 @@ returns-clause-taken g c = carried_says (given_by (g.D.Draws.draw c.args.draws.n
     (event_value c.args.event.now) c.in_ok-world.world.keys (world_of c.in_ok-world.world)
     c.replace-standing.ensures.value
     c.in_ok-world.ensures.keys c.in_ok-world.ensures.world _ c.step.new.report.items c.step.new.world.keys
-    (world_of c.step.new.world) c.in_ok-step.ensures.taken c.in_ok-step.ensures.report c.in_ok-step.ensures.world
-    c.in_ok-step.ensures.keys (ap (map string_bytes) c.deref.ensures.value ∙ c.requires.named.labels)
+    (world_of c.step.new.world) (map mirror_as c.in_ok-world.world.mirrors) (map mirror_as c.step.new.world.mirrors)
+    c.in_ok-step.ensures.taken c.in_ok-step.ensures.report c.in_ok-step.ensures.world c.in_ok-step.ensures.keys
+    (ap (map string_bytes) c.deref.ensures.value ∙ c.requires.named.labels) c.in_ok-world.ensures.mirrors
+    c.in_ok-step.ensures.mirrors
+
+pub returns-clause-is : goal.returns-clause-is
+returns-clause-is g c = stands_behind (map string_bytes c.args.self.now.labels.items) c.args.self.now.standing
+    c.replace-standing.result c.args.self.now.watchers.items c.args.self.now.words c.in_ok-world.world.keys
+    (map mirror_as c.in_ok-world.world.mirrors) c.step.new.world (event_value c.args.event.now)
+    c.replace-standing.ensures.value c.in_ok-world.ensures.keys c.in_ok-step.ensures.keys c.in_ok-world.ensures.mirrors
+    c.in_ok-step.ensures.mirrors c.requires.named c.requires.watched c.requires.mirrored c.requires.group
+    c.requires.events

@@ -7,6 +7,7 @@ use Rattle.repo_top.specs.Judging.{Verdict, given_by, says}
 use Rattle.repo_top.specs.Progressing.{IsStop, LineIsChecked, progress_state}
 use Rattle.repo_top.proofs.Progressings.{grouped, member_declared, client_declared, declared_says, event_acts, is_event}
 use Rattle.repo_top.proofs.WatchLines.{told_taken, watch_taken}
+use Rattle.repo_top.proofs.MirrorLines.{fetched_taken, heard_taken, listed_taken, mirror_declared}
 use Rattle.repo_top.proofs.progress.Progress.follow.Goals as goal
 
 pub declare_group-requires : goal.declare_group-requires
@@ -15,7 +16,14 @@ declare_group-requires g c =
     (map string_bytes c.args.self.now.labels.items) c.args.self.now.standing c.args.self.now.watchers.items
     c.args.self.now.words
     (stated c.args.line) c.in-Group.name (ap stated c.in-Group.is) c.requires.checked in
-    record { name = one.plain; group = one.group; early = one.early; named = one.named; watched = one.watched }
+    record {
+      name = one.plain;
+      group = one.group;
+      early = one.early;
+      named = one.named;
+      watched = one.watched;
+      mirrored = one.mirrored;
+    }
 
 pub returns-in-Group-clause-taken : goal.returns-in-Group-clause-taken
 returns-in-Group-clause-taken g c =
@@ -44,6 +52,7 @@ declare_member-requires g c =
       few = one.1;
       named = one.0.named;
       watched = sym (length-append c.args.self.now.watchers.items ([] ∷ [])) ∙ one.0.watched;
+      mirrored = one.0.mirrored;
     }
 
 pub returns-in-Member-clause-taken : goal.returns-in-Member-clause-taken
@@ -74,6 +83,7 @@ declare_client-requires g c =
       few = one.1;
       named = one.0.named;
       watched = one.0.watched;
+      mirrored = one.0.mirrored;
     }
 
 pub returns-in-Client-clause-taken : goal.returns-in-Client-clause-taken
@@ -89,7 +99,8 @@ returns-in-Client-clause-taken g c =
 pub act-requires-clause-event : goal.act-requires-clause-event
 act-requires-clause-event g c κs within =
     is_event c.args.line c.in_default.not-Group c.in_default.not-Member c.in_default.not-Client
-    c.in_default.not-Watch c.in_default.not-Told
+    c.in_default.not-Watch c.in_default.not-Told c.in_default.not-Mirror c.in_default.not-Mdeliver
+    c.in_default.not-Mfetch c.in_default.not-Mcatalogue
 
 pub act-requires-clause-fit : goal.act-requires-clause-fit
 act-requires-clause-fit g c κs within =
@@ -97,7 +108,8 @@ act-requires-clause-fit g c κs within =
     (map string_bytes c.args.self.now.labels.items) c.args.self.now.standing c.args.self.now.watchers.items
     c.args.self.now.words c.args.line
     (is_event c.args.line c.in_default.not-Group c.in_default.not-Member c.in_default.not-Client
-    c.in_default.not-Watch c.in_default.not-Told)
+    c.in_default.not-Watch c.in_default.not-Told c.in_default.not-Mirror c.in_default.not-Mdeliver
+    c.in_default.not-Mfetch c.in_default.not-Mcatalogue)
     c.requires.checked).fit
 
 pub act-requires-clause-named : goal.act-requires-clause-named
@@ -106,7 +118,8 @@ act-requires-clause-named g c κs within =
     (map string_bytes c.args.self.now.labels.items) c.args.self.now.standing c.args.self.now.watchers.items
     c.args.self.now.words c.args.line
     (is_event c.args.line c.in_default.not-Group c.in_default.not-Member c.in_default.not-Client
-    c.in_default.not-Watch c.in_default.not-Told)
+    c.in_default.not-Watch c.in_default.not-Told c.in_default.not-Mirror c.in_default.not-Mdeliver
+    c.in_default.not-Mfetch c.in_default.not-Mcatalogue)
     c.requires.checked).named
 
 pub act-requires-clause-group : goal.act-requires-clause-group
@@ -115,7 +128,8 @@ act-requires-clause-group g c κs within =
     (map string_bytes c.args.self.now.labels.items) c.args.self.now.standing c.args.self.now.watchers.items
     c.args.self.now.words c.args.line
     (is_event c.args.line c.in_default.not-Group c.in_default.not-Member c.in_default.not-Client
-    c.in_default.not-Watch c.in_default.not-Told)
+    c.in_default.not-Watch c.in_default.not-Told c.in_default.not-Mirror c.in_default.not-Mdeliver
+    c.in_default.not-Mfetch c.in_default.not-Mcatalogue)
     c.requires.checked).group
 
 pub act-requires-clause-events : goal.act-requires-clause-events
@@ -124,7 +138,8 @@ act-requires-clause-events g c κs within =
     (map string_bytes c.args.self.now.labels.items) c.args.self.now.standing c.args.self.now.watchers.items
     c.args.self.now.words c.args.line
     (is_event c.args.line c.in_default.not-Group c.in_default.not-Member c.in_default.not-Client
-    c.in_default.not-Watch c.in_default.not-Told)
+    c.in_default.not-Watch c.in_default.not-Told c.in_default.not-Mirror c.in_default.not-Mdeliver
+    c.in_default.not-Mfetch c.in_default.not-Mcatalogue)
     c.requires.checked).events
 
 pub act-requires-clause-watched : goal.act-requires-clause-watched
@@ -133,8 +148,19 @@ act-requires-clause-watched g c κs within =
     (map string_bytes c.args.self.now.labels.items) c.args.self.now.standing c.args.self.now.watchers.items
     c.args.self.now.words c.args.line
     (is_event c.args.line c.in_default.not-Group c.in_default.not-Member c.in_default.not-Client
-    c.in_default.not-Watch c.in_default.not-Told)
+    c.in_default.not-Watch c.in_default.not-Told c.in_default.not-Mirror c.in_default.not-Mdeliver
+    c.in_default.not-Mfetch c.in_default.not-Mcatalogue)
     c.requires.checked).watched
+
+pub act-requires-clause-mirrored : goal.act-requires-clause-mirrored
+act-requires-clause-mirrored g c κs within =
+    (event_acts (given_by (g.D.Draws.draw c.args.draws.now) (g.N.Net.passes c.args.net.now))
+    (map string_bytes c.args.self.now.labels.items) c.args.self.now.standing c.args.self.now.watchers.items
+    c.args.self.now.words c.args.line
+    (is_event c.args.line c.in_default.not-Group c.in_default.not-Member c.in_default.not-Client
+    c.in_default.not-Watch c.in_default.not-Told c.in_default.not-Mirror c.in_default.not-Mdeliver
+    c.in_default.not-Mfetch c.in_default.not-Mcatalogue)
+    c.requires.checked).mirrored
 
 pub returns-in_default-clause-taken : goal.returns-in_default-clause-taken
 returns-in_default-clause-taken g c =
@@ -142,7 +168,8 @@ returns-in_default-clause-taken g c =
     (map string_bytes c.args.self.now.labels.items) c.args.self.now.standing c.args.self.now.watchers.items
     c.args.self.now.words c.args.line
     (is_event c.args.line c.in_default.not-Group c.in_default.not-Member c.in_default.not-Client
-    c.in_default.not-Watch c.in_default.not-Told) c.requires.checked in
+    c.in_default.not-Watch c.in_default.not-Told c.in_default.not-Mirror c.in_default.not-Mdeliver
+    c.in_default.not-Mfetch c.in_default.not-Mcatalogue) c.requires.checked in
     subst (λ (v : Verdict). OnOk c.act.result (v ≡ says c.act.new.report.items (progress_state c.act.new.self)))
     (sym one.acts)
     c.act.ensures.taken
@@ -153,7 +180,8 @@ returns-in_default-clause-stopped g c =
     (map string_bytes c.args.self.now.labels.items) c.args.self.now.standing c.args.self.now.watchers.items
     c.args.self.now.words c.args.line
     (is_event c.args.line c.in_default.not-Group c.in_default.not-Member c.in_default.not-Client
-    c.in_default.not-Watch c.in_default.not-Told) c.requires.checked in
+    c.in_default.not-Watch c.in_default.not-Told c.in_default.not-Mirror c.in_default.not-Mdeliver
+    c.in_default.not-Mfetch c.in_default.not-Mcatalogue) c.requires.checked in
     subst (λ (v : Verdict). IfErr c.act.result (IsStop v)) (sym one.acts) c.act.ensures.stopped
 
 pub watch-requires-clause-checked : goal.watch-requires-clause-checked
@@ -197,3 +225,81 @@ returns-in-Told-clause-stopped g c =
     (progress_state c.args.self.now) c.args.self.now.words (stated c.args.line)
     (Text (string_bytes c.in-Told.m) ∷ Number c.in-Told.w ∷ [])
     (ap stated c.in-Told.is))) c.tell.ensures.stopped
+
+pub declare_mirror-requires : goal.declare_mirror-requires
+declare_mirror-requires g c =
+    let one = mirror_declared (given_by (g.D.Draws.draw c.args.draws.now) (g.N.Net.passes c.args.net.now))
+    (map string_bytes c.args.self.now.labels.items) c.args.self.now.standing c.args.self.now.watchers.items
+    c.args.self.now.words (stated c.args.line) (string_bytes c.in-Mirror._label) (publisher_value c.in-Mirror.p)
+    c.in-Mirror.name (ap stated c.in-Mirror.is) c.requires.checked in
+    record {
+      publisher = one.known;
+      group = one.group;
+      early = one.early;
+      there = one.there;
+      unchanged = one.unchanged;
+      named = one.named;
+      watched = one.watched;
+      mirrored = one.mirrored;
+      few = one.few;
+    }
+
+pub returns-in-Mirror-clause-taken : goal.returns-in-Mirror-clause-taken
+returns-in-Mirror-clause-taken g c =
+    let one = mirror_declared (given_by (g.D.Draws.draw c.args.draws.now) (g.N.Net.passes c.args.net.now))
+    (map string_bytes c.args.self.now.labels.items) c.args.self.now.standing c.args.self.now.watchers.items
+    c.args.self.now.words (stated c.args.line) (string_bytes c.in-Mirror._label) (publisher_value c.in-Mirror.p)
+    c.in-Mirror.name (ap stated c.in-Mirror.is) c.requires.checked in
+    declared_says c.declare_mirror.result _ c.args.report.now.items _ _ one.says c.requires.empty
+    c.declare_mirror.ensures.state
+
+pub mirror_hear-requires-clause-checked : goal.mirror_hear-requires-clause-checked
+mirror_hear-requires-clause-checked g c =
+    subst (LineIsChecked (map string_bytes c.args.self.now.labels.items) c.args.self.now.standing
+    c.args.self.now.watchers.items c.args.self.now.words) (ap stated c.in-Mdeliver.is) c.requires.checked
+
+pub returns-in-Mdeliver-clause-taken : goal.returns-in-Mdeliver-clause-taken
+returns-in-Mdeliver-clause-taken g c =
+    subst (λ (v : Verdict). OnOk c.mirror_hear.result
+    (v ≡ says c.mirror_hear.new.report.items (progress_state c.mirror_hear.new.self)))
+    (sym (heard_taken (given_by (g.D.Draws.draw c.args.draws.now) (g.N.Net.passes c.args.net.now))
+    (progress_state c.args.self.now) c.args.self.now.words (stated c.args.line)
+    (Number c.in-Mdeliver.k ∷ Text (string_bytes c.in-Mdeliver.l) ∷ [])
+    (ap stated c.in-Mdeliver.is))) c.mirror_hear.ensures.taken
+
+pub returns-in-Mdeliver-clause-stopped : goal.returns-in-Mdeliver-clause-stopped
+returns-in-Mdeliver-clause-stopped g c =
+    subst (λ (v : Verdict). IfErr c.mirror_hear.result (IsStop v))
+    (sym (heard_taken (given_by (g.D.Draws.draw c.args.draws.now) (g.N.Net.passes c.args.net.now))
+    (progress_state c.args.self.now) c.args.self.now.words (stated c.args.line)
+    (Number c.in-Mdeliver.k ∷ Text (string_bytes c.in-Mdeliver.l) ∷ [])
+    (ap stated c.in-Mdeliver.is))) c.mirror_hear.ensures.stopped
+
+pub mirror_fetch-requires-clause-checked : goal.mirror_fetch-requires-clause-checked
+mirror_fetch-requires-clause-checked g c κs within =
+    subst (LineIsChecked (map string_bytes c.args.self.now.labels.items) c.args.self.now.standing
+    c.args.self.now.watchers.items c.args.self.now.words) (ap stated c.in-Mfetch.is) c.requires.checked
+
+pub returns-in-Mfetch-clause-taken : goal.returns-in-Mfetch-clause-taken
+returns-in-Mfetch-clause-taken g c =
+    subst (λ (v : Verdict). OnOk c.mirror_fetch.result
+    (v ≡ says c.mirror_fetch.new.report.items (progress_state c.mirror_fetch.new.self)))
+    (sym (fetched_taken (given_by (g.D.Draws.draw c.args.draws.now) (g.N.Net.passes c.args.net.now))
+    (progress_state c.args.self.now) c.args.self.now.words (stated c.args.line)
+    (Text (string_bytes c.in-Mfetch.l) ∷ Number c.in-Mfetch.workers ∷ Number c.in-Mfetch.tries
+    ∷ Number c.in-Mfetch.loss ∷ [])
+    (ap stated c.in-Mfetch.is))) c.mirror_fetch.ensures.taken
+
+pub mirror_list-requires-clause-checked : goal.mirror_list-requires-clause-checked
+mirror_list-requires-clause-checked g c =
+    subst (LineIsChecked (map string_bytes c.args.self.now.labels.items) c.args.self.now.standing
+    c.args.self.now.watchers.items c.args.self.now.words) (ap stated c.in-Mcatalogue.is) c.requires.checked
+
+pub returns-in-Mcatalogue-clause-taken : goal.returns-in-Mcatalogue-clause-taken
+returns-in-Mcatalogue-clause-taken g c =
+    subst (λ (v : Verdict). OnOk c.mirror_list.result
+    (v ≡ says c.mirror_list.new.report.items (progress_state c.mirror_list.new.self)))
+    (sym (listed_taken (given_by (g.D.Draws.draw c.args.draws.now) (g.N.Net.passes c.args.net.now))
+    (progress_state c.args.self.now) c.args.self.now.words (stated c.args.line)
+    (Text (string_bytes c.in-Mcatalogue.l) ∷ [])
+    (ap stated c.in-Mcatalogue.is))) c.mirror_list.ensures.taken

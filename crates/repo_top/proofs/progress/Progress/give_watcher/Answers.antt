@@ -1,6 +1,6 @@
 use Rattle.std.proofs.Common.{List, length, subst}
 use Rattle.repo_watch.specs.Watching.{Watching}
-use Rattle.repo_top.specs.declared.refusal.Refusal.TheVariants as refusal
+use Rattle.script_report.specs.declared.refusal.Refusal.TheVariants as refusal
 use Rattle.repo_top.specs.Judging.{begun_world, watched, watchers_of}
 use Rattle.repo_top.specs.Progressing.{IsStop, IsStopWhere, progress_state}
 use Rattle.std.proofs.Common.{nat_le}

@@ -37,6 +37,13 @@ tell_watcher-requires-clause-watched g c =
     c.requires.checked in
     one.watched
 
+pub tell_watcher-requires-clause-mirrored : goal.tell_watcher-requires-clause-mirrored
+tell_watcher-requires-clause-mirrored g c =
+    let one = told_checked (map string_bytes c.args.self.now.labels.items) c.args.self.now.standing
+    c.args.self.now.watchers.items c.args.self.now.words (string_bytes c.args.label) c.args.number
+    c.requires.checked in
+    one.mirrored
+
 pub tell_watcher-requires-clause-group : goal.tell_watcher-requires-clause-group
 tell_watcher-requires-clause-group g c =
     let one = told_checked (map string_bytes c.args.self.now.labels.items) c.args.self.now.standing

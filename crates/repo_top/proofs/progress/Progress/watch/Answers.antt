@@ -44,6 +44,13 @@ give_watcher-requires-clause-watched g c =
     c.requires.checked in
     one.of.watched
 
+pub give_watcher-requires-clause-mirrored : goal.give_watcher-requires-clause-mirrored
+give_watcher-requires-clause-mirrored g c =
+    let one = watch_checked (map string_bytes c.args.self.now.labels.items) c.args.self.now.standing
+    c.args.self.now.watchers.items c.args.self.now.words (string_bytes c.args.label) c.args.publisher c.args.prefix
+    c.requires.checked in
+    one.of.mirrored
+
 pub give_watcher-requires-clause-group : goal.give_watcher-requires-clause-group
 give_watcher-requires-clause-group g c =
     let one = watch_checked (map string_bytes c.args.self.now.labels.items) c.args.self.now.standing

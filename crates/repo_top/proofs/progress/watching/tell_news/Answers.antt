@@ -20,7 +20,7 @@ put_news-requires-clause-publishers c =
     let o = watch_of c.args.number (get_or c.args.watchers.now c.args.m c.index-watchers-m.result) in
     let are = c.catalogue-catalogue.ensures ∙ c.member.ensures.catalogue in
     publishers_are c.args.world.now c.args.m c.catalogue-catalogue.result.now.entries are (length c.args.labels.now) o
-    c.deref-2.result.now c.members-count.ensures.names c.members-count.ensures.sound c.requires.labels
+    c.deref-2.result.now c.is_sound.ensures.names c.is_sound.ensures.sound c.requires.labels
     (omega (arith, c.requires.there, c.requires.each))
     (c.deref-2.ensures.value ∙ copies_are c.args.world.now c.args.m c.catalogue-catalogue.result.now.entries are o
     c.in_ok-entries.entries.items c.deref.result.now (c.deref.ensures.value ∙ c.in_ok-pairs.ensures.news)

@@ -2,7 +2,7 @@ use Rattle.std.proofs.Common.{map, length, sym}
 use Rattle.std.specs.Prelude.{string_bytes}
 use Rattle.std.proofs.lemmas.List.{length-map}
 use Rattle.repo_top.proofs.Labels.{labels_of_all}
-use Rattle.repo_top.proofs.telling.put_happened.Goals as goal
+use Rattle.repo_top.proofs.telling.put_of_group.Goals as goal
 
 pub returns-in-Vector : goal.returns-in-Vector
 returns-in-Vector c =
@@ -11,7 +11,7 @@ returns-in-Vector c =
     let named =
     labels_of_all (map string_bytes given) (length given) c.in-Vector.members.items
     (sym (length-map given string_bytes)) all.0 in
-    rw (c.in-Vector.is, named, ← c.label-in-Vector.ensures, ← c.deref-in-Vector.ensures.value) c.put_vector.ensures
+    rw (c.in-Vector.is, named, ← c.label.ensures, ← c.deref.ensures.value) c.put_vector.ensures
 
 pub returns-in-Summary : goal.returns-in-Summary
 returns-in-Summary c =

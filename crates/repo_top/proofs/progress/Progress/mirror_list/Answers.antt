@@ -1,0 +1,37 @@
+use Rattle.std.proofs.Common.{◌≡◌, ◌∙◌, ℕ, List, true, map, ap, sym, subst}
+use Rattle.std.specs.Prelude.{OnOk}
+use Rattle.std.specs.String.{string_bytes}
+use Rattle.script_lang.specs.Checking.{is_mirror}
+use Rattle.repo_top.specs.SaidEvents.{mirror_number}
+use Rattle.repo_top.specs.Judging.{Verdict, begun_world, says}
+use Rattle.repo_top.specs.Progressing.{MirrorIsThere, progress_state}
+use Rattle.repo_top.proofs.MirrorLines.{listed_checked, listed_same}
+use Rattle.repo_top.proofs.progress.Progress.mirror_list.Goals as goal
+
+pub mirror-i-requires : goal.mirror-i-requires
+mirror-i-requires g c =
+    let one = listed_checked (map string_bytes c.args.self.now.labels.items) c.args.self.now.standing
+    c.args.self.now.watchers.items c.args.self.now.words
+    (string_bytes c.args.label)
+    c.requires.checked in
+    subst (λ (l : List ℕ). is_mirror l c.args.self.now.words.mirrors ≡ true) (sym c.deref.ensures) one.known
+
+pub list_at-requires-clause-there : goal.list_at-requires-clause-there
+list_at-requires-clause-there g c =
+    let one = listed_checked (map string_bytes c.args.self.now.labels.items) c.args.self.now.standing
+    c.args.self.now.watchers.items c.args.self.now.words
+    (string_bytes c.args.label)
+    c.requires.checked in
+    subst (MirrorIsThere (map string_bytes c.args.self.now.labels.items) c.args.self.now.standing
+    c.args.self.now.watchers.items c.args.self.now.words)
+    (sym (c.mirror-i.ensures ∙ ap (λ (l : List ℕ). mirror_number l c.args.self.now.words.mirrors) c.deref.ensures))
+    one.is
+
+pub returns-clause-taken : goal.returns-clause-taken
+returns-clause-taken g c =
+    let same = listed_same (begun_world (g.D.Draws.draw c.args.draws.now) (progress_state c.args.self.now))
+    (progress_state c.args.self.now) c.args.self.now.words c.mirror-i.result _ (string_bytes c.args.label) _
+    (c.mirror-i.ensures ∙ ap (λ (l : List ℕ). mirror_number l c.args.self.now.words.mirrors) c.deref.ensures)
+    c.deref-2.ensures in
+    subst (λ (v : Verdict). OnOk c.list_at.result
+    (v ≡ says c.list_at.new.report.items (progress_state c.list_at.new.self))) same c.list_at.ensures.taken

@@ -1,0 +1,16 @@
+use Rattle.std.proofs.Common.{◌∙◌, ap, length, map, sym}
+use Rattle.repo_member.specs.Groups.{GroupKeys}
+use Rattle.repo_top.specs.declared.progress.Standing.{Standing}
+use Rattle.repo_top.specs.Mirrors.{mirror_begins}
+use Rattle.repo_top.specs.Judging.{mirrors_begin, with_member_too}
+use Rattle.repo_top.specs.Progressing.{mirrors_in, standing_keys}
+use Rattle.repo_top.proofs.MirrorWorlds.{begin_again}
+use Rattle.repo_top.proofs.progress.Standing.add_member.Goals as goal
+
+pub returns-in-Ok-clause-mirrors : goal.returns-in-Ok-clause-mirrors
+returns-in-Ok-clause-mirrors c =
+    let keys : GroupKeys = with_member_too c.args.node.now c.args.key.now c.in-Declaring.group in
+    ap (λ (k : GroupKeys). map (mirror_begins (length k.members.names)) c.in-Declaring.field-1.items) c.in-Ok.ensures.ok
+    ∙ begin_again (length c.in-Declaring.group.members.names) (length keys.members.names) c.in-Declaring.field-1.items
+    ∙ ap (λ (s : Standing). mirrors_begin (with_member_too c.args.node.now c.args.key.now (standing_keys s))
+    (mirrors_in s)) (sym c.in-Declaring.is)

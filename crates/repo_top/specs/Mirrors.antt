@@ -1,0 +1,142 @@
+-- The mirrors of a group: what each knows, holds, wants, gets and lists. A mirror publishes nothing, and no other asks
+-- it for a part.
+use Rattle.std.specs.Prelude.{ℕ, ◌+◌, ◌==◌, Bool, false, not, ◌&&◌, ◌||◌, List, [], map, filter, find, take, replicate}
+use Rattle.std.specs.Prelude.{Option, None, is_some, unwrap_or, slice_index, slice_index_or, nat_le, sum_by}
+use Rattle.std.specs.Prelude.{if◌then◌else◌}
+use Rattle.std.specs.List.{list_all, list_any}
+use Rattle.sorted_lists.specs.SortedList.{contains}
+use Rattle.sorted_lists.specs.Range.{numbers_from}
+use Rattle.svs_vector.specs.Vectors.{join}
+use Rattle.repo_plan.specs.declared.part.Part.{Part}
+use Rattle.repo_plan.specs.Parts.{Pair, part_cmp, pair_of, part_of, parent}
+use Rattle.repo_catalog.specs.declared.entry.Entry.{Entry}
+use Rattle.repo_watch.specs.declared.pattern.Pattern.{Pattern}
+use Rattle.repo_watch.specs.Patterns.{is_publisher}
+use Rattle.group_model.specs.Publications.{Logs, Publication, all_parts, pair_in, parts_in, published, published_entry}
+use Rattle.group_model.specs.Publications.{shape_at, withdraws}
+use Rattle.group_model.specs.Member.{tries_of}
+use Rattle.group_model.specs.World.{World, logs, someone_holds}
+use Rattle.group_model.specs.Steps.{settled_vector}
+use Rattle.mirror_model.specs.Asked.{is_kept}
+use Rattle.mirror_model.specs.Mirrors.{is_object_accepted, mirror_holds}
+use Rattle.repo_mirror.specs.MirrorState.{MirrorState}
+use Rattle.repo_mirror.specs.TrueMirrors.{mirror_in_group}
+
+-- A mirror, as its group sees it.
+pub record Mirroring : Type 0 where
+  pub pattern : Pattern
+  pub known : List ℕ  -- its vector: one number a member
+  pub holds : Part → Bool
+  pub tries : Part → ℕ  -- how often it tried each part, but for records of objects that its pattern isn't for
+
+-- A mirror of a group of so many members, which knows of nothing.
+abbrev pub mirror_begins : ℕ → Pattern → Mirroring
+mirror_begins members pattern =
+    record { pattern = pattern; known = replicate members 0; holds = λ t. false; tries = λ t. 0 }
+
+-- It is told a vector.
+abbrev pub mirror_hears : List ℕ → Mirroring → Mirroring
+mirror_hears told m = record m { known = join m.known told }
+
+-- The mirror with its packets, as its group sees it.
+abbrev pub mirror_as : MirrorState → Mirroring
+mirror_as m = record {
+  pattern = m.pattern;
+  known = m.known;
+  holds = mirror_holds (mirror_in_group m);
+  tries = tries_of m.attempts;
+}
+
+-- The mirror of a number, from 0 on.
+abbrev pub no_mirroring : Mirroring
+no_mirroring = mirror_begins 0 (record { publisher = None; prefix = [] })
+
+abbrev pub mirror_of : List Mirroring → ℕ → Mirroring
+mirror_of mirrors i = slice_index_or mirrors i no_mirroring
+
+-- ---- what it wants
+
+-- A part besides the record, which a held part lists, of an object that the pattern is for.
+abbrev pub is_asked_for : Logs → Mirroring → Part → Bool
+is_asked_for ls m t = m.holds (parent (shape_at ls (pair_of t)) t) && is_kept m.pattern ls (pair_of t)
+
+-- A record, or such a part, of a known publication of a publisher that is asked, and that isn't held.
+abbrev pub is_wanted_by : Logs → Mirroring → Part → Bool
+is_wanted_by ls m t =
+    nat_le t.seq (slice_index m.known t.publisher)
+    && (is_publisher m.pattern.publisher t.publisher && ((t.part == 0 || is_asked_for ls m t) && not (m.holds t)))
+
+-- Of all parts that there are, in order. A fetch asks for the least 4,096 of them.
+abbrev pub wanted_by : World → Mirroring → List Part
+wanted_by w m = filter (is_wanted_by (logs w) m) (all_parts (logs w))
+
+abbrev pub asked_by : World → Mirroring → List Part
+asked_by w m = take 4096 (wanted_by w m)
+
+-- ---- what it fetches of members
+
+-- Which attempts the network passes, where to it the mirror's number is by 16 higher.
+module _ (passes : ℕ → ℕ → ℕ → ℕ → ℕ → ℕ → Bool) (w : World) (i tries loss : ℕ) where
+  -- The first of so many attempts that the network passes, where a member holds the part.
+  abbrev pub attempt_of : Mirroring → Part → Option ℕ
+  attempt_of m t =
+      if someone_holds w.members t
+      then find (λ n. passes (16 + i) t.publisher t.seq t.part (m.tries t + n) loss) (numbers_from 1 tries)
+      else None
+
+  -- The parts that come.
+  abbrev pub gets : Mirroring → List Part
+  gets m = filter (λ t. is_some (attempt_of m t)) (asked_by w m)
+
+  -- How many attempts a part takes.
+  abbrev pub attempts_for : Mirroring → Part → ℕ
+  attempts_for m t = unwrap_or (attempt_of m t) tries
+
+  abbrev pub attempts_made : Mirroring → ℕ
+  attempts_made m = sum_by (attempts_for m) (asked_by w m)
+
+  -- The parts whose attempts count from then on: all but the records that came of objects that its pattern isn't for,
+  -- which it never asks for again.
+  abbrev pub counted : Mirroring → List Part
+  counted m =
+      filter (λ t. is_kept m.pattern (logs w) (pair_of t) || not (is_some (attempt_of m t))) (asked_by w m)
+
+  -- What came is held too.
+  abbrev pub mirror_fetches : Mirroring → Mirroring
+  mirror_fetches m = record m {
+    holds = λ t. contains part_cmp (gets m) t || m.holds t;
+    tries = λ t. m.tries t + (if contains part_cmp (counted m) t then attempts_for m t else 0);
+  }
+
+-- ---- what it gains in a settle
+
+-- A part that some member holds, of a publication that the mirror or a member knows of, and of a publisher that is
+-- asked: the record, or a part of an object that the pattern is for.
+abbrev pub comes_to : World → Mirroring → Part → Bool
+comes_to w m t =
+    nat_le t.seq (slice_index (join m.known (settled_vector w)) t.publisher)
+    && (is_publisher m.pattern.publisher t.publisher
+    && ((t.part == 0 || is_kept m.pattern (logs w) (pair_of t)) && someone_holds w.members t))
+
+-- It knows what it and all members know, and holds those parts too.
+abbrev pub mirror_settles : World → Mirroring → Mirroring
+mirror_settles w m =
+    record m { known = join m.known (settled_vector w); holds = λ t. m.holds t || comes_to w m t }
+
+-- ---- what it lists
+
+-- The record of a withdrawal of the publication is held.
+abbrev pub is_withdrawn_to : List Publication → Mirroring → Pair → Bool
+is_withdrawn_to publications m pair =
+    list_any (λ q. withdraws pair q && m.holds (part_of (pair_in q) 0)) publications
+
+-- An object that the pattern is for, every part of which is held, and no withdrawal of it.
+abbrev pub is_listed_by : List Publication → Mirroring → Publication → Bool
+is_listed_by publications m p =
+    is_object_accepted m.pattern p
+    && (list_all m.holds (parts_in p) && not (is_withdrawn_to publications m (pair_in p)))
+
+-- Those, in order.
+abbrev pub mirrored_entries : World → Mirroring → List Entry
+mirrored_entries w m =
+    map published_entry (filter (is_listed_by (published (logs w)) m) (published (logs w)))
