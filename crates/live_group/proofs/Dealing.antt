@@ -1,14 +1,14 @@
 -- Inboxes are opened, and lines are dealt out, one of each inbox.
 use Rattle.std.proofs.Common.{◌≡◌, ◌≢◌, inl, inr, ℕ, zero, suc, ◌+◌, ◌<◌, ◌≤◌, List}
 use Rattle.std.proofs.Common.{[], ◌∷◌, ◌++◌, map, length, take, get_or}
-use Rattle.std.proofs.Common.{set, refl, sym, ap, ◌∙◌, arith}
+use Rattle.std.proofs.Common.{set, refl, sym, ap, ◌∙◌, subst, arith}
 use Rattle.std.proofs.lemmas.Bool.{cases_lt}
 use Rattle.std.proofs.lemmas.List.{map-append, map-set, set-get_or, get_or-map, get_or_default, get_or-set_same}
 use Rattle.std.proofs.lemmas.List.{get_or-set_other, length-set, length-map, length-append, take_more}
 use Rattle.std.proofs.lemmas.List.Elements.{All-push}
 use Rattle.atomic_table.specs.Seated.{TableId}
 use Rattle.live_inbox.specs.Ends.{InboxView, fresh_port, fresh_ports}
-use Rattle.live_group.specs.Lines.{LineView, EarView, OpenedView, HavePorts}
+use Rattle.live_group.specs.Lines.{LineView, EarView, OpenedView, HavePorts, HaveCapacity, inbox_capacity}
 
 abbrev pub inboxes_of : List OpenedView → List InboxView
 inboxes_of os = map (λ (o : OpenedView). o.inbox) os
@@ -19,22 +19,26 @@ inboxes_of_lines ls = map (λ (l : LineView). l.inbox) ls
 abbrev pub inboxes_of_ears : List EarView → List InboxView
 inboxes_of_ears es = map (λ (e : EarView). e.inbox) es
 
--- so many inboxes are open, each with a port for each member
+-- so many inboxes are open, each of one capacity and with a port for each member
 pub record AreOpen (members n : ℕ) (opened : List OpenedView) (ears : List EarView) : Type 0 where
   pub width : length opened ≡ n
   pub same : inboxes_of_ears ears ≡ inboxes_of opened
+  pub capacity : HaveCapacity inbox_capacity (inboxes_of opened)
   pub ports : HavePorts members opened
 
 pub one_open : (members n : ℕ) (opened : List OpenedView) (ears : List EarView) (o : OpenedView) (e : EarView)
-    → AreOpen members n opened ears → o.inbox ≡ e.inbox → length o.ports ≡ members
+    → AreOpen members n opened ears → o.inbox ≡ e.inbox → o.inbox.capacity ≡ inbox_capacity → length o.ports ≡ members
     → AreOpen members (n + 1) (opened ++ o ∷ []) (ears ++ e ∷ [])
-one_open members n opened ears o e is its ports = record {
+one_open members n opened ears o e is its capacity ports = record {
   width = let long = length-append opened (o ∷ []) in let width = is.width in omega arith;
   same =
       map-append (λ (e : EarView). e.inbox) ears (e ∷ [])
       ∙ ap (λ (is : List InboxView). is ++ e.inbox ∷ []) is.same
       ∙ ap (λ (i : InboxView). inboxes_of opened ++ i ∷ []) (sym its)
       ∙ sym (map-append (λ (o : OpenedView). o.inbox) opened (o ∷ []));
+  capacity =
+      subst (HaveCapacity inbox_capacity) (sym (map-append (λ (o : OpenedView). o.inbox) opened (o ∷ [])))
+      (All-push (λ (i : InboxView). i.capacity ≡ inbox_capacity) (inboxes_of opened) o.inbox is.capacity capacity);
   ports = All-push (λ (o : OpenedView). length o.ports ≡ members) opened o is.ports ports;
 }
 

@@ -9,7 +9,7 @@ use Rattle.live_inbox.specs.Ends.{InboxView}
 use Rattle.live_group.specs.declared.hand.Hand.{Hand}
 use Rattle.live_group.specs.declared.hand.Job.{Job}
 use Rattle.live_group.specs.declared.hand.Job.TheVariants.{Publish, First, Second}
-use Rattle.live_group.specs.Lines.{EarView, OpenedView, HavePorts}
+use Rattle.live_group.specs.Lines.{EarView, OpenedView, HavePorts, HaveCapacity, inbox_capacity}
 use Rattle.live_group.specs.Jobs.{actor_of, actors_below, IsWired, IsActorBelow}
 use Rattle.live_group.proofs.Dealing.{inboxes_of, inboxes_of_lines, inboxes_of_ears}
 
@@ -28,6 +28,7 @@ module _ {L : Type 0} where
   pub record AreWired (members n : ℕ) (inboxes : List InboxView) (opened : List OpenedView) (jobs : List (Job L))
       (rest : List EarView) : Type 0 where
     pub width : length inboxes ≡ members
+    pub capacity : HaveCapacity inbox_capacity inboxes
     pub left : n + length rest ≡ members
     pub actors : map actor_of jobs ≡ actors_below n
     pub wired : All (IsWired inboxes) jobs
@@ -80,6 +81,7 @@ module _ {L : Type 0} where
     pub one_wired : AreWired members (n + 1) inboxes now after later
     one_wired = record {
       width = is.width;
+      capacity = is.capacity;
       left = let left = one_left in omega arith;
       actors = more_actors;
       wired =

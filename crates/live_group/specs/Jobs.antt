@@ -4,6 +4,7 @@ use Rattle.std.specs.List.{All}
 use Rattle.live_inbox.specs.Ends.{InboxView}
 use Rattle.live_group.specs.declared.hand.Job.{Job}
 use Rattle.live_group.specs.declared.hand.Job.TheVariants.{Publish, First, Second}
+use Rattle.live_group.specs.Lines.{HaveCapacity, inbox_capacity}
 
 module _ {L : Type 0} where
   -- Which member's it is, and which of its actors: 0 publishes and hears, and 1 and 2 fetch.
@@ -29,9 +30,10 @@ abbrev pub actors_below : ℕ → List (ℕ × ℕ)
 actors_below zero = []
 actors_below (suc n) = actors_below n ++ (n, 0) ∷ (n, 1) ∷ (n, 2) ∷ []
 
--- All actors of so many members, each once, and the inboxes of the members.
+-- All actors of so many members, each once, and the inboxes of the members, each of the same capacity.
 pub record AreJobs {L : Type 0} (members : ℕ) (jobs : List (Job L)) : Type 0 where
   pub inboxes : List InboxView
   pub width : length inboxes ≡ members
+  pub capacity : HaveCapacity inbox_capacity inboxes
   pub actors : map actor_of jobs ≡ actors_below members
   pub wired : All (IsWired inboxes) jobs

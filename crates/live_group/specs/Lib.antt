@@ -9,3 +9,4 @@ pub mod Seats
 pub mod Lines
 pub mod Jobs
 pub mod Turns
+pub mod Publishing

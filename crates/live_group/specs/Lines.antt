@@ -1,8 +1,9 @@
 -- How contracts see a line to a member's inbox, and a member's own inbox.
-use Rattle.std.specs.Prelude.{ℕ, ◌≡◌, ◌≢◌, ◌<◌, ◌≤◌, ◌⊎◌, List, length, slice_index_or}
+use Rattle.std.specs.Prelude.{ℕ, ◌≡◌, ◌≢◌, ◌<◌, ◌≤◌, ◌⊎◌, List, ◌++◌, length, slice_index_or}
 use Rattle.std.specs.List.{All}
 use Rattle.crossbeam_queue.specs.Fifo.{Held}
-use Rattle.live_inbox.specs.Ends.{InboxView, PortView, MouthView, puts, HeldOf}
+use Rattle.live_inbox.specs.declared.knowledge.Sent.{Sent}
+use Rattle.live_inbox.specs.Ends.{InboxView, PortView, MouthView, puts, HeldOf, HeldBefore}
 
 -- An inbox, with a port of it. Sync Interests are seen as their octets.
 pub record LineView : Type 0 where
@@ -35,3 +36,27 @@ pub record TellsOthers (octets : List ℕ) (member n : ℕ) (old new : List Line
 -- Each of these inboxes has so many ports that nobody has yet.
 abbrev pub HavePorts : ℕ → List OpenedView → Type 0
 HavePorts n inboxes = All (λ (o : OpenedView). length o.ports ≡ n) inboxes
+
+-- How many sync Interests an inbox holds at most.
+abbrev pub inbox_capacity : ℕ
+inbox_capacity = 8
+
+-- Each of these inboxes holds so many at most.
+abbrev pub HaveCapacity : ℕ → List InboxView → Type 0
+HaveCapacity n inboxes = All (λ (i : InboxView). i.capacity ≡ n) inboxes
+
+-- How many sync Interests a member hears after each publication at most.
+abbrev pub heard_at_once : ℕ
+heard_at_once = 64
+
+-- So many sync Interests were taken out of the inbox, one after the other.
+pub record Hears (n : ℕ) (old new : EarView) : Type 0 where
+  pub inbox : new.inbox ≡ old.inbox
+  pub heard : List (Sent (List ℕ))
+  pub count : length heard ≡ n
+  pub mouth : new.mouth ≡ record old.mouth { taken = old.mouth.taken ++ heard; waiting = new.mouth.waiting }
+
+-- So many were taken; or fewer, and the inbox held nothing at one moment after the last of them.
+abbrev pub HearsSome : ℕ → EarView → EarView → Type 0
+HearsSome most old new =
+    Hears most old new ⊎ ((n : ℕ) × (n < most) × Hears n old new × Held 0 (HeldBefore new.mouth))

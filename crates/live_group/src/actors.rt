@@ -1,7 +1,8 @@
 ghost use Rattle.std.specs.Prelude.{◌≡◌, ◌<◌, length, IfOk, OnOk};
 ghost use Rattle.repo_plan.specs.Calls.{IsFetcher};
 ghost use Rattle.live_group.specs.Jobs.{IsActorBelow};
-ghost use Rattle.live_group.specs.Lines.{TellsOthers};
+ghost use Rattle.live_group.specs.Lines.{TellsOthers, HearsSome, heard_at_once};
+ghost use Rattle.live_group.specs.Publishing.{PublishesNext};
 ghost use Rattle.live_group.specs.Turns.{EndsTurn};
 
 use crate::gate::Gate;
@@ -73,7 +74,8 @@ fn publish_next<L: Lists, R: Wait, G: Gate>(
 ) -> Result<bool, AllocError>
     requires group { g.now ≡ L.meaning.group }
     requires member { hand.old.member < length seats.now }
-    ensures { hand.new.member ≡ hand.old.member }
+    ensures member { hand.new.member ≡ hand.old.member }
+    ensures next { IfOk result (λ more. PublishesNext L.meaning more hand.old hand.new) }
 {
     let member = hand.member;
     let seat = &seats[member as usize];
@@ -115,10 +117,11 @@ fn hear_some<L: Lists, R: Wait, G: Gate>(
     ear: &mut Ear<L>,
 ) -> Result<(), AllocError>
     requires { g.now ≡ L.meaning.group }
+    ensures { OnOk result (HearsSome heard_at_once ear.old ear.new) }
 {
-    for _ in 0..HEARD_AT_ONCE {
+    for _heard in 0..HEARD_AT_ONCE {
         let Some(told) = ear.next(rt) else {
-            break;
+            return Ok(());
         };
         gate.at(member, PUBLISHER);
         seat.lock().lock(rt).hear(g, &told)?;

@@ -1,5 +1,5 @@
 ghost use Rattle.std.specs.Prelude.{ℕ, ◌≡◌, ◌≤◌, ◌+◌, ◌<◌, All, map, length, vec_len, IfOk, OnOk};
-ghost use Rattle.live_group.specs.Lines.{HavePorts};
+ghost use Rattle.live_group.specs.Lines.{HavePorts, HaveCapacity, inbox_capacity};
 
 use crate::line::{Ear, Line, Shared};
 use live_inbox::{Inbox, Port};
@@ -37,6 +37,7 @@ impl<L: Lists> Opened<L> {
         requires some { 1 ≤ members }
         requires few { members ≤ 16 }
         ensures inbox { IfOk result (λ r. r.0.inbox ≡ r.1.inbox) }
+        ensures capacity { IfOk result (λ r. r.0.inbox.capacity ≡ inbox_capacity) }
         ensures ports { IfOk result (λ r. length r.0.ports ≡ members) }
     {
         let (inbox, ports, mouth) = Inbox::new(alloc, INBOX_CAPACITY, members)?;
@@ -68,6 +69,7 @@ pub fn all_inboxes<L: Lists>(
     requires { members ≤ 16 }
     ensures members { IfOk result (λ r. length r.0.items ≡ members) }
     ensures inboxes { IfOk result (λ r. map (λ e. e.inbox) r.1.items ≡ map (λ o. o.inbox) r.0.items) }
+    ensures capacity { IfOk result (λ r. HaveCapacity inbox_capacity (map (λ o. o.inbox) r.0.items)) }
     ensures ports { IfOk result (λ r. HavePorts members r.0.items) }
 {
     let mut inboxes = Vec::with_capacity(alloc, members)?;

@@ -19,8 +19,7 @@ use Rattle.group_model.specs.Steps.{claim_at, passes_checks, came_as, after_came
 use Rattle.live_member.specs.declared.event.LiveEvent.TheVariants as event
 use Rattle.live_member.specs.declared.event.LiveReply.TheVariants as reply
 use Rattle.live_member.specs.declared.event.LiveEntry.{LiveEntry}
-use Rattle.live_member.specs.Meanings.{Meaning, logs_at, world_at, outside}
-use Rattle.live_member.specs.Tellings.{IsLoan, loan}
+use Rattle.live_member.specs.Meanings.{Meaning, whole_logs, logs_at, world_at, outside}
 use Rattle.live_member.specs.Lives.{IsLive, living}
 use Rattle.live_member.specs.Replay.{is_part, fed, live_reply, after, reply_of}
 use Rattle.live_member.specs.Calls.{is_claim, accept_change, accept_reply}
@@ -51,7 +50,7 @@ fed_reply false = refl
 
 module _ (t : Meaning) (most : ℕ) (a : Alone) (journal : List LiveEntry) (coming : List NamedContents)
     (f : ℕ) (part : Part) (octets : List ℕ) (live : IsLive t most (living a journal coming))
-    (lent : IsLoan t (loan part octets)) where
+    (lent : true_packet t.group (whole_logs t) part ≡ Some octets) where
   abbrev w : World
   w = world_at t a.number (in_group a)
 

@@ -5,9 +5,9 @@ use Rattle.std.proofs.Math.ListN.{get_or-append}
 use Rattle.std.proofs.lemmas.Bool.{cases_eq}
 use Rattle.std.proofs.lemmas.List.{map-set, get_or-map, get_or-set_same, get_or-set_other, length-map, length-set}
 use Rattle.std.proofs.lemmas.List.{length-append}
-use Rattle.repo_object.specs.Objects.{NamedContents, Post}
+use Rattle.repo_object.specs.Objects.{NamedContents, Post, shape_in}
 use Rattle.repo_plan.specs.declared.part.Part.{Part}
-use Rattle.repo_plan.specs.Parts.{Pair, pair_of}
+use Rattle.repo_plan.specs.Parts.{Pair, pair_of, parts_behind}
 use Rattle.repo_object.specs.Publication.{packet_at}
 use Rattle.repo_member.specs.Groups.{publisher_at}
 use Rattle.repo_member.specs.Alone.{Alone}
@@ -17,7 +17,7 @@ use Rattle.repo_member.specs.TrueMembers.{IsTrueMember}
 use Rattle.repo_member.proofs.PublicLaws.{true_stores}
 use Rattle.group_model.specs.Publications.{Logs, no_post, post_at, last_of}
 use Rattle.group_model.specs.Member.{Member}
-use Rattle.group_model.specs.Sound.{IsPublished, IsTrueVector}
+use Rattle.group_model.specs.Sound.{IsPublished, IsPublishedPart, IsTrueVector}
 use Rattle.group_model.specs.World.{member, logs, no_member}
 use Rattle.live_member.specs.Meanings.{Meaning, objects_of, as_posts, whole_logs, logs_at, with_log, world_at}
 
@@ -119,6 +119,19 @@ module _ (t : Meaning) (j : ℕ) (log : List Post) (coming : List NamedContents)
   packet_alike part is =
       ap (λ (post : Post). packet_at (publisher_at t.group part.publisher) part.seq post part.part)
       (post_alike (pair_of part) is)
+
+  -- a part of what was published is one of the whole list
+  pub part_whole : (part : Part) → IsPublishedPart (logs_at t j log) part → IsPublishedPart (whole_logs t) part
+  part_whole part is =
+      let last : part.seq ≤ last_of (logs_at t j log) part.publisher = is.there.to_last in
+      record {
+        there = record {
+          from_one = is.there.from_one;
+          to_last = omega (arith, last, at_most_whole part.publisher);
+        };
+        counted = subst (λ (post : Post). part.part ≤ parts_behind (shape_in post)) (post_alike (pair_of part) is.there)
+            is.counted;
+      }
 
   wide : length (logs_at t j log) ≡ length (whole_logs t)
   wide = length-set (whole_logs t) j log

@@ -3,15 +3,16 @@ use Rattle.std.proofs.Common.{◌≡◌, ℕ, zero, suc, ◌<◌, ◌≤◌, Lis
 use Rattle.std.proofs.Common.{refl, ap, sym, ◌∙◌, arith}
 use Rattle.std.specs.Prelude.{slice_index}
 use Rattle.std.proofs.lemmas.List.{get_or-set_same, length-replicate, length-set}
-use Rattle.std.proofs.lemmas.List.Elements.{All-set}
+use Rattle.std.proofs.lemmas.List.Elements.{All-nil, All-set}
 use Rattle.repo_object.specs.Objects.{NamedContents, Post}
 use Rattle.repo_member.specs.Groups.{GroupKeys}
 use Rattle.repo_member.specs.Alone.{Alone, ArePosts, alone_opening, publication_limit}
 use Rattle.repo_member.specs.InGroup.{GrowInto}
 use Rattle.repo_member.proofs.PublicLaws.{begins_true, others_publish}
 use Rattle.group_model.specs.Publications.{Logs}
+use Rattle.live_member.specs.declared.event.LiveEntry.{LiveEntry}
 use Rattle.live_member.specs.Meanings.{Meaning, objects_of, whole_logs, logs_at, IsWithinLimits}
-use Rattle.live_member.specs.Lives.{IsLive, IsKept, living, opening}
+use Rattle.live_member.specs.Lives.{BringsPart, IsLive, IsKept, living, opening}
 use Rattle.live_member.proofs.Around.{width_whole}
 
 none_at : (n p : ℕ) → ◌≡◌ {A = List Post} (get_or (replicate n []) p []) []
@@ -35,6 +36,7 @@ begins_live t most j within less =
     record {
       within = within;
       replays = refl;
+      brought = All-nil (λ (e : LiveEntry). BringsPart t e.event);
       list = refl;
       logs = record {
         group = within.logs.group;

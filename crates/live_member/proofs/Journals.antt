@@ -1,6 +1,7 @@
 -- A journal that is one entry longer.
 use Rattle.std.proofs.Common.{◌≡◌, ℕ, ◌+◌, ◌<◌, ◌≤◌, List, [], ◌∷◌, ◌++◌, length, refl, ap, sym, ◌∙◌, subst, arith}
 use Rattle.std.proofs.Common.{length-append}
+use Rattle.std.proofs.lemmas.List.Elements.{All-push}
 use Rattle.repo_object.specs.Objects.{NamedContents, Post}
 use Rattle.repo_member.specs.Alone.{Alone}
 use Rattle.repo_member.specs.InGroup.{AreLogs, in_group}
@@ -12,7 +13,7 @@ use Rattle.live_member.specs.declared.event.LiveReply.{LiveReply}
 use Rattle.live_member.specs.declared.event.LiveEntry.{LiveEntry}
 use Rattle.live_member.specs.Meanings.{Meaning, objects_of, as_posts, logs_at}
 use Rattle.live_member.specs.Replay.{Replays, after, reply_of}
-use Rattle.live_member.specs.Lives.{IsLive, IsKept, ReplaysTo, living, opening}
+use Rattle.live_member.specs.Lives.{BringsPart, IsLive, IsKept, ReplaysTo, living, opening}
 use Rattle.live_member.specs.LockedCalls.{entry, StepsBy}
 
 replays_more : (t : Meaning) (j : ℕ) (es : List LiveEntry) (from mid : Member) (e : LiveEvent) (r : LiveReply)
@@ -43,14 +44,15 @@ pub record IsQuiet (t : Meaning) (a b : Alone) : Type 0 where
 
 pub lives_on : (t : Meaning) (most : ℕ) (a b : Alone) (journal : List LiveEntry) (coming : List NamedContents)
     (e : LiveEvent) (r : LiveReply) → IsLive t most (living a journal coming) → length journal < most
-    → IsAfter t e r a b → IsQuiet t a b → IsLive t most (living b (journal ++ entry e r ∷ []) coming)
-lives_on t most a b journal coming e r live less is quiet =
+    → IsAfter t e r a b → BringsPart t e → IsQuiet t a b → IsLive t most (living b (journal ++ entry e r ∷ []) coming)
+lives_on t most a b journal coming e r live less is brings quiet =
     let same : logs_at t a.number a.log ≡ logs_at t b.number b.log =
     λ i. logs_at t (sym is.number i) (sym quiet.log i) in
     let long = length-append journal (entry e r ∷ []) in
     record {
       within = live.within;
       replays = replays_on t a b journal e r live.replays is;
+      brought = All-push (λ (x : LiveEntry). BringsPart t x.event) journal (entry e r) live.brought brings;
       list = ap (λ (l : List Post). l ++ as_posts coming) quiet.log ∙ live.list
           ∙ ap (λ (n : ℕ). as_posts (objects_of t n)) (sym is.number);
       logs = subst (AreLogs t.group) same live.logs;
@@ -62,13 +64,14 @@ lives_on t most a b journal coming e r live less is quiet =
 
 -- a call that publishes nothing, with its entry
 module _ (t : Meaning) (most : ℕ) (a b : Alone) (journal : List LiveEntry) (coming : List NamedContents)
-    (e : LiveEvent) (r : LiveReply) (less : length journal < most) (is : IsAfter t e r a b) where
+    (e : LiveEvent) (r : LiveReply) (less : length journal < most) (is : IsAfter t e r a b)
+    (brings : BringsPart t e) where
   pub kept_on : (number draw : ℕ) → IsKept t most number draw (living a journal coming) → IsQuiet t a b
       → IsKept t most number draw (living b (journal ++ entry e r ∷ []) coming)
   kept_on number draw kept quiet = record {
     its_number = kept.its_number ∙ sym is.number;
     its_draw = kept.its_draw;
-    live = lives_on t most a b journal coming e r kept.live less is quiet;
+    live = lives_on t most a b journal coming e r kept.live less is brings quiet;
   }
 
   pub steps_on : (number draw : ℕ) → IsKept t most number draw (living a journal coming) → IsQuiet t a b

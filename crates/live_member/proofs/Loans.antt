@@ -23,7 +23,7 @@ use Rattle.live_member.specs.declared.event.LiveEntry.{LiveEntry}
 use Rattle.live_member.specs.Meanings.{Meaning, logs_at}
 use Rattle.live_member.specs.Tellings.{IsTelling, IsLoan, loan}
 use Rattle.live_member.specs.Lives.{IsLive, living}
-use Rattle.live_member.proofs.Around.{number_there, packet_alike, vector_whole}
+use Rattle.live_member.proofs.Around.{number_there, packet_alike, part_whole, vector_whole}
 
 module _ (t : Meaning) (most : ℕ) (a : Alone) (journal : List LiveEntry) (coming : List NamedContents)
     (live : IsLive t most (living a journal coming)) where
@@ -54,12 +54,18 @@ module _ (t : Meaning) (most : ℕ) (a : Alone) (journal : List LiveEntry) (comi
       → member_holds (in_group a) part ≡ true
   stored_held part octets h = contains-value a.store part ∙ ap is_some h
 
-  -- a packet that is stored is the part's
+  -- a packet that is stored is the part's, which is one of the lists
   pub lends : (part : Part) (octets : List ℕ) → value_of part_cmp a.store part ≡ Some octets
       → IsLoan t (loan part octets)
   lends part octets h =
-      sym (packet_alike t a.number a.log coming live.list there part (held_published part (stored_held part octets h)))
-      ∙ live.truly.packets part octets h
+      let held = stored_held part octets h in
+      let is : IsPublished ls (pair_of part) = held_published part held in
+      record {
+        published = part_whole t a.number a.log coming live.list there part
+            (record { there = is; counted = (live.truly.sound.held part held).counted });
+        packet = sym (packet_alike t a.number a.log coming live.list there part is)
+            ∙ live.truly.packets part octets h;
+      }
 
   module _ (part : Part) (own : part.publisher ≡ a.number) where
     logged_is : logged t.group a part

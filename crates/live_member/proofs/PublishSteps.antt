@@ -6,6 +6,7 @@ use Rattle.std.specs.Prelude.{unwrap_or, slice_get, slice_index}
 use Rattle.std.proofs.Math.ListN
 use Rattle.std.proofs.Math.Seq.{get_or-append_seam}
 use Rattle.std.proofs.lemmas.List.{set-set}
+use Rattle.std.proofs.lemmas.List.Elements.{All-push}
 use Rattle.std.proofs.lemmas.Option.{slice_get-get_or}
 use Rattle.repo_object.specs.Objects.{NamedContents, Post, IsPost, offered}
 use Rattle.repo_object.specs.Objects.Post.{Offers}
@@ -22,7 +23,7 @@ use Rattle.live_member.specs.declared.event.LiveEvent.TheVariants as event
 use Rattle.live_member.specs.declared.event.LiveReply.TheVariants as reply
 use Rattle.live_member.specs.declared.event.LiveEntry.{LiveEntry}
 use Rattle.live_member.specs.Meanings.{Meaning, objects_of, as_posts, whole_logs, logs_at, world_at, outside}
-use Rattle.live_member.specs.Lives.{IsLive, IsKept, living}
+use Rattle.live_member.specs.Lives.{BringsPart, IsLive, IsKept, living}
 use Rattle.live_member.specs.Replay.{next_object}
 use Rattle.live_member.specs.LockedCalls.{entry, IsNext}
 use Rattle.live_member.proofs.Around.{width_whole, number_there, is_member, whole_at, log_at}
@@ -102,6 +103,8 @@ module _ (t : Meaning) (most : ℕ) (a : Alone) (journal : List LiveEntry) (obje
       record {
         within = live.within;
         replays = replays_on t a b journal event.Publish (reply.Published (next_seq a)) live.replays publish_after;
+        brought = All-push (λ (e : LiveEntry). BringsPart t e.event) journal
+            (entry event.Publish (reply.Published (next_seq a))) live.brought tt;
         list = append_assoc a.log (Offers object ∷ []) (as_posts rest) ∙ live.list;
         logs = logs_later;
         truly = subst (λ (ls : Logs). IsTrueMember t.group ls b) grown

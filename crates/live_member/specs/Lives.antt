@@ -1,11 +1,15 @@
 -- What stands under a member's lock.
-use Rattle.std.specs.Prelude.{ℕ, ◌≡◌, ◌+◌, ◌≤◌, List, [], ◌++◌, length, slice_index}
+use Rattle.std.specs.Prelude.{ℕ, ◌≡◌, ◌+◌, ◌≤◌, ⊤, List, [], ◌++◌, length, slice_index}
+use Rattle.std.specs.List.{All}
 use Rattle.repo_object.specs.Objects.{NamedContents}
 use Rattle.repo_member.specs.Alone.{Alone, alone_opening}
 use Rattle.repo_member.specs.InGroup.{AreLogs, in_group}
 use Rattle.repo_member.specs.TrueMembers.{IsTrueMember}
+use Rattle.group_model.specs.Sound.{IsPublishedPart}
+use Rattle.live_member.specs.declared.event.LiveEvent.{LiveEvent}
+use Rattle.live_member.specs.declared.event.LiveEvent.TheVariants as event
 use Rattle.live_member.specs.declared.event.LiveEntry.{LiveEntry}
-use Rattle.live_member.specs.Meanings.{Meaning, objects_of, as_posts, logs_at, IsWithinLimits}
+use Rattle.live_member.specs.Meanings.{Meaning, objects_of, as_posts, whole_logs, logs_at, IsWithinLimits}
 use Rattle.live_member.specs.Replay.{Replays}
 
 -- A member, its journal, and the objects that it is still to publish.
@@ -25,13 +29,23 @@ opening t j = alone_opening (length t.lists) j 0 (slice_index t.draws j)
 abbrev pub ReplaysTo : Meaning → List LiveEntry → Alone → Type 0
 ReplaysTo t journal a = Replays t a.number journal (in_group (opening t a.number)) (in_group a)
 
--- The group is within its limits. The journal replays to the member. What it published, followed by what is still to
--- come, is its list. It is as each in a sound group in which the others have published their whole lists, each packet
--- that it stores is that of its part, and it hides nothing. It used no more draws than it has entries, but for the
--- first, and no more entries than there is room for.
+-- A packet that came, taken or refused, is of a part of a publication of the lists.
+abbrev pub BringsPart : Meaning → LiveEvent → Type 0
+BringsPart t (event.Accept f part) = IsPublishedPart (whole_logs t) part
+BringsPart t _ = ⊤
+
+-- So it is of each entry of a journal.
+abbrev pub BringParts : Meaning → List LiveEntry → Type 0
+BringParts t journal = All (λ e. BringsPart t e.event) journal
+
+-- The group is within its limits. The journal replays to the member, and each packet in it is of a part of the lists.
+-- What the member published, followed by what is still to come, is its list. It is as each in a sound group in which
+-- the others have published their whole lists, each packet that it stores is that of its part, and it hides nothing.
+-- It used no more draws than it has entries, but for the first, and no more entries than there is room for.
 pub record IsLive (t : Meaning) (most : ℕ) (l : Living) : Type 0 where
   pub within : IsWithinLimits t
   pub replays : ReplaysTo t l.journal l.state
+  pub brought : BringParts t l.journal
   pub list : l.state.log ++ as_posts l.coming ≡ as_posts (objects_of t l.state.number)
   pub logs : AreLogs t.group (logs_at t l.state.number l.state.log)
   pub truly : IsTrueMember t.group (logs_at t l.state.number l.state.log) l.state

@@ -3,7 +3,7 @@ use Rattle.std.specs.Prelude.{ℕ, ◌≡◌, ◌<◌, List, length, Some}
 use Rattle.repo_plan.specs.declared.part.Part.{Part}
 use Rattle.repo_member.specs.Verdicts.{sync_of}
 use Rattle.repo_member.specs.InGroup.{true_packet}
-use Rattle.group_model.specs.Sound.{IsTrueVector}
+use Rattle.group_model.specs.Sound.{IsPublishedPart, IsTrueVector}
 use Rattle.live_member.specs.Meanings.{Meaning, whole_logs}
 
 -- The octets are a member's sync Interest of a vector, which has one number a member, each at most the length of that
@@ -23,6 +23,7 @@ pub record Loan : Type 0 where
 abbrev pub loan : Part → List ℕ → Loan
 loan part octets = record { part = part; octets = octets }
 
--- The octets are the packet of the part, as its publisher makes it.
-abbrev pub IsLoan : Meaning → Loan → Type 0
-IsLoan t l = true_packet t.group (whole_logs t) l.part ≡ Some l.octets
+-- The part is one of a publication of the lists, and the octets are its packet, as its publisher makes it.
+pub record IsLoan (t : Meaning) (l : Loan) : Type 0 where
+  pub published : IsPublishedPart (whole_logs t) l.part
+  pub packet : true_packet t.group (whole_logs t) l.part ≡ Some l.octets

@@ -5,7 +5,7 @@ use crate::lists::Lists;
 use repo_plan::Part;
 use std::marker::{Model, PhantomData};
 
-/// A part, with a copy of its packet in the lists: a publisher lends it to who asks for the part.
+/// A part of a publication of the lists, with a copy of its packet: the publisher lends it to who asks for the part.
 #[derive(Drop)]
 pub struct Lent<L: Lists> {
     part: Part,

@@ -21,6 +21,7 @@ pub fn are_within_limits(g: &Group, lists: &[Vec<Object>]) -> bool
     ensures { (draws : List ℕ) → IsTrue result
         ↔ IsWithinLimits (meaning_of g.now (map (λ l. l.items) lists.now) draws) }
 {
+    g.is_sound();
     if lists.len() != g.roster().len() || !are_few(lists) {
         return false;
     }

@@ -3,7 +3,7 @@ ghost use Rattle.repo_plan.specs.Calls.{IsFetcher};
 ghost use Rattle.repo_member.specs.Alone.{logged};
 ghost use Rattle.repo_member.specs.Verdicts.{sync_of};
 ghost use Rattle.live_member.specs.Meanings.{IsWithinLimits, objects_of, as_posts};
-ghost use Rattle.live_member.specs.Lives.{living, opening, ReplaysTo, IsLive};
+ghost use Rattle.live_member.specs.Lives.{living, opening, BringParts, ReplaysTo, IsLive};
 ghost use Rattle.live_member.specs.LockedCalls.{Steps, Publishes};
 ghost use Rattle.live_member.specs.declared.event.LiveEvent.TheVariants as event;
 
@@ -231,10 +231,11 @@ impl<L: Lists, const M: u32> Live<L, M> {
 
     /// All that was done with the member, in order.
     //
-    // A caller sees the value alone, so `replays` and `publications` state what holds of each.
+    // A caller sees the value alone, so `replays`, `brought` and `publications` state what holds of each.
     pub fn journal(&self) -> &[LiveEntry]
         ensures journal { result.now ≡ self.now.journal }
         ensures replays { ReplaysTo L.meaning self.now.journal self.now.state }
+        ensures brought { BringParts L.meaning self.now.journal }
         ensures publications { self.now.state.log ++ as_posts self.now.coming
             ≡ as_posts (objects_of L.meaning self.now.state.number) }
     {

@@ -1,5 +1,5 @@
 -- What lines that are taken declare: names and keys that a group takes, and what is kept beside them.
-use Rattle.std.proofs.Common.{◌≡◌, ◌∙◌, ℕ, zero, suc, ◌+◌, ◌<◌, ◌≤◌, Bool, true, false, not, ◌&&◌, ◌||◌, nat_lt}
+use Rattle.std.proofs.Common.{◌≡◌, ◌∙◌, ℕ, zero, suc, ◌+◌, ◌<◌, ◌≤◌, Bool, true, false, not, ◌||◌, nat_lt}
 use Rattle.std.proofs.Common.{nat_le, List, [], ◌∷◌, ◌++◌, length, length-append, map, sum_by, Option, Some, None, Ok}
 use Rattle.std.proofs.Common.{Err}
 use Rattle.std.proofs.Common.{refl, sym, ap, subst, arith}
@@ -7,7 +7,7 @@ use Rattle.std.proofs.Common.{if◌then◌else◌}
 use Rattle.std.specs.Prelude.{IsTrue, is_some}
 use Rattle.std.specs.List.{All, list_all, list_any}
 use Rattle.std.specs.Str.{bytes_eq}
-use Rattle.std.proofs.lemmas.Bool.{false≢true, or_parts}
+use Rattle.std.proofs.lemmas.Bool.{false≢true, and_from, or_parts}
 use Rattle.std.proofs.lemmas.List.{length-map, map-append}
 use Rattle.std.proofs.lemmas.List.Elements.{All-nil, All-push}
 use Rattle.std.proofs.lemmas.List.Sums.{sum_by-append, sum_by-cons}
@@ -22,15 +22,16 @@ use Rattle.script_lang.specs.declared.verb.Verb.TheVariants as verb
 use Rattle.script_lang.specs.Kinds.{Text, Number, Named, Octets}
 use Rattle.script_lang.specs.Forms.{Stated, form, said}
 use Rattle.script_lang.specs.Lines.{line_of}
-use Rattle.script_lang.specs.Checking.{Declared, Party, after_line, declared_then, is_party_among}
+use Rattle.script_lang.specs.Checking.{Declared, Party, after_line, declared_then, is_mirror, is_party_among}
 use Rattle.script_lang.specs.Checking.{is_there}
 use Rattle.script_lang.specs.Checking.{party, party_label}
-use Rattle.script_lang.specs.Texts.{AreOf, IsLineText}
-use Rattle.script_lang.proofs.Conditions.{and_both, le_test}
+use Rattle.script_lang.specs.Texts.{AreOf}
+use Rattle.script_lang.proofs.Conditions.{le_test}
 use Rattle.script_lang.proofs.LineTexts.{line_texts}
-use Rattle.repo_member.specs.Groups.{GroupKeys, NodeKeys, IsKey, IsPlainNodeName, is_name_taken, no_nodes, with_node}
+use Rattle.repo_member.specs.Groups.{GroupKeys, NodeKeys, IsKey, IsPlainNodeName, is_name_taken, no_nodes}
 use Rattle.repo_member.proofs.PublicLaws.{none_found, same_name}
-use Rattle.live_script.specs.Judging.{Reached, counted, judged_line, named, nobody, taken, with_member_too}
+use Rattle.script_report.specs.declared.refusal.Refusal.TheVariants as refusal
+use Rattle.live_script.specs.Judging.{Reached, counted, judged_line, named, nobody, refused, taken, with_member_too}
 use Rattle.live_script.specs.Scripts.{GivesNobody, IsKept, IsLine, IsPublication, TotalsView, group_keys, node_of}
 
 -- ---- names and keys
@@ -54,14 +55,14 @@ no_digests (c ∷ cs) h =
     let no = or_parts (is_digest c) (list_any is_digest cs) h in
     let low : nat_le c.0 2 ≡ false = no.0 in
     let above : nat_lt 2 c.0 ≡ true = grind (arith, nat_tests) in
-    and_both (nat_lt 2 c.0) _ above (no_digests cs no.1)
+    and_from (nat_lt 2 c.0) _ above (no_digests cs no.1)
 
 object_name : (name : List Component)
     → (list_any is_digest name ≡ false) × (1 ≤ length (encoding name)) × (length (encoding name) ≤ 400)
     → IsTrue (is_object_name name)
 object_name name h =
     let some : nat_lt 0 (length (encoding name)) ≡ true = grind (arith, nat_tests, h.1) in
-    and_both _ _ (and_both _ _ some (le_test (length (encoding name)) 400 h.2)) (no_digests name h.0)
+    and_from _ _ (and_from _ _ some (le_test (length (encoding name)) 400 h.2)) (no_digests name h.0)
 
 -- The values of a line are within the ranges of its form.
 ranges : (s t : Stated) → IsLine s → s ≡ t → AreOf (form t.verb).kinds t.values
@@ -143,7 +144,10 @@ pub is_free : (d : Declared) (keys : GroupKeys) (label : List ℕ) (node : List 
     → map node_of d.members ≡ keys.members.names → keys.clients ≡ no_nodes
     → is_there d (party label node) ≡ false → is_name_taken keys node ≡ false
 is_free d keys label node members none h =
-    let both = or_parts (is_party_among (party label node) d.members) (is_party_among (party label node) d.clients) h in
+    let parties = or_parts (is_party_among (party label node) d.members || is_party_among (party label node) d.clients)
+    (is_mirror label d.mirrors) h in
+    let both = or_parts (is_party_among (party label node) d.members) (is_party_among (party label node) d.clients)
+    parties.0 in
     let no_member : member_of node keys.members.names ≡ None = none_found (has_same_octets node) keys.members.names
     (ap (list_any (has_same_octets node)) (sym members) ∙ nobody_has label node d.members both.0) in
     let no_client : member_of node keys.clients.names ≡ None =
@@ -240,6 +244,13 @@ pub member_taken : (view r : Reached) (s : Stated) (d : Declared) (label : List 
 member_taken view r s d label node key g lists same is h keys one_more octets =
     rw (← same, is, keys, one_more) (member_line view d label node key octets
     (subst (λ (x : Stated). after_line view.declared x ≡ Ok d) is h))
+
+-- A member's line before the group's is refused.
+pub member_ungrouped : (view r : Reached) (s : Stated) (label : List ℕ) (node : List Component) (key : List ℕ)
+    → view ≡ r → s ≡ said verb.Member (Text label ∷ Named node ∷ Octets key ∷ []) → view.declared.group ≡ false
+    → (octets : List ℕ) → judged_line r octets s ≡ refused refusal.NoGroup
+unfolding judged_line
+member_ungrouped view r s label node key same is none octets = rw (← same, is, none) refl
 
 -- Without a group nobody was declared.
 pub nobody_kept : (labels : List (List ℕ)) (group : Option GroupKeys) (totals : TotalsView) (view r : Reached)

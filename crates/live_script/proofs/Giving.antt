@@ -1,21 +1,17 @@
 -- What lines give that name a group: lists that a live group can run.
-use Rattle.std.proofs.Common.{◌≡◌, ◌∙◌, ◌≤◌, ℕ, true, List, map, length, Option, Some, Vec, Global, String, sym, ap}
+use Rattle.std.proofs.Common.{◌≡◌, ◌∙◌, ◌≤◌, ℕ, List, map, length, Option, Some, Vec, Global, String, sym, ap}
 use Rattle.std.proofs.Common.{subst}
-use Rattle.std.proofs.Common.{nat_le, ◌&&◌, arith}
-use Rattle.std.specs.Prelude.{string_bytes, sum_by}
-use Rattle.std.specs.List.{All}
+use Rattle.std.proofs.Common.{nat_le, ◌&&◌}
+use Rattle.std.specs.Prelude.{string_bytes}
 use Rattle.std.proofs.lemmas.Bool.{and_parts}
 use Rattle.std.proofs.lemmas.List.{length-map}
 use Rattle.script_lang.proofs.Conditions.{le_tested}
-use Rattle.script_lang.specs.Checking.{party_label}
 use Rattle.repo_object.specs.declared.object.Object.{Object}
-use Rattle.repo_object.specs.Objects.{NamedContents}
 use Rattle.repo_member.specs.Groups.{GroupKeys, IsGroup}
 use Rattle.live_member.specs.Meanings.{IsWithinLimits, meaning_of}
-use Rattle.live_script.specs.declared.members.Members.{Members}
+use Rattle.live_member.proofs.PublicLaws.{parts_are_counted, within}
 use Rattle.live_script.specs.Judging.{Reached}
 use Rattle.live_script.specs.Scripts.{Gives, IsKept, TotalsView, group_keys, node_of}
-use Rattle.live_script.proofs.WithinLimits.{parts_are_counted, within}
 
 within_kept : (labels : List (List ℕ)) (group : Option GroupKeys) (totals : TotalsView) (view : Reached)
     → IsKept labels group totals view → IsGroup view.keys → (draws : List ℕ)

@@ -1,6 +1,6 @@
--- No line of an input is left unjudged.
+-- Each line of an input is taken, or refused for a reason that a live group's input has.
 use Rattle.std.proofs.Common.{◌≡◌, ◌≢◌, ℕ, Bool, true, false, List, [], ◌∷◌, Option, Some, None, Result, Ok, Err}
-use Rattle.std.proofs.Common.{refl, subst, if◌then◌else◌}
+use Rattle.std.proofs.Common.{refl, if◌then◌else◌}
 use Rattle.std.specs.Prelude.{IfErr}
 use Rattle.script_lang.specs.declared.verb.Verb.{Verb}
 use Rattle.script_lang.specs.declared.verb.Verb.TheVariants as verb
@@ -14,20 +14,15 @@ use Rattle.script_lang.specs.Lines.{line_of}
 use Rattle.script_lang.specs.Checking.{Declared, after_line}
 use Rattle.script_lang.proofs.RefusalLemmas.{checked_for_a_cause, read_for_a_cause}
 use Rattle.script_lang.proofs.StatedForms.{read_in_its_form}
-use Rattle.live_script.specs.Judging.{Reached, Verdict, refused, takes, unjudged, counted, taken_by, may_stand, checked}
-use Rattle.live_script.specs.Judging.{check_refused, judged, judged_line, judged_read, is_within_input, is_few}
-use Rattle.live_script.specs.Judging.{with_object, member_number, cut_object, EachLineIsJudged}
-use Rattle.live_script.specs.declared.refusal.Refusal.TheVariants as refusal
-
-abbrev IsJudged : Verdict → Type 0
-IsJudged (refused why) = Unit {0}
-IsJudged (takes next) = Unit {0}
-IsJudged unjudged = ⊥
+use Rattle.live_script.specs.Judging.{Reached, refused, counted, taken_by, may_stand, checked}
+use Rattle.live_script.specs.Judging.{check_refused, judged_line, judged_read, is_within_input, is_few}
+use Rattle.live_script.specs.Judging.{with_object, member_number, cut_object, IsJudged, EachLineIsJudged}
+use Rattle.script_report.specs.declared.refusal.Refusal.TheVariants as refusal
 
 counted_or_large : (b : Bool) (line : List ℕ) (next : Reached)
     → IsJudged (if b then counted line next else refused refusal.TooLarge)
 counted_or_large true line next = tt
-counted_or_large false line next = tt
+counted_or_large false line next = refl
 
 -- ---- the three forms that may stand there
 
@@ -98,12 +93,12 @@ taken_judged verb.Publish may = publish_judged
 taken_judged v may = absurd cc
 
 check_judged : (fault : CheckFault) → fault ≢ check_fault.NoMemory → IsJudged (check_refused fault)
-check_judged check_fault.NoGroup cause = tt
-check_judged check_fault.Late cause = tt
-check_judged check_fault.UnknownLabel cause = tt
-check_judged check_fault.Duplicate cause = tt
-check_judged check_fault.Limit cause = tt
-check_judged check_fault.TooLarge cause = tt
+check_judged check_fault.NoGroup cause = refl
+check_judged check_fault.Late cause = refl
+check_judged check_fault.UnknownLabel cause = refl
+check_judged check_fault.Duplicate cause = refl
+check_judged check_fault.Limit cause = refl
+check_judged check_fault.TooLarge cause = refl
 check_judged check_fault.NoMemory cause = absurd (cause refl)
 
 -- ---- any line
@@ -123,7 +118,7 @@ line_judged r octets s is = by_verb (may_stand s.verb) refl where
   by_verb : (b : Bool) → may_stand s.verb ≡ b
       → IsJudged (if b then checked r octets s (after_line r.declared s) else refused refusal.NotLive)
   by_verb true may = by_check may (after_line r.declared s) (checked_for_a_cause r.declared s shaped)
-  by_verb false may = tt
+  by_verb false may = refl
 
 read_judged : (r : Reached) (octets : List ℕ) → IsJudged (judged_read r octets (line_of octets))
 read_judged r octets = go (line_of octets) refl (read_for_a_cause octets) where
@@ -131,15 +126,12 @@ read_judged r octets = go (line_of octets) refl (read_for_a_cause octets) where
       → IsJudged (judged_read r octets l)
   go (Ok (Some s)) is cause = line_judged r octets s is
   go (Ok None) is cause = tt
-  go (Err line_fault.Syntax) is cause = tt
-  go (Err line_fault.Limit) is cause = tt
+  go (Err line_fault.Syntax) is cause = refl
+  go (Err line_fault.Limit) is cause = refl
   go (Err line_fault.NoMemory) is cause = absurd (cause refl)
 
-each_judged : (r : Reached) (octets : List ℕ) → IsJudged (judged r octets)
-each_judged r octets = go (is_within_input r octets) where
+pub each_line_is_judged : EachLineIsJudged
+each_line_is_judged r octets = go (is_within_input r octets) where
   go : (b : Bool) → IsJudged (if b then judged_read r octets (line_of octets) else refused refusal.Limit)
   go true = read_judged r octets
-  go false = tt
-
-pub each_line_is_judged : EachLineIsJudged
-each_line_is_judged r octets none = subst IsJudged none (each_judged r octets)
+  go false = refl

@@ -2,5 +2,4 @@ pub mod Judged
 pub mod Taking
 pub mod Declaring
 pub mod Publishing
-pub mod WithinLimits
 pub mod Giving

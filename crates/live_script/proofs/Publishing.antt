@@ -1,5 +1,5 @@
 -- What a publication's line declares, and what is kept then.
-use Rattle.std.proofs.Common.{◌≡◌, ◌∙◌, ℕ, suc, ◌+◌, ◌-◌, ◌*◌, ◌/◌, ◌<◌, ◌≤◌, Bool, true, false, not, ◌&&◌, ◌||◌}
+use Rattle.std.proofs.Common.{◌≡◌, ◌∙◌, ℕ, suc, ◌+◌, ◌-◌, ◌<◌, ◌≤◌, Bool, true, false, not, ◌||◌}
 use Rattle.std.proofs.Common.{nat_lt}
 use Rattle.std.proofs.Common.{nat_le, List, [], ◌∷◌, ◌++◌, length, map, sum_by, get_or, set, Option, Some, None, Ok}
 use Rattle.std.proofs.Common.{Err, refl, Vec, Global}
@@ -28,7 +28,7 @@ use Rattle.script_lang.specs.Checking.{Declared, Party, adds, after_line, are_kn
 use Rattle.script_lang.specs.Checking.{party_label, party_place, publication_parts, segments, with_totals}
 use Rattle.script_lang.proofs.Conditions.{and_left}
 use Rattle.repo_member.specs.Groups.{GroupKeys}
-use Rattle.live_script.specs.declared.refusal.Refusal.TheVariants as refusal
+use Rattle.script_report.specs.declared.refusal.Refusal.TheVariants as refusal
 use Rattle.live_script.specs.Judging.{Reached, counted, cut_object, is_few, judged_line, member_number, published}
 use Rattle.live_script.specs.Judging.{refused}
 use Rattle.live_script.specs.Judging.{with_object}

@@ -1,7 +1,7 @@
 -- What lines come to that are read, and why they aren't taken.
-use Rattle.std.proofs.Common.{◌≡◌, ◌∙◌, ℕ, true, false, List, Option, Some, None, Result, Ok, Err, String, Global, Vec}
+use Rattle.std.proofs.Common.{◌≡◌, ℕ, true, false, List, Some, None, Result, Ok, Err, String, Global, Vec}
 use Rattle.std.proofs.Common.{◌⊎◌, inl, inr}
-use Rattle.std.proofs.Common.{refl, sym, ap, subst}
+use Rattle.std.proofs.Common.{refl, sym, subst}
 use Rattle.std.specs.Prelude.{IfErr, IfOk, IsErr}
 use Rattle.std.specs.Result.{IsErrAnd}
 use Rattle.ndn_name.specs.declared.name.Name.{Name}
@@ -15,11 +15,13 @@ use Rattle.script_lang.specs.Forms.{Stated, stated}
 use Rattle.script_lang.specs.Lines.{line_of}
 use Rattle.script_lang.specs.Reading.{FaultTells}
 use Rattle.script_lang.specs.Checking.{after_line}
-use Rattle.live_script.specs.declared.refusal.Refusal.TheVariants as refusal
+use Rattle.script_report.specs.declared.refusal.Refusal.TheVariants as refusal
+use Rattle.repo_member.specs.declared.group_fault.GroupFault.{GroupFault}
+use Rattle.repo_member.specs.declared.group_fault.GroupFault.TheVariants as group_fault
 use Rattle.live_script.specs.declared.stop.Stop.{Stop}
 use Rattle.live_script.specs.declared.stop.Stop.TheVariants as stop
 use Rattle.live_script.specs.Judging.{Reached, counted, is_within_input, judged, judged_line, may_stand, refused}
-use Rattle.live_script.specs.Stopping.{IsStop, check_stop, line_stop}
+use Rattle.live_script.specs.Stopping.{IsStop, check_stop, group_stop, line_stop}
 
 -- ---- octets
 
@@ -98,6 +100,22 @@ pub out_of_memory : {A : Type 0} (r : Reached) (s : Stated) (result : Result A S
 out_of_memory r s result is =
     let P : Stop → Type 0 = λ stop. (octets : List ℕ) → IsStop (judged_line r octets s) stop in
     stops_so result P stop.NoMemory is (λ octets. tt)
+
+-- So where a call stops for want of memory alone.
+pub memory_wanted : {A : Type 0} (r : Reached) (s : Stated) (result : Result A Stop) (why : Stop)
+    → why ≡ stop.NoMemory → IsErrAnd result (λ t. t ≡ why)
+    → IfErr result (λ stop. (octets : List ℕ) → IsStop (judged_line r octets s) stop)
+memory_wanted r s result why memory is =
+    out_of_memory r s result (subst (λ (w : Stop). IsErrAnd result (λ t. t ≡ w)) memory is)
+
+-- A group that may have the member doesn't take it for want of memory alone.
+pub memory_alone : {A : Type 0} (result : Result A Stop) (fault : GroupFault)
+    → (fault ≡ group_fault.Duplicate → ⊥) → (fault ≡ group_fault.Full → ⊥)
+    → IsErrAnd result (λ s. s ≡ group_stop fault) → IfErr result (λ s. s ≡ stop.NoMemory)
+memory_alone result group_fault.Duplicate apart room is = absurd (apart refl)
+memory_alone result group_fault.Full apart room is = absurd (room refl)
+memory_alone result group_fault.NoMemory apart room is =
+    stops_so result (λ s. s ≡ stop.NoMemory) stop.NoMemory is refl
 
 pub nothing_taken : {A : Type 0} (result : Result A Stop) (P : A → Type 0) → IsErr result → IfOk result P
 nothing_taken (Ok x) P failed = absurd cc

@@ -1,5 +1,5 @@
 -- What a line of a live group's input comes to, behind those before it.
-use Rattle.std.specs.Prelude.{◌≢◌, ℕ, ◌+◌, Bool, true, false, ◌&&◌, List, [], ◌∷◌, ◌++◌, length, sum_by, slice_set}
+use Rattle.std.specs.Prelude.{◌≡◌, ⊤, ℕ, ◌+◌, Bool, true, false, ◌&&◌, List, [], ◌∷◌, ◌++◌, length, sum_by, slice_set}
 use Rattle.std.specs.Prelude.{slice_index_or, Option, Some, None, Result, Ok, Err, nat_lt, nat_le, if◌then◌else◌}
 use Rattle.std.specs.List.{position_or_len}
 use Rattle.std.specs.Str.{bytes_eq}
@@ -19,8 +19,8 @@ use Rattle.repo_object.specs.Objects.{NamedContents}
 use Rattle.repo_object.specs.Cuts.{pieces}
 use Rattle.repo_member.specs.Groups.{GroupKeys, no_nodes, with_node}
 use Rattle.live_member.specs.Meanings.{object_limit, part_limit}
-use Rattle.live_script.specs.declared.refusal.Refusal.{Refusal}
-use Rattle.live_script.specs.declared.refusal.Refusal.TheVariants as refusal
+use Rattle.script_report.specs.declared.refusal.Refusal.{Refusal}
+use Rattle.script_report.specs.declared.refusal.Refusal.TheVariants as refusal
 use Rattle.live_script.specs.Limits.{live_contents}
 
 -- What the lines so far came to: how many lines and octets were taken, what they declared, the names and keys of the
@@ -45,6 +45,18 @@ pub data Verdict : Type 0 where
   refused : Refusal → Verdict
   takes : Reached → Verdict
   unjudged : Verdict
+
+-- The refusals of a live group's input. The others are of scripts alone.
+abbrev pub is_of_live : Refusal → Bool
+is_of_live refusal.Syntax = true
+is_of_live refusal.UnknownLabel = true
+is_of_live refusal.Duplicate = true
+is_of_live refusal.Limit = true
+is_of_live refusal.NoGroup = true
+is_of_live refusal.TooLarge = true
+is_of_live refusal.Late = true
+is_of_live refusal.NotLive = true
+is_of_live _ = false
 
 -- One line more is taken.
 abbrev pub counted : List ℕ → Reached → Verdict
@@ -138,6 +150,12 @@ judged r line = if is_within_input r line then judged_read r line (line_of line)
 
 -- ---- what is promised
 
--- No line is left unjudged.
+-- A line is taken, or refused for a reason that a live group's input has.
+abbrev pub IsJudged : Verdict → Type 0
+IsJudged (refused why) = is_of_live why ≡ true
+IsJudged (takes next) = ⊤
+IsJudged unjudged = ⊥
+
+-- So is each line, whatever was taken before it.
 abbrev pub EachLineIsJudged : Type 0
-EachLineIsJudged = (r : Reached) (line : List ℕ) → judged r line ≢ unjudged
+EachLineIsJudged = (r : Reached) (line : List ℕ) → IsJudged (judged r line)

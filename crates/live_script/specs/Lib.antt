@@ -4,7 +4,7 @@ pub use Rattle.script_lang.specs.Lines
 pub use Rattle.repo_object.specs.Objects
 pub use Rattle.repo_member.specs.Groups
 pub use Rattle.live_member.specs.Meanings
-pub mod Refusals
+pub use Rattle.script_report.specs.Refusals
 pub mod Limits
 pub mod Judging
 pub mod Stopping

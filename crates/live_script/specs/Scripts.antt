@@ -7,7 +7,7 @@ use Rattle.script_lang.specs.Limits.{script_lines, script_octets}
 use Rattle.script_lang.specs.Checking.{Party, party_label, publication_parts}
 use Rattle.script_lang.specs.Forms.{Stated}
 use Rattle.script_lang.specs.Lines.{line_of}
-use Rattle.repo_object.specs.Objects.{NamedContents, IsObject, is_object_name}
+use Rattle.repo_object.specs.Objects.{IsObject, is_object_name}
 use Rattle.repo_member.specs.Groups.{GroupKeys, no_nodes}
 use Rattle.live_member.specs.Meanings.{meaning_of, IsWithinLimits, object_limit, part_count, part_limit}
 use Rattle.live_script.specs.declared.members.Members.{Members}

@@ -4,16 +4,20 @@ use Rattle.script_lang.specs.declared.line_fault.LineFault.{LineFault}
 use Rattle.script_lang.specs.declared.line_fault.LineFault.TheVariants as line_fault
 use Rattle.script_lang.specs.declared.check_fault.CheckFault.{CheckFault}
 use Rattle.script_lang.specs.declared.check_fault.CheckFault.TheVariants as check_fault
-use Rattle.live_script.specs.declared.refusal.Refusal.TheVariants as refusal
+use Rattle.repo_member.specs.declared.group_fault.GroupFault.{GroupFault}
+use Rattle.repo_member.specs.declared.group_fault.GroupFault.TheVariants as group_fault
+use Rattle.script_report.specs.declared.refusal.Refusal.TheVariants as refusal
 use Rattle.live_script.specs.declared.stop.Stop.{Stop}
 use Rattle.live_script.specs.declared.stop.Stop.TheVariants.{Refused, NoMemory}
 use Rattle.live_script.specs.Judging.{Verdict, refused}
 
+-- Why a line is not taken that octets fail to be.
 abbrev pub line_stop : LineFault → Stop
 line_stop line_fault.Syntax = Refused refusal.Syntax
 line_stop line_fault.Limit = Refused refusal.Limit
 line_stop line_fault.NoMemory = NoMemory
 
+-- Why a line is not taken that the lines before it forbid.
 abbrev pub check_stop : CheckFault → Stop
 check_stop check_fault.NoGroup = Refused refusal.NoGroup
 check_stop check_fault.Late = Refused refusal.Late
@@ -22,6 +26,12 @@ check_stop check_fault.Duplicate = Refused refusal.Duplicate
 check_stop check_fault.Limit = Refused refusal.Limit
 check_stop check_fault.TooLarge = Refused refusal.TooLarge
 check_stop check_fault.NoMemory = NoMemory
+
+-- Why a line is not taken whose member the group doesn't take.
+abbrev pub group_stop : GroupFault → Stop
+group_stop group_fault.Duplicate = Refused refusal.Duplicate
+group_stop group_fault.Full = Refused refusal.Limit
+group_stop group_fault.NoMemory = NoMemory
 
 -- A line that isn't taken is refused so, unless memory ran out.
 abbrev pub IsStop : Verdict → Stop → Type 0

@@ -1,6 +1,6 @@
 ghost use Rattle.live_script.specs.Judging.{EachLineIsJudged};
 
-/// Each line of an input is taken, or refused for a reason that has a number.
+/// Each line of an input is taken, or refused for one of eight reasons.
 pub fn lines_are_judged()
     ensures { EachLineIsJudged }
 {}

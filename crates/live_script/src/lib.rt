@@ -5,13 +5,11 @@
 
 mod laws;
 mod members;
-mod refusal;
 mod script;
 mod stop;
 mod totals;
 
 pub use laws::lines_are_judged;
 pub use members::Members;
-pub use refusal::Refusal;
 pub use script::Script;
 pub use stop::Stop;

@@ -1,7 +1,6 @@
-ghost use Rattle.std.specs.Prelude.{◌≡◌, ◌<◌, ◌≤◌, ◌+◌, ◌∷◌, ℕ, List, [], true, false, IfErr, IfNone, IfOk, IfSome};
+ghost use Rattle.std.specs.Prelude.{◌≡◌, ◌<◌, ◌+◌, ◌∷◌, ◌++◌, ℕ, List, [], true, false, IfErr, IfNone, IfOk, IfSome};
 ghost use Rattle.std.specs.Prelude.{OnOk};
 ghost use Rattle.std.specs.Prelude.{length, map, string_bytes};
-ghost use Rattle.ndn_name.specs.Names.{Component};
 ghost use Rattle.script_lang.specs.declared.verb.Verb.TheVariants as verb;
 ghost use Rattle.script_lang.specs.Forms.{said, stated};
 ghost use Rattle.script_lang.specs.Kinds.{Text, Number, Named, Octets};
@@ -14,13 +13,13 @@ ghost use Rattle.live_script.specs.Scripts.{Gives, GivesNobody, IsLine, IsPublic
 ghost use Rattle.live_script.specs.Stopping.{IsStop};
 
 use crate::members::Members;
-use crate::refusal::Refusal;
 use crate::stop::Stop;
 use crate::totals::Totals;
 use ndn_name::Name;
-use repo_member::{Group, GroupFault};
+use repo_member::Group;
 use repo_object::{Object, cut};
 use script_lang::{LINES_LIMIT, Line, SCRIPT_LIMIT, Words, read_line};
+use script_report::Refusal;
 use std::alloc::{AllocError, Global};
 use std::marker::Model;
 
@@ -154,8 +153,7 @@ impl Script {
             → IsStop (judged_line self octets (stated line.now)) stop) }
     {
         self.words.check(line)?;
-        // Its clause says that the components are a name's.
-        let _octets = name.octets();
+        name.is_sound();
         self.group = Some(Group::new(self.alloc, name)?);
         Ok(self)
     }
@@ -176,15 +174,13 @@ impl Script {
         ensures stopped { IfErr result (λ stop. (octets : List ℕ)
             → IsStop (judged_line self octets (stated line.now)) stop) }
     {
-        self.words.check(line)?;
-        // Its clause says that the components are a name's.
-        let _octets = node.octets();
         let Some(group) = &mut self.group else {
-            unreachable!()
+            return Err(Stop::Refused(Refusal::NoGroup));
         };
+        self.words.check(line)?;
+        node.is_sound();
         add_member(group, node, key)?;
-        self.labels.push(label.to_string(self.alloc)?)?;
-        self.lists.push(Vec::new(self.alloc))?;
+        add_list(self.alloc, &mut self.labels, &mut self.lists, label)?;
         Ok(self)
     }
 
@@ -233,8 +229,7 @@ impl Script {
         let Some(group) = group else {
             return None;
         };
-        // Read for its clause alone: what holds of every group.
-        let _roster = group.roster();
+        group.is_sound();
         Some(Members {
             group,
             labels,
@@ -266,17 +261,32 @@ fn add_object(lists: &mut Vec<Vec<Object>>, member: usize, object: Object) -> Re
     Ok(())
 }
 
+// There is a label more, and the list of who has it, in which nothing stands yet.
+fn add_list(
+    alloc: Global,
+    labels: &mut Vec<String>,
+    lists: &mut Vec<Vec<Object>>,
+    label: &str,
+) -> Result<(), AllocError>
+    ensures labels { OnOk result (map string_bytes labels.new.items
+        ≡ map string_bytes labels.old.items ++ label.now ∷ []) }
+    ensures lists { OnOk result (map (λ l. l.items) lists.new.items
+        ≡ map (λ l. l.items) lists.old.items ++ [] ∷ []) }
+{
+    labels.push(label.to_string(alloc)?)?;
+    lists.push(Vec::new(alloc))?;
+    Ok(())
+}
+
 // There is a member more, of a name that nobody has, in a group that isn't full.
-fn add_member(group: &mut Group, node: &Name, key: &[u8]) -> Result<(), AllocError>
+fn add_member(group: &mut Group, node: &Name, key: &[u8]) -> Result<(), Stop>
     requires node { IsPlainNodeName node.now }
     requires key { IsKey key.now }
     requires apart { is_name_taken group.old node.now ≡ false }
     requires few { length group.old.members.names < node_limit }
-    ensures { OnOk result (group.new ≡ with_member_too node.now key.now group.old) }
+    ensures ok { OnOk result (group.new ≡ with_member_too node.now key.now group.old) }
+    ensures err { IfErr result (λ stop. stop ≡ Stop.NoMemory) }
 {
-    match group.add_member(node, key) {
-        Ok(_) => Ok(()),
-        Err(GroupFault::NoMemory) => Err(AllocError),
-        Err(GroupFault::Duplicate | GroupFault::Full) => unreachable!(),
-    }
+    group.add_member(node, key)?;
+    Ok(())
 }

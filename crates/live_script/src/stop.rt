@@ -1,8 +1,9 @@
-use crate::refusal::Refusal;
+use repo_member::GroupFault;
 use script_lang::{CheckFault, LineFault};
+use script_report::Refusal;
 use std::alloc::{AllocError, AllocFailed};
 
-/// Why a line was not taken.
+/// Why a line was not taken: it is refused, for one of eight reasons, or memory ran out.
 #[derive(Clone, Copy, Debug, PartialEq, Eq)]
 pub enum Stop {
     Refused(Refusal),
@@ -61,6 +62,21 @@ impl From<CheckFault> for Stop {
             CheckFault::Limit => Stop::Refused(Refusal::Limit),
             CheckFault::TooLarge => Stop::Refused(Refusal::TooLarge),
             CheckFault::NoMemory => Stop::NoMemory,
+        }
+    }
+}
+
+impl From<GroupFault> for Stop {
+    ghost use Rattle.std.specs.Prelude.{◌≡◌};
+    ghost use Rattle.live_script.specs.Stopping.{group_stop};
+
+    ghost from_gives = { λ fault stop. stop ≡ group_stop fault };
+
+    fn from(fault: GroupFault) -> Stop {
+        match fault {
+            GroupFault::Duplicate => Stop::Refused(Refusal::Duplicate),
+            GroupFault::Full => Stop::Refused(Refusal::Limit),
+            GroupFault::NoMemory => Stop::NoMemory,
         }
     }
 }

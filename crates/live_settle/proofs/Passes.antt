@@ -1,13 +1,14 @@
 -- The calls of a settle over members in their places.
-use Rattle.std.proofs.Common.{◌≡◌, ℕ, ◌+◌, ◌*◌, ◌≤◌, ◌<◌, Bool, true, false, List, length, get_or, set, refl, sym, ap}
-use Rattle.std.proofs.Common.{◌∙◌}
-use Rattle.std.proofs.Common.{subst, arith, Option, Some, None}
-use Rattle.std.specs.Prelude.{IsSomeAnd}
-use Rattle.std.proofs.lemmas.Bool.{true≢false}
-use Rattle.std.proofs.lemmas.List.{get_or-set_other, get_or_default, length-set}
+use Rattle.std.proofs.Common.{◌≡◌, ℕ, ◌+◌, ◌-◌, ◌≤◌, ◌<◌, List, length, get_or, set}
+use Rattle.std.proofs.Common.{inl, inr, sym, ap, ◌∙◌}
+use Rattle.std.proofs.Common.{subst, arith, true, false, Option, Some, None}
+use Rattle.std.specs.Prelude.{IsSomeAnd, slice_index}
+use Rattle.std.proofs.lemmas.Bool.{cases_eq}
+use Rattle.std.proofs.lemmas.List.{get_or-set_other, get_or_default, length-set, length-append}
 use Rattle.repo_plan.specs.declared.part.Part.{Part}
 use Rattle.sorted_lists.specs.SortedList.{keys}
 use Rattle.repo_plan.specs.Plan.{unclaimed, first}
+use Rattle.group_model.specs.Publications.{last_of}
 use Rattle.repo_member.specs.Alone.{alone_plan, logged}
 use Rattle.repo_member.specs.InGroup.{true_packet}
 use Rattle.repo_member.specs.Verdicts.{sync_of}
@@ -19,15 +20,14 @@ use Rattle.live_member.specs.Tellings.{Loan}
 use Rattle.live_member.specs.Lives.{Living}
 use Rattle.live_member.specs.LockedCalls.{StepsBy}
 use Rattle.live_member.proofs.PublicLaws.{width_whole}
-use Rattle.live_settle.specs.Ready.{at, Only, IsReady, AreReady, KnowsThose, Hears, IsGathering, AreGathering, Turned}
-use Rattle.live_settle.specs.Ready.{Joins}
-use Rattle.live_settle.specs.Ready.{AfterTurn, IsJoined, missing_of}
+use Rattle.live_settle.specs.Ready.{at, IsReady, AreReady, KnowsThose, Hears, IsGathering, Turned}
+use Rattle.live_settle.specs.Ready.{Joins, EntersTurn, IsJoined, missing_of}
+use Rattle.live_settle.proofs.Fronts.{continues_with}
 use Rattle.live_settle.proofs.Missing.{missing_few}
-use Rattle.live_settle.proofs.Places.{no_living, at_set, at_found, only_set, only_again, only_itself, only_on}
-use Rattle.live_settle.proofs.States.{HasHeard, has_heard, passes_itself}
-use Rattle.live_settle.proofs.Turning.{next_part, nothing_left, entered, publisher_there, publisher_other, lends}
-use Rattle.live_settle.proofs.Turning.{HasTurned}
-use Rattle.live_settle.proofs.Turning.{has_turned}
+use Rattle.live_settle.proofs.Places.{no_living, at_set, at_found, only_set, only_again, only_itself, only_then}
+use Rattle.live_settle.proofs.States.{HasHeard, has_heard, whole_truly}
+use Rattle.live_settle.proofs.Turning.{next_part, nothing_left, enters_none, entered, publisher_there, publisher_other}
+use Rattle.live_settle.proofs.Turning.{lends, HasTurned, has_turned}
 
 -- ---- what is heard
 
@@ -46,13 +46,42 @@ heard_at t ls j p d e new octets r ready there other room knows told steps =
     (subst (λ (m : Living). StepsBy t 1000000 (event.Hear octets) m new r) mine steps) in
     let here = at_set ls j new there in
     record {
-      only = only_set ls j new there h.number;
+      only = only_set ls j new there h.number h.front;
       ready = subst (IsReady t) (sym here) h.ready;
       knows = subst (λ (m : Living). KnowsThose (whole_logs t) (p + 1) m.state.known) (sym here) h.knows;
       few =
           let same = ap (λ (m : Living). length m.journal) here in
           let longer = h.entries in omega (arith, same, longer);
     }
+
+-- a member knows of its own list without hearing itself
+pub heard_itself : (t : Meaning) (ls : List Living) (j p : ℕ) → AreReady t ls → j < length ls → p ≡ j
+    → KnowsThose (whole_logs t) p (at ls j).state.known → Hears t j (p + 1) 1 ls ls
+heard_itself t ls j p ready there same knows =
+    let is : IsReady t (at ls j) = ready.each j there in
+    let known : List ℕ = (at ls j).state.known in
+    let own : slice_index known p ≡ last_of (whole_logs t) p =
+    subst (λ (k : ℕ). slice_index known k ≡ last_of (whole_logs t) k) (ready.placed.numbers j there ∙ sym same)
+    (whole_truly t 1000000 (at ls j) is.live is.coming).sound.own in
+    record {
+      only = only_itself ls j;
+      ready = is;
+      knows = λ q less. elim (cases_eq q p) [
+        | inl e ↦
+            subst (λ (k : ℕ). last_of (whole_logs t) k ≤ slice_index known k) (sym e) (omega (arith, own))
+        | inr d ↦ knows q (omega (arith, less, d))
+      ];
+      few = omega arith;
+    }
+
+pub one_heard : (t : Meaning) (j p : ℕ) (old mid new : List Living) → Hears t j p p old mid
+    → Hears t j (p + 1) 1 mid new → Hears t j (p + 1) (p + 1) old new
+one_heard t j p old mid new before h = record {
+  only = only_then j old mid new before.only h.only;
+  ready = h.ready;
+  knows = h.knows;
+  few = omega (arith, before.few, h.few);
+}
 
 pub hears_gathering : (t : Meaning) (j : ℕ) (old new : List Living) → Hears t j (length t.lists) 16 old new
     → IsGathering t (at new j)
@@ -75,11 +104,18 @@ module _ (t : Meaning) (ls : List Living) (j : ℕ) (d mid : Living) (r : LiveRe
   mid_number : mid.state.number ≡ (at ls j).state.number
   mid_number = (entered t (at ls j) mid r is less here).number
 
-  pub joins_at : ((part : Part) → r ≡ reply.Claimed part → ⊥) → Joins t j ls (set ls j mid)
-  joins_at none = record {
-    only = only_set ls j mid there mid_number;
-    joined = subst (IsJoined t) (sym (at_set ls j mid there)) (nothing_left t (at ls j) mid r is less here none);
-  }
+  pub joins_at : ((part : Part) → r ≡ reply.Claimed part → ⊥)
+      → Joins t j ls (set ls j mid) × EntersTurn (at ls j) (at (set ls j mid) j) false
+  joins_at none =
+      let now = at_set ls j mid there in (
+        record {
+          only = only_set ls j mid there mid_number
+              (continues_with (at ls j).journal _ mid.journal (enters_none t (at ls j) mid r is less here none));
+          joined = subst (IsJoined t) (sym now) (nothing_left t (at ls j) mid r is less here none);
+        },
+        subst (λ (m : Living). EntersTurn (at ls j) m false) (sym now)
+            (enters_none t (at ls j) mid r is less here none),
+      )
 
   module _ (part : Part) (its : r ≡ reply.Claimed part) where
     next : first (unclaimed (alone_plan (at ls j).state)) ≡ Some part
@@ -118,7 +154,7 @@ module _ (t : Meaning) (ls : List Living) (j : ℕ) (d mid : Living) (r : LiveRe
     pub turned_at : (e f new : Living) (s : LiveReply) (loan : Loan) → loan.part ≡ part
         → logged t.group (get_or (set ls j mid) part.publisher e).state part ≡ Some loan.octets
         → StepsBy t 1000000 (event.Accept 1 loan.part) (get_or (set ls j mid) j f) new s
-        → Turned t j 1 ls (set (set ls j mid) j new)
+        → Turned t j 1 ls (set (set ls j mid) j new) × EntersTurn (at ls j) (at (set (set ls j mid) j new) j) true
     turned_at e f new s loan same its_packet accept =
         let wide : j < length (set ls j mid) = omega (arith, there, length-set ls j mid) in
         let mine : get_or (set ls j mid) j f ≡ mid =
@@ -126,15 +162,31 @@ module _ (t : Meaning) (ls : List Living) (j : ℕ) (d mid : Living) (r : LiveRe
         let h : HasTurned t (at ls j) new =
         has_turned t (at ls j) mid new r s part loan is room here its same (packet_so e loan.octets its_packet)
         (subst (λ (m : Living). StepsBy t 1000000 (event.Accept 1 loan.part) m new s) mine accept) in
-        let now : at (set (set ls j mid) j new) j ≡ new = at_set (set ls j mid) j new wide in
-        record {
-          only = only_again ls j mid new there h.number;
-          gathering = subst (IsGathering t) (sym now) h.gathering;
-          fewer = subst (λ (m : Living). missing_of t m.state + 1 ≤ missing_of t (at ls j).state) (sym now) h.fewer;
-          few =
-              let long = ap (λ (m : Living). length m.journal) now in
-              let more = h.entries in omega (arith, long, more);
-        }
+        let now : at (set (set ls j mid) j new) j ≡ new = at_set (set ls j mid) j new wide in (
+          record {
+            only = only_again ls j mid new there h.number
+                (continues_with (at ls j).journal _ new.journal h.entries.journal);
+            gathering = subst (IsGathering t) (sym now) h.gathering;
+            fewer = subst (λ (m : Living). missing_of t m.state + 1 ≤ missing_of t (at ls j).state) (sym now) h.fewer;
+            few =
+                let long = ap (λ (m : Living). length m.journal) now in
+                let more = ap length h.entries.journal ∙ length-append (at ls j).journal _ in
+                omega (arith, long, more);
+          },
+          subst (λ (m : Living). EntersTurn (at ls j) m true) (sym now) h.entries,
+        )
+
+-- a turn for each part that has come
+abbrev pub HaveTurned : Meaning → ℕ → List Living → List Living → Type 0
+HaveTurned t j old new = Turned t j (missing_of t (at old j).state - missing_of t (at new j).state) old new
+
+pub no_turn : (t : Meaning) (j : ℕ) (ls : List Living) → IsGathering t (at ls j) → HaveTurned t j ls ls
+no_turn t j ls is = record {
+  only = only_itself ls j;
+  gathering = is;
+  fewer = omega arith;
+  few = omega arith;
+}
 
 -- all parts have come before so many turns are made
 pub turns_end : (t : Meaning) (j n : ℕ) (old new : List Living) → Turned t j n old new → n ≤ 4000

@@ -9,8 +9,9 @@ use Rattle.std.proofs.lemmas.List.{get_or_default}
 use Rattle.repo_member.specs.Alone.{alone_opening}
 use Rattle.live_member.specs.Meanings.{Meaning}
 use Rattle.live_member.specs.Lives.{Living, living}
-use Rattle.live_settle.specs.Ready.{at, ArePlaced, Only, IsReady, AreReady}
+use Rattle.live_settle.specs.Ready.{at, ArePlaced, Continues, KeepFronts, Only, IsReady, AreReady}
 use Rattle.live_settle.specs.Rans.{numbers_below}
+use Rattle.live_settle.proofs.Fronts.{continues_itself, continues_on}
 
 abbrev pub no_living : Living
 no_living = living (alone_opening 0 0 0 0) [] []
@@ -24,30 +25,41 @@ pub at_found : (ls : List Living) (j : ℕ) (d : Living) → j < length ls → g
 at_found ls j d less = get_or_default ls j d no_living less
 
 pub only_set : (ls : List Living) (j : ℕ) (l : Living) → j < length ls → l.state.number ≡ (at ls j).state.number
-    → Only j ls (set ls j l)
-only_set ls j l less same = record {
+    → Continues (at ls j).journal l.journal → Only j ls (set ls j l)
+only_set ls j l less same front = record {
   width = length-set ls j l;
   others = λ p d. get_or-set_other ls j p l no_living d;
   number = ap (λ (m : Living). m.state.number) (at_set ls j l less) ∙ same;
+  front = subst (λ (m : Living). Continues (at ls j).journal m.journal) (sym (at_set ls j l less)) front;
 }
 
 pub only_again : (ls : List Living) (j : ℕ) (l m : Living) → j < length ls
-    → m.state.number ≡ (at ls j).state.number → Only j ls (set (set ls j l) j m)
-only_again ls j l m less same = record {
-  width = length-set (set ls j l) j m ∙ length-set ls j l;
-  others = λ p d. get_or-set_other (set ls j l) j p m no_living d ∙ get_or-set_other ls j p l no_living d;
-  number = ap (λ (n : Living). n.state.number)
-      (at_set (set ls j l) j m (omega (arith, less, length-set ls j l))) ∙ same;
-}
+    → m.state.number ≡ (at ls j).state.number → Continues (at ls j).journal m.journal
+    → Only j ls (set (set ls j l) j m)
+only_again ls j l m less same front =
+    let there : at (set (set ls j l) j m) j ≡ m =
+    at_set (set ls j l) j m (omega (arith, less, length-set ls j l)) in
+    record {
+      width = length-set (set ls j l) j m ∙ length-set ls j l;
+      others = λ p d. get_or-set_other (set ls j l) j p m no_living d ∙ get_or-set_other ls j p l no_living d;
+      number = ap (λ (n : Living). n.state.number) there ∙ same;
+      front = subst (λ (n : Living). Continues (at ls j).journal n.journal) (sym there) front;
+    }
 
 pub only_itself : (ls : List Living) (j : ℕ) → Only j ls ls
-only_itself ls j = record { width = refl; others = λ p d. refl; number = refl }
+only_itself ls j = record {
+  width = refl;
+  others = λ p d. refl;
+  number = refl;
+  front = continues_itself (at ls j).journal;
+}
 
-pub only_on : (j : ℕ) (old mid new : List Living) → Only j old mid → Only j mid new → Only j old new
-only_on j old mid new first last = record {
-  width = last.width ∙ first.width;
-  others = λ p d. last.others p d ∙ first.others p d;
-  number = last.number ∙ first.number;
+pub only_then : (j : ℕ) (old mid new : List Living) → Only j old mid → Only j mid new → Only j old new
+only_then j old mid new first next = record {
+  width = next.width ∙ first.width;
+  others = λ p d. next.others p d ∙ first.others p d;
+  number = next.number ∙ first.number;
+  front = continues_on (at old j).journal (at mid j).journal (at new j).journal first.front next.front;
 }
 
 -- ---- all places
@@ -75,6 +87,14 @@ module _ (j : ℕ) (old new : List Living) (only : Only j old new) where
   rest_stays P rest p f l =
       let other : p ≢ j = λ e. absurd (omega (arith, e, f)) in
       subst P (sym (only.others p other)) (rest p (omega (arith, f)) (omega (arith, l, only.width)))
+
+  pub fronts_still : (first : List Living) → KeepFronts first old → KeepFronts first new
+  fronts_still first fronts p = elim (cases_eq p j) [
+    | inl e ↦
+        subst (λ (q : ℕ). Continues (at first q).journal (at new q).journal) (sym e)
+        (continues_on (at first j).journal (at old j).journal (at new j).journal (fronts j) only.front)
+    | inr d ↦ subst (λ (m : Living). Continues (at first p).journal m.journal) (sym (only.others p d)) (fronts p)
+  ]
 
   pub placed_still : (t : Meaning) → j < length old → ArePlaced t old → ArePlaced t new
   placed_still t there placed = record {
@@ -147,10 +167,12 @@ numbers_from_places t ls placed =
     ∙ placed.numbers p less
     ∙ sym (at_below (length t.lists) p (omega (arith, less, placed.width))))
 
+pub in_front : (n : ℕ) (ls rest : List Living) → n ≡ length ls → take n (ls ++ rest) ≡ ls
+in_front n ls rest whole = ap (λ (k : ℕ). take k (ls ++ rest)) whole ∙ take-append_seam ls rest
+
 -- the same of members at the front of a list
 pub numbers_in_front : (t : Meaning) (n : ℕ) (ls rest : List Living) → ArePlaced t ls → n ≡ length ls
     → map (λ (l : Living). l.state.number) (take n (ls ++ rest)) ≡ numbers_below (length t.lists)
 numbers_in_front t n ls rest placed whole =
-    ap (λ (xs : List Living). map (λ (l : Living). l.state.number) xs)
-    (ap (λ (k : ℕ). take k (ls ++ rest)) whole ∙ take-append_seam ls rest)
+    ap (λ (xs : List Living). map (λ (l : Living). l.state.number) xs) (in_front n ls rest whole)
     ∙ numbers_from_places t ls placed

@@ -1,27 +1,17 @@
 -- What is left of a list is published, and claims end.
-use Rattle.std.proofs.Common.{◌≡◌, inl, inr, ℕ, zero, suc, ◌+◌, ◌-◌, ◌≤◌, ◌<◌, List, [], ◌∷◌, ◌++◌, length, get_or}
-use Rattle.std.proofs.Common.{set, refl}
-use Rattle.std.proofs.Common.{sym, ap}
-use Rattle.std.proofs.Common.{◌∙◌, subst, arith, Option, Some, None, Ok}
+use Rattle.std.proofs.Common.{◌≡◌, ℕ, zero, suc, ◌+◌, ◌-◌, ◌≤◌, ◌<◌, List, [], ◌∷◌, ◌++◌, length, get_or}
+use Rattle.std.proofs.Common.{refl, ap, ◌∙◌, arith, Option, None}
 use Rattle.std.specs.Prelude.{sum_by, replicate}
-use Rattle.std.proofs.lemmas.List.{length-append, length-map, set-get_or, get_or-set_same, get_or-set_other, length-set}
+use Rattle.std.proofs.lemmas.List.{length-append, length-map}
 use Rattle.std.proofs.lemmas.List.Sums.{sum_by-cons}
-use Rattle.std.proofs.lemmas.Bool.{cases_eq}
 use Rattle.repo_object.specs.Objects.{NamedContents}
 use Rattle.repo_object.specs.Objects.Post.{Offers}
 use Rattle.repo_plan.specs.declared.part.Part.{Part}
-use Rattle.repo_plan.specs.Plan.{no_claims, claim_of}
-use Rattle.group_model.specs.Member.{Member}
-use Rattle.repo_member.specs.Alone.{Alone, alone_plan, alone_claims}
-use Rattle.repo_member.specs.InGroup.{in_group}
-use Rattle.live_member.specs.declared.event.LiveEvent.TheVariants as event
-use Rattle.live_member.specs.declared.event.LiveReply.{LiveReply}
 use Rattle.live_member.specs.Meanings.{Meaning, as_posts, objects_of}
 use Rattle.live_member.specs.Lives.{Living, IsLive}
-use Rattle.live_member.specs.LockedCalls.{IsNext, StepsBy}
-use Rattle.live_member.specs.Calls.{lose_change_of}
-use Rattle.live_settle.specs.Ready.{IsReady, Loses}
-use Rattle.live_settle.proofs.States.{lose_state}
+use Rattle.live_member.specs.LockedCalls.{IsNext}
+use Rattle.live_settle.specs.Ready.{Continues, IsReady}
+use Rattle.live_settle.proofs.Fronts.{continues_itself, continues_with, continues_on}
 
 one_in_sum : {X : Type 0} (xs : List (List X)) (j : ℕ) → length (get_or xs j []) ≤ sum_by length xs
 one_in_sum [] j = omega arith
@@ -47,20 +37,42 @@ few_come t most l is =
           (o : NamedContents). Offers o),
     )
 
--- so many objects were published
+-- so many objects were published, at most
 pub record IsPublishing (t : Meaning) (n : ℕ) (old l : Living) : Type 0 where
   pub live : IsLive t 1000000 l
   pub coming : length l.coming + n ≤ 200
   pub number : l.state.number ≡ old.state.number
   pub few : length l.journal ≤ 900000 + n
+  pub front : Continues old.journal l.journal
 
-pub nothing_yet : (t : Meaning) (l : Living) → IsLive t 1000000 l → length l.journal ≤ 900000 → IsPublishing t 0 l l
+-- of 200 those are left that are still to come
+abbrev pub IsPublishingRest : Meaning → Living → Living → Type 0
+IsPublishingRest t old l = IsPublishing t (200 - length l.coming) old l
+
+pub nothing_yet : (t : Meaning) (l : Living) → IsLive t 1000000 l → length l.journal ≤ 900000
+    → IsPublishingRest t l l
 nothing_yet t l live room = record {
   live = live;
   coming = let few = few_come t 1000000 l live in omega (arith, few);
   number = refl;
   few = omega (arith, room);
+  front = continues_itself l.journal;
 }
+
+pub one_published : (t : Meaning) (old l new : Living) (octets : List ℕ) → IsPublishingRest t old l
+    → IsNext t 1000000 l new octets → IsPublishingRest t old new
+one_published t old l new octets is next =
+    let front : Continues l.journal new.journal =
+    continues_with l.journal _ new.journal next.entered.entered in
+    let one = ap length next.first in
+    let long = ap length next.entered.entered ∙ length-append l.journal _ in
+    record {
+      live = next.live;
+      coming = omega (arith, one, is.coming);
+      number = next.entered.number ∙ is.number;
+      few = omega (arith, one, long, is.few, is.coming);
+      front = continues_on old.journal l.journal new.journal is.front front;
+    }
 
 -- ---- claims
 
@@ -70,6 +82,7 @@ pub record IsLosing (t : Meaning) (n : ℕ) (old l : Living) : Type 0 where
   pub coming : l.coming ≡ []
   pub number : l.state.number ≡ old.state.number
   pub few : length l.journal ≤ 900200 + n
+  pub front : Continues old.journal l.journal
   pub none : (k : ℕ) → k < n → get_or l.state.claims k None ≡ None
 
 no_claims_left : (n : ℕ) (cs : List (Option Part)) → length cs ≡ n → ((k : ℕ) → k < n → get_or cs k None ≡ None)

@@ -1,49 +1,34 @@
 -- What the calls under the lock make of a member whose whole list is published.
-use Rattle.std.proofs.Common.{◌≡◌, ◌≢◌, ◌⊎◌, inl, inr, ℕ, ◌+◌, ◌-◌, ◌≤◌, ◌<◌, max, Bool, true, false, not, ◌&&◌, List}
-use Rattle.std.proofs.Common.{[], ◌∷◌}
-use Rattle.std.proofs.Common.{◌++◌, length, get_or, set, refl, sym, ap, ◌∙◌, subst, arith, Option, Some, None, Ok}
-use Rattle.std.specs.Prelude.{IsSomeAnd, filter, slice_index}
-use Rattle.std.specs.List.{list_any}
-use Rattle.std.proofs.lemmas.Bool.{true≢false, cases_eq, and_parts}
+use Rattle.std.proofs.Common.{◌≡◌, inl, inr, ℕ, ◌+◌, ◌≤◌, ◌<◌, max, List}
+use Rattle.std.proofs.Common.{[]}
+use Rattle.std.proofs.Common.{◌++◌, length, get_or, set, refl, sym, ap, ◌∙◌, subst, arith, Some, Ok}
+use Rattle.std.specs.Prelude.{slice_index}
+use Rattle.std.proofs.lemmas.Bool.{cases_eq}
 use Rattle.std.proofs.lemmas.List.{append-nil, set-get_or, length-append}
 use Rattle.repo_object.specs.Objects.{NamedContents, Post}
 use Rattle.repo_plan.specs.declared.part.Part.{Part}
-use Rattle.sorted_lists.specs.SortedList.{contains, keys, insert_key}
-use Rattle.repo_plan.specs.Parts.{Pair, part_cmp, pair_cmp, pair_of, part_of}
-use Rattle.repo_plan.specs.Plan.{PlanState, no_claims, wanted, unclaimed, is_wanted, is_unclaimed, is_claimed}
-use Rattle.repo_plan.specs.Plan.{is_claim_of}
-use Rattle.repo_plan.specs.Plan.{known_parts, first, claim_of}
-use Rattle.repo_plan.proofs.Orders.{exact_parts}
-use Rattle.sorted_lists.proofs.Sets.{contains_in, in_contains}
-use Rattle.repo_plan.proofs.Known.{contains-unclaimed}
+use Rattle.repo_plan.specs.Plan.{claim_of}
 use Rattle.svs_vector.specs.Vectors.{join}
 use Rattle.svs_vector.proofs.JoinLemmas.{join-at}
-use Rattle.group_model.specs.Publications.{Logs, last_of, count, all_parts, join_of}
-use Rattle.group_model.specs.Member.{Member, plan_of, member_holds, member_hides}
-use Rattle.group_model.specs.OneMember.{KnowsAll}
-use Rattle.group_model.specs.Sound.{IsTrueVector, IsPublished, IsPublishedPart}
-use Rattle.group_model.proofs.Lists.{in_first}
-use Rattle.group_model.proofs.Plans.{IsWanted, wanted_parts}
-use Rattle.group_model.proofs.PublicLaws.{parts_are_those, joins_by_itself}
-use Rattle.repo_member.specs.Groups.{GroupKeys}
-use Rattle.repo_member.specs.Alone.{Alone, alone_plan, alone_claims, alone_accepts, logged}
-use Rattle.repo_member.specs.InGroup.{AreLogs, in_group, true_packet}
+use Rattle.group_model.specs.Publications.{Logs, last_of}
+use Rattle.group_model.specs.Member.{Member}
+use Rattle.group_model.specs.Sound.{IsTrueVector}
+use Rattle.repo_member.specs.Alone.{alone_plan}
+use Rattle.repo_member.specs.InGroup.{in_group, true_packet}
 use Rattle.repo_member.specs.TrueMembers.{IsTrueMember}
 use Rattle.repo_member.specs.Verdicts.{sync_of, hear_verdict}
-use Rattle.repo_member.proofs.PublicLaws.{plans_alike, lists_alike, true_stores, accepts_alike, wants_published}
-use Rattle.repo_member.proofs.PublicLaws.{packets_are_there, logs_those, syncs_are_taken}
-use Rattle.repo_holdings.specs.Listed.{alone_catalogue}
+use Rattle.repo_member.proofs.PublicLaws.{syncs_are_taken}
 use Rattle.live_member.specs.declared.event.LiveEvent.TheVariants as event
 use Rattle.live_member.specs.declared.event.LiveReply.{LiveReply}
 use Rattle.live_member.specs.Meanings.{Meaning, as_posts, whole_logs, logs_at}
-use Rattle.live_member.specs.Tellings.{IsTelling, IsLoan, loan}
-use Rattle.live_member.specs.Lives.{Living, living, IsLive}
+use Rattle.live_member.specs.Tellings.{IsTelling}
+use Rattle.live_member.specs.Lives.{Living, IsLive}
 use Rattle.live_member.specs.LockedCalls.{IsEntered, StepsBy}
-use Rattle.live_member.specs.Calls.{claim_change, claim_reply, lose_change, accept_change, hear_change}
-use Rattle.live_member.proofs.PublicLaws.{width_whole, number_there, whole_at, IsAfter, claim_after, lose_after}
+use Rattle.live_member.specs.Calls.{claim_change, claim_reply, accept_change, accept_reply, hear_change}
+use Rattle.live_member.proofs.PublicLaws.{width_whole, number_there, whole_at, claim_after}
 use Rattle.live_member.proofs.PublicLaws.{hear_after, accept_after}
-use Rattle.live_settle.specs.Ready.{IsReady, IsGathering, KnowsThose, missing, missing_of}
-use Rattle.live_settle.proofs.Missing.{one_less}
+use Rattle.live_settle.specs.Ready.{Continues, IsReady, KnowsThose}
+use Rattle.live_settle.proofs.Fronts.{continues_with}
 
 -- ---- the calls, by the member itself
 
@@ -54,12 +39,6 @@ module _ (t : Meaning) (most : ℕ) (l new : Living) (live : IsLive t most l) wh
       let law = claim_after t l.state f live.logs live.truly (claim_of (alone_plan l.state) f) refl in
       (is.changed ∙ sym law.changed, is.replied ∙ sym law.replied)
 
-  pub lose_state : (f : ℕ) (r : LiveReply) → IsEntered t (event.Lose f) l new r
-      → in_group new.state ≡ in_group (lose_change f l.state)
-  lose_state f r is =
-      let law = lose_after t l.state f live.logs live.truly (claim_of (alone_plan l.state) f) refl in
-      is.changed ∙ sym law.changed
-
   pub hear_state : (octets : List ℕ) (r : LiveReply) → IsTelling t octets → IsEntered t (event.Hear octets) l new r
       → in_group new.state
       ≡ in_group (hear_change (hear_verdict t.group l.state octets) (slice_index t.draws l.state.number) l.state)
@@ -68,12 +47,12 @@ module _ (t : Meaning) (most : ℕ) (l new : Living) (live : IsLive t most l) wh
       (slice_index t.draws l.state.number) live tell refl in
       is.changed ∙ sym law.changed
 
-  pub accept_state : (f : ℕ) (part : Part) (octets : List ℕ) (r : LiveReply) → IsLoan t (loan part octets)
-      → IsEntered t (event.Accept f part) l new r
-      → in_group new.state ≡ in_group (accept_change part octets f l.state)
+  pub accept_state : (f : ℕ) (part : Part) (octets : List ℕ) (r : LiveReply)
+      → true_packet t.group (whole_logs t) part ≡ Some octets → IsEntered t (event.Accept f part) l new r
+      → (in_group new.state ≡ in_group (accept_change part octets f l.state)) × (r ≡ accept_reply part f l.state)
   accept_state f part octets r lent is =
       let law = accept_after t most l.state l.journal l.coming f part octets live lent in
-      is.changed ∙ sym law.changed
+      (is.changed ∙ sym law.changed, is.replied ∙ sym law.replied)
 
 -- ---- a member whose whole list is published
 
@@ -107,25 +86,13 @@ hears_one_more ls n known told knows e p l =
           omega (arith, joined, h)
     ]
 
--- who knows of those before it knows of itself
-pub passes_itself : (t : Meaning) (l : Living) (p : ℕ) → IsReady t l → l.state.number ≡ p
-    → KnowsThose (whole_logs t) p l.state.known → KnowsThose (whole_logs t) (p + 1) l.state.known
-passes_itself t l p is number knows q less = elim (cases_eq q p) [
-  | inl same ↦
-      let own : get_or l.state.known l.state.number 0 ≡ last_of (whole_logs t) l.state.number =
-      (whole_truly t 1000000 l is.live is.coming).sound.own in
-      let here : get_or l.state.known q 0 ≡ last_of (whole_logs t) q =
-      subst (λ (k : ℕ). get_or l.state.known k 0 ≡ last_of (whole_logs t) k) (number ∙ sym same) own in
-      omega (arith, here)
-  | inr d ↦ knows q (omega (arith, less, d))
-]
-
 -- one member hears another
 pub record HasHeard (t : Meaning) (n : ℕ) (l new : Living) : Type 0 where
   pub ready : IsReady t new
   pub number : new.state.number ≡ l.state.number
   pub knows : KnowsThose (whole_logs t) n new.state.known
   pub entries : length new.journal ≡ length l.journal + 1
+  pub front : Continues l.journal new.journal
 
 pub has_heard : (t : Meaning) (l other new : Living) (p : ℕ) (octets : List ℕ) (r : LiveReply) → IsReady t l
     → IsReady t other → other.state.number ≡ p → KnowsThose (whole_logs t) p l.state.known
@@ -164,4 +131,5 @@ has_heard t l other new p octets r is others number knows room told steps =
           (hears_one_more ls p l.state.known other.state.known knows
           (subst (λ (k : ℕ). slice_index other.state.known k ≡ last_of ls k) number theirs.sound.own));
       entries = ap length entered.entered ∙ length-append l.journal _;
+      front = continues_with l.journal _ new.journal entered.entered;
     }

@@ -1,6 +1,6 @@
 -- A turn of a settle: a member claims a part and takes its publisher's packet.
 use Rattle.std.proofs.Common.{◌≡◌, ◌≢◌, ◌⊎◌, inl, inr, ℕ, ◌+◌, ◌≤◌, ◌<◌, Bool, true, false, not, ◌&&◌, ◌==◌, List, []}
-use Rattle.std.proofs.Common.{◌∷◌, length}
+use Rattle.std.proofs.Common.{◌∷◌, ◌++◌, length, append_assoc}
 use Rattle.std.proofs.Common.{get_or, set, refl, sym, ap, ◌∙◌, subst, arith, Option, Some, None}
 use Rattle.std.specs.Prelude.{IsSomeAnd, filter, if◌then◌else◌}
 use Rattle.std.specs.List.{list_any}
@@ -34,13 +34,16 @@ use Rattle.repo_holdings.specs.Listed.{alone_catalogue}
 use Rattle.live_member.specs.declared.event.LiveEvent.TheVariants as event
 use Rattle.live_member.specs.declared.event.LiveReply.{LiveReply}
 use Rattle.live_member.specs.declared.event.LiveReply.TheVariants as reply
+use Rattle.live_member.specs.declared.event.LiveEntry.{LiveEntry}
 use Rattle.live_member.specs.Meanings.{Meaning, whole_logs}
-use Rattle.live_member.specs.Tellings.{Loan, IsLoan, loan}
+use Rattle.live_member.specs.Tellings.{Loan}
 use Rattle.live_member.specs.Lives.{Living}
-use Rattle.live_member.specs.LockedCalls.{IsEntered, StepsBy}
+use Rattle.live_member.specs.LockedCalls.{entry, IsEntered, StepsBy}
 use Rattle.live_member.specs.Replay.{is_part}
-use Rattle.live_member.specs.Calls.{claim_change, claim_change_of, claim_reply_of, part_reply, is_claim}
-use Rattle.live_settle.specs.Ready.{IsReady, IsGathering, IsJoined, missing, missing_of}
+use Rattle.live_member.specs.Calls.{claim_change_of, claim_reply_of, part_reply, is_claim, accept_change}
+use Rattle.live_member.specs.Calls.{accept_reply}
+use Rattle.live_settle.specs.Ready.{IsReady, IsGathering, IsJoined, missing, missing_of, ClaimsAndTakes}
+use Rattle.live_settle.specs.Ready.{EntersTurn}
 use Rattle.live_settle.proofs.Missing.{one_less}
 use Rattle.live_settle.proofs.States.{whole_truly, claim_state, accept_state}
 
@@ -183,6 +186,12 @@ module _ (t : Meaning) (l new : Living) (r : LiveReply) (is : IsGathering t l) (
       → in_group new.state ≡ in_group (alone_claims 1 (Some part) l.state)
   claims_so part e = claimed.0 ∙ ap (λ (c : Option Part). in_group (alone_claims 1 c l.state)) (next_part part e)
 
+  pub enters_none : ((part : Part) → r ≡ reply.Claimed part → ⊥) → EntersTurn l new false
+  enters_none none =
+      let nothing : open_part ≡ None = no_part open_part (λ part e. none part (claimed.1 ∙ e)) in
+      entered.entered
+      ∙ ap (λ (s : LiveReply). l.journal ++ entry (event.Claim 1) s ∷ []) (claimed.1 ∙ ap part_reply nothing)
+
   pub nothing_left : ((part : Part) → r ≡ reply.Claimed part → ⊥) → IsJoined t new
   nothing_left none =
       let nothing : open_part ≡ None = no_part open_part (λ part e. none part (claimed.1 ∙ e)) in
@@ -212,7 +221,7 @@ pub record HasTurned (t : Meaning) (l new : Living) : Type 0 where
   pub gathering : IsGathering t new
   pub number : new.state.number ≡ l.state.number
   pub fewer : missing_of t new.state + 1 ≤ missing_of t l.state
-  pub entries : length new.journal ≡ length l.journal + 2
+  pub entries : ClaimsAndTakes l new
 
 module _ (t : Meaning) (l mid new : Living) (r s : LiveReply) (part : Part) (lent : Loan) (is : IsGathering t l)
     (room : length l.journal ≤ 999000) (claim : StepsBy t 1000000 (event.Claim 1) l mid r)
@@ -245,9 +254,19 @@ module _ (t : Meaning) (l mid new : Living) (r s : LiveReply) (part : Part) (len
       ap (λ (m : Member). get_or m.claims 0 None) state_mid
       ∙ ap (λ (cs : List (Option Part)). get_or (set cs 0 (Some part)) 0 None) is.ready.claims
 
+  second : (in_group new.state ≡ in_group (accept_change part lent.octets 1 mid.state))
+      × (s ≡ accept_reply part 1 mid.state)
+  second = accept_state t 1000000 mid new claim.2 1 part lent.octets s packet second_entry
+
+  kept : s ≡ reply.Kept
+  kept =
+      second.1
+      ∙ ap (λ (c : Option Part). if is_claim part c then reply.Kept else reply.Refused) mid_claim
+      ∙ ap (λ (b : Bool). if b then reply.Kept else reply.Refused) (part_itself part)
+
   state_new : in_group new.state ≡ in_group (alone_accepts 1 part lent.octets mid.state)
   state_new =
-      accept_state t 1000000 mid new claim.2 1 part lent.octets s packet second_entry
+      second.0
       ∙ ap (λ (c : Option Part).
       in_group (if is_claim part c then alone_accepts 1 part lent.octets mid.state else mid.state)) mid_claim
       ∙ ap (λ (b : Bool). in_group (if b then alone_accepts 1 part lent.octets mid.state else mid.state))
@@ -258,6 +277,16 @@ module _ (t : Meaning) (l mid new : Living) (r s : LiveReply) (part : Part) (len
 
   taken : in_group new.state ≡ takes 1 part (in_group (alone_claims 1 (Some part) l.state))
   taken = state_new ∙ accepts_alike 1 part lent.octets mid.state mid_in_order ∙ ap (takes 1 part) state_mid
+
+  both_entries : new.journal
+      ≡ l.journal ++ entry (event.Claim 1) (reply.Claimed part) ∷ entry (event.Accept 1 part) reply.Kept ∷ []
+  both_entries =
+      second_entry.entered
+      ∙ ap (λ (js : List LiveEntry). js ++ entry (event.Accept 1 part) s ∷ []) first_entry.entered
+      ∙ append_assoc l.journal (entry (event.Claim 1) r ∷ []) (entry (event.Accept 1 part) s ∷ [])
+      ∙ ap (λ (a : LiveReply). l.journal ++ entry (event.Claim 1) a ∷ entry (event.Accept 1 part) s ∷ []) its
+      ∙ ap (λ (a : LiveReply).
+      l.journal ++ entry (event.Claim 1) (reply.Claimed part) ∷ entry (event.Accept 1 part) a ∷ []) kept
 
   pub has_turned : HasTurned t l new
   has_turned = record {
@@ -275,6 +304,5 @@ module _ (t : Meaning) (l mid new : Living) (r s : LiveReply) (part : Part) (len
         subst (λ (held : List Part). length (missing (whole_logs t) held) + 1 ≤ missing_of t l.state)
         (sym (ap (λ (m : Member). m.held) taken))
         (fewer t l is part (next_part t l mid r is less claim part its));
-    entries =
-        let more = ap length second_entry.entered ∙ length-append mid.journal _ in omega (arith, long, more);
+    entries = record { part = part; journal = both_entries };
   }

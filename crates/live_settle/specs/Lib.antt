@@ -11,3 +11,4 @@ pub use Rattle.live_member.specs.Lives
 pub use Rattle.live_member.specs.LockedCalls
 pub mod Ready
 pub mod Rans
+pub mod Hearings

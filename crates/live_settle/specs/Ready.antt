@@ -1,16 +1,21 @@
 -- The members of a settle, each in its place.
-use Rattle.std.specs.Prelude.{ℕ, ◌≡◌, ◌≢◌, ◌+◌, ◌*◌, ◌<◌, ◌≤◌, Bool, true, false, not, List, [], length, None}
+use Rattle.std.specs.Prelude.{ℕ, ◌≡◌, ◌≢◌, ◌+◌, ◌*◌, ◌<◌, ◌≤◌, Bool, true, false, not, List, [], ◌∷◌, ◌++◌, length}
+use Rattle.std.specs.Prelude.{None}
 use Rattle.std.specs.Prelude.{filter, slice_index, slice_index_or}
 use Rattle.repo_plan.specs.declared.part.Part.{Part}
 use Rattle.sorted_lists.specs.SortedList.{contains, keys}
 use Rattle.repo_plan.specs.Parts.{part_cmp}
-use Rattle.repo_plan.specs.Plan.{no_claims}
+use Rattle.repo_plan.specs.Plan.{no_claims, claim_of}
 use Rattle.group_model.specs.Publications.{Logs, last_of, all_parts, join_of}
 use Rattle.group_model.specs.OneMember.{KnowsAll}
-use Rattle.repo_member.specs.Alone.{Alone, alone_opening, alone_claims}
+use Rattle.repo_member.specs.Alone.{Alone, alone_opening, alone_plan, alone_claims}
 use Rattle.repo_holdings.specs.Listed.{alone_catalogue}
+use Rattle.live_member.specs.declared.event.LiveEvent.TheVariants as event
+use Rattle.live_member.specs.declared.event.LiveReply.TheVariants as reply
+use Rattle.live_member.specs.declared.event.LiveEntry.{LiveEntry}
 use Rattle.live_member.specs.Meanings.{Meaning, whole_logs}
 use Rattle.live_member.specs.Lives.{Living, living, IsLive}
+use Rattle.live_member.specs.LockedCalls.{entry}
 
 -- The member at a place.
 abbrev pub at : List Living → ℕ → Living
@@ -28,21 +33,33 @@ pub record ArePlaced (t : Meaning) (ls : List Living) : Type 0 where
 abbrev pub HasRoom : ℕ → ℕ → List Living → Type 0
 HasRoom from most ls = (p : ℕ) → from ≤ p → p < length ls → length (at ls p).journal ≤ most
 
--- Only the member at place `j` has changed.
+-- A journal that begins with an earlier one, unchanged.
+pub record Continues (old new : List LiveEntry) : Type 0 where
+  pub more : List LiveEntry
+  pub journal : new ≡ old ++ more
+
+-- Each member's journal begins with the one that it had.
+abbrev pub KeepFronts : List Living → List Living → Type 0
+KeepFronts old new = (p : ℕ) → Continues (at old p).journal (at new p).journal
+
+-- Only the member at place `j` has changed, and its journal begins with the one that it had.
 pub record Only (j : ℕ) (old new : List Living) : Type 0 where
   pub width : length new ≡ length old
   pub others : (p : ℕ) → p ≢ j → at new p ≡ at old p
   pub number : (at new j).state.number ≡ (at old j).state.number
+  pub front : Continues (at old j).journal (at new j).journal
 
 -- ---- what was published, and claims
 
--- A fetcher's claim has ended, by an entry, or it had none.
+-- A fetcher's claim has ended, by an entry; where it had none nothing has changed.
 pub record Loses (t : Meaning) (f : ℕ) (old new : Living) : Type 0 where
   pub live : IsLive t 1000000 new
+  pub none : claim_of (alone_plan old.state) f ≡ None → new ≡ old
   pub claims : new.state.claims ≡ (alone_claims f None old.state).claims
   pub number : new.state.number ≡ old.state.number
   pub coming : new.coming ≡ old.coming
   pub entries : length new.journal ≤ length old.journal + 1
+  pub front : Continues old.journal new.journal
 
 -- A member whose whole list is published, and of which no fetcher claims a part.
 pub record IsReady (t : Meaning) (l : Living) : Type 0 where
@@ -106,6 +123,17 @@ pub record Joins (t : Meaning) (j : ℕ) (old new : List Living) : Type 0 where
 abbrev pub AfterTurn : Meaning → ℕ → List Living → List Living → Bool → Type 0
 AfterTurn t j old new true = Turned t j 1 old new
 AfterTurn t j old new false = Joins t j old new
+
+-- Fetcher 1 has claimed a part and taken its packet, by two entries.
+pub record ClaimsAndTakes (old new : Living) : Type 0 where
+  pub part : Part
+  pub journal : new.journal
+      ≡ old.journal ++ entry (event.Claim 1) (reply.Claimed part) ∷ entry (event.Accept 1 part) reply.Kept ∷ []
+
+-- It has done so; or it found no part, by one entry.
+abbrev pub EntersTurn : Living → Living → Bool → Type 0
+EntersTurn old new true = ClaimsAndTakes old new
+EntersTurn old new false = new.journal ≡ old.journal ++ entry (event.Claim 1) reply.NoPart ∷ []
 
 abbrev pub AreJoined : Meaning → List Living → Type 0
 AreJoined t ls = (p : ℕ) → p < length ls → IsJoined t (at ls p)

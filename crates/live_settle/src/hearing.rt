@@ -1,6 +1,7 @@
-ghost use Rattle.std.specs.Prelude.{◌≡◌, ◌<◌, ◌≤◌, ◌+◌, length, OnOk};
+ghost use Rattle.std.specs.Prelude.{◌≡◌, ◌≢◌, ◌<◌, ◌≤◌, ◌+◌, length, OnOk};
 ghost use Rattle.live_member.specs.Meanings.{whole_logs};
-ghost use Rattle.live_settle.specs.Ready.{at, AreReady, AreGathering, HasRoom, KnowsThose, Hears};
+ghost use Rattle.live_settle.specs.Ready.{at, AreReady, AreGathering, HasRoom, KeepFronts, KnowsThose, Hears};
+ghost use Rattle.live_settle.specs.Hearings.{HearsTelling, HearsFirst};
 
 use live_member::{Lists, Live};
 use repo_member::Group;
@@ -14,6 +15,7 @@ pub fn all_hear<L: Lists>(g: &Group, lives: &mut [Live<L, 1000000>]) -> Result<(
     ensures ready { OnOk result (AreReady L.meaning lives.new) }
     ensures gathering { OnOk result (AreGathering L.meaning lives.new) }
     ensures room { OnOk result (HasRoom 0 900232 lives.new) }
+    ensures fronts { OnOk result (KeepFronts lives.old lives.new) }
 {
     for j in 0..lives.len() {
         hear_others(g, lives, j)?;
@@ -31,7 +33,8 @@ fn hear_others<L: Lists>(
     requires ready { AreReady L.meaning lives.old }
     requires there { j < length lives.old }
     requires room { length (at lives.old j).journal ≤ 900216 }
-    ensures { OnOk result (Hears L.meaning j (length L.meaning.lists) 16 lives.old lives.new) }
+    ensures hears { OnOk result (Hears L.meaning j (length L.meaning.lists) 16 lives.old lives.new) }
+    ensures heard { OnOk result (HearsFirst L.meaning j (length lives.old) lives.old lives.new) }
 {
     for p in 0..lives.len() {
         hear_one(g, lives, j, p)?;
@@ -52,7 +55,10 @@ fn hear_one<L: Lists>(
     requires other { p < length lives.old }
     requires room { length (at lives.old j).journal < 1000000 }
     requires knows { KnowsThose (whole_logs L.meaning) p (at lives.old j).state.known }
-    ensures { OnOk result (Hears L.meaning j (p + 1) 1 lives.old lives.new) }
+    ensures hears { OnOk result (Hears L.meaning j (p + 1) 1 lives.old lives.new) }
+    ensures heard { OnOk result
+        (p ≢ j → HearsTelling L.meaning (at lives.old p) (at lives.old j) (at lives.new j)) }
+    ensures itself { OnOk result (p ≡ j → lives.new ≡ lives.old) }
 {
     if p == j {
         return Ok(());

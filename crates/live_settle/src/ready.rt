@@ -2,8 +2,9 @@ ghost use Rattle.std.specs.Prelude.{◌≡◌, ◌<◌, ◌≤◌, length, [], O
 ghost use Rattle.repo_plan.specs.Calls.{IsFetcher};
 ghost use Rattle.live_member.specs.Lives.{IsLive};
 ghost use Rattle.live_settle.specs.Ready.{AreLive, ArePlaced, AreReady, HasRoom, IsReady, Loses};
+ghost use Rattle.live_settle.specs.Ready.{Continues, KeepFronts};
 
-use live_member::{Lists, Live, NextTold, OBJECT_LIMIT};
+use live_member::{Lists, Live, NextTold};
 use repo_member::Group;
 use std::alloc::AllocError;
 
@@ -17,6 +18,7 @@ pub fn all_ready<L: Lists>(g: &Group, lives: &mut [Live<L, 1000000>]) -> Result<
     requires room { HasRoom 0 900000 lives.old }
     ensures ready { OnOk result (AreReady L.meaning lives.new) }
     ensures room { OnOk result (HasRoom 0 900216 lives.new) }
+    ensures fronts { OnOk result (KeepFronts lives.old lives.new) }
 {
     for j in 0..lives.len() {
         ready(g, &mut lives[j])?;
@@ -32,13 +34,14 @@ fn ready<L: Lists>(g: &Group, live: &mut Live<L, 1000000>) -> Result<(), AllocEr
     ensures ready { OnOk result (IsReady L.meaning live.new) }
     ensures number { OnOk result (live.new.state.number ≡ live.old.state.number) }
     ensures entries { OnOk result (length live.new.journal ≤ 900216) }
+    ensures front { OnOk result (Continues live.old.journal live.new.journal) }
 {
     publish_rest(g, live)?;
     lose_claims(live)
 }
 
-// What is still to come of the list is published. The answer is how many objects that are.
-fn publish_rest<L: Lists>(g: &Group, live: &mut Live<L, 1000000>) -> Result<u32, AllocError>
+// What is still to come of the list is published.
+fn publish_rest<L: Lists>(g: &Group, live: &mut Live<L, 1000000>) -> Result<(), AllocError>
     requires group { g.now ≡ L.meaning.group }
     requires live { IsLive L.meaning 1000000 live.old }
     requires room { length live.old.journal ≤ 900000 }
@@ -46,13 +49,10 @@ fn publish_rest<L: Lists>(g: &Group, live: &mut Live<L, 1000000>) -> Result<u32,
     ensures coming { OnOk result (live.new.coming ≡ []) }
     ensures number { OnOk result (live.new.state.number ≡ live.old.state.number) }
     ensures entries { OnOk result (length live.new.journal ≤ 900200) }
+    ensures front { OnOk result (Continues live.old.journal live.new.journal) }
 {
-    for published in 0..OBJECT_LIMIT + 1 {
-        let NextTold::Told(_) = live.publish_next(g)? else {
-            return Ok(published);
-        };
-    }
-    unreachable!()
+    while let NextTold::Told(_) = live.publish_next(g)? {}
+    Ok(())
 }
 
 // Each held claim ends.
@@ -63,6 +63,7 @@ fn lose_claims<L: Lists>(live: &mut Live<L, 1000000>) -> Result<(), AllocError>
     ensures ready { OnOk result (IsReady L.meaning live.new) }
     ensures number { OnOk result (live.new.state.number ≡ live.old.state.number) }
     ensures entries { OnOk result (length live.new.journal ≤ 900216) }
+    ensures front { OnOk result (Continues live.old.journal live.new.journal) }
 {
     for earlier in 0..LAST_FETCHER {
         lose_claim(live, earlier + 1)?;
@@ -71,6 +72,7 @@ fn lose_claims<L: Lists>(live: &mut Live<L, 1000000>) -> Result<(), AllocError>
 }
 
 // The claim of a fetcher ends, if it has one.
+#[tactic(auto, using(crate::proofs::Fronts::continues_more, crate::proofs::Fronts::continues_itself))]
 fn lose_claim<L: Lists>(live: &mut Live<L, 1000000>, f: u8) -> Result<(), AllocError>
     requires fetcher { IsFetcher f }
     requires live { IsLive L.meaning 1000000 live.old }

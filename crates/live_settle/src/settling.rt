@@ -1,7 +1,7 @@
 ghost use Rattle.std.specs.Prelude.{◌≡◌, ◌≤◌, All, map, length, IfOk};
 ghost use Rattle.live_member.specs.Lives.{IsLive};
 ghost use Rattle.live_settle.specs.Ready.{IsJoined};
-ghost use Rattle.live_settle.specs.Rans.{numbers_below, IsRan, AreRans};
+ghost use Rattle.live_settle.specs.Rans.{numbers_below, IsRan, AreRans, AreContinued};
 
 use crate::gather::all_gather;
 use crate::hearing::all_hear;
@@ -24,7 +24,8 @@ pub fn settle<L: Lists>(
     requires numbers { map (λ l. l.state.number) lives.items ≡ numbers_below (length L.meaning.lists) }
     requires live { All (IsLive L.meaning 1000000) lives.items }
     requires room { All (λ l. length l.journal ≤ 900000) lives.items }
-    ensures { IfOk result (λ rans. AreRans L.meaning rans.items) }
+    ensures rans { IfOk result (λ rans. AreRans L.meaning rans.items) }
+    ensures fronts { IfOk result (λ rans. AreContinued lives.items rans.items) }
 {
     all_ready(g, lives.as_mut_slice())?;
     all_hear(g, lives.as_mut_slice())?;
@@ -36,7 +37,9 @@ pub fn settle<L: Lists>(
 fn all_ran<L: Lists>(alloc: Global, lives: Vec<Live<L, 1000000>>) -> Result<Vec<Ran>, AllocError>
     requires numbers { map (λ l. l.state.number) lives.items ≡ numbers_below (length L.meaning.lists) }
     requires joined { All (IsJoined L.meaning) lives.items }
-    ensures { IfOk result (λ rans. AreRans L.meaning rans.items) }
+    ensures journals { IfOk result (λ rans. map (λ r. r.journal.items) rans.items ≡ map (λ l. l.journal) lives.items) }
+    ensures members { IfOk result (λ rans. map (λ r. r.member) rans.items ≡ map (λ l. l.state) lives.items) }
+    ensures rans { IfOk result (λ rans. AreRans L.meaning rans.items) }
 {
     let mut rans = Vec::with_capacity(alloc, lives.len())?;
     for live in lives {
@@ -47,7 +50,8 @@ fn all_ran<L: Lists>(alloc: Global, lives: Vec<Live<L, 1000000>>) -> Result<Vec<
 
 fn ran<L: Lists>(live: Live<L, 1000000>) -> Ran
     requires { IsJoined L.meaning live }
-    ensures number { result.member.number ≡ live.state.number }
+    ensures journal { result.journal.items ≡ live.journal }
+    ensures member { result.member ≡ live.state }
     ensures ran { IsRan L.meaning result }
 {
     let (journal, member) = live.into_parts();

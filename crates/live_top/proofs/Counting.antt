@@ -20,8 +20,8 @@ use Rattle.script_lang.specs.Kinds.{Value, Text, Number, Named, Octets}
 use Rattle.script_lang.specs.Forms.{Stated}
 use Rattle.script_lang.specs.Lines.{line_of}
 use Rattle.script_lang.specs.Checking.{Declared, after_line}
-use Rattle.live_script.specs.declared.refusal.Refusal.{Refusal}
-use Rattle.live_script.specs.declared.refusal.Refusal.TheVariants as refusal
+use Rattle.script_report.specs.declared.refusal.Refusal.{Refusal}
+use Rattle.script_report.specs.declared.refusal.Refusal.TheVariants as refusal
 use Rattle.live_script.specs.Judging.{Reached, Verdict, check_refused, checked, counted, cut_object, is_few}
 use Rattle.live_script.specs.Judging.{is_within_input}
 use Rattle.live_script.specs.Judging.{judged, judged_line, judged_read, may_stand, member_number, refused, taken_by}
@@ -160,7 +160,8 @@ refused_longer r (line ∷ next ∷ ls) behind n why are more is =
     rw cut (go (judged r line) refl is (λ m long h. refused_longer m (next ∷ ls) behind n why are.1 long h)) where
       go : (v : Verdict) → judged r line ≡ v
           → outcome_behind (λ m. outcome_from m (next ∷ ls)) (r.lines + 1) v ≡ Refused n why
-          → ((m : Reached) → 16777216 < m.octets + length (concat (next ∷ ls)) → outcome_from m (next ∷ ls) ≡ Refused n why
+          → ((m : Reached) → 16777216 < m.octets + length (concat (next ∷ ls))
+          → outcome_from m (next ∷ ls) ≡ Refused n why
           → outcome_from m (lines (concat (next ∷ ls) ++ behind)) ≡ Refused n why)
           → outcome_behind (λ m. outcome_from m (lines (concat (next ∷ ls) ++ behind))) (r.lines + 1) v ≡ Refused n why
       go (refused w) j h others = h

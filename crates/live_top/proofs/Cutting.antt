@@ -13,8 +13,8 @@ use Rattle.live_script.specs.declared.stop.Stop.{Stop}
 use Rattle.live_script.specs.declared.stop.Stop.TheVariants as stop
 use Rattle.live_script.specs.Stopping.{IsStop}
 use Rattle.live_top.specs.Inputs.{Stops, halt_at}
-use Rattle.live_script.specs.Judging.{Reached, judged, nothing_reached, takes}
-use Rattle.live_top.specs.Outcomes.{Outcome, Taken, outcome_from, outcome_of}
+use Rattle.live_script.specs.Judging.{Reached, judged, takes}
+use Rattle.live_top.specs.Outcomes.{Outcome, Taken, outcome_from}
 
 -- ---- the first line
 
@@ -64,10 +64,6 @@ whole_line octets front back f b is =
     rw (all, none) is
 
 -- ---- what lines come to
-
--- Octets from which the lines behind some others are still to be taken.
-pub begun : (input : List ℕ) (r : Reached) → r ≡ nothing_reached → outcome_of input ≡ outcome_from r (lines input)
-begun input r is = rw is refl
 
 pub taken_on : (o : Outcome) (r next : Reached) (octets line behind : List ℕ) → o ≡ outcome_from r (lines octets)
     → lines octets ≡ line ∷ lines behind → judged r line ≡ takes next → o ≡ outcome_from next (lines behind)

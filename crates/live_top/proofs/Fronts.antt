@@ -1,20 +1,34 @@
 -- What a run wrote, beside what it may write over its input.
-use Rattle.std.proofs.Common.{◌≡◌, ◌∙◌, ◌⊎◌, inl, inr, ℕ, List, [], ◌++◌, Option, Some, None, refl, sym, ap, subst}
-use Rattle.std.proofs.Common.{Vec}
+use Rattle.std.proofs.Common.{◌≡◌, ◌∙◌, ◌⊎◌, inl, inr, ℕ, true, List, [], ◌++◌, Option, Some, None, refl, sym, ap}
+use Rattle.std.proofs.Common.{subst, Vec}
 use Rattle.std.specs.Prelude.{IfSome}
 use Rattle.std.specs.Global.{Global}
 use Rattle.std.proofs.lemmas.List.{append-nil}
 use Rattle.live_settle.specs.declared.ran.Ran.{Ran}
 use Rattle.repo_io.specs.declared.status.Status.{Status}
 use Rattle.repo_io.specs.declared.status.Status.TheVariants as status
+use Rattle.repo_io.specs.Outside.{GainsText}
 use Rattle.repo_io.proofs.Outputs.{front_as, front_whole}
-use Rattle.live_script.specs.declared.refusal.Refusal.{Refusal}
-use Rattle.live_script.specs.Judging.{Reached}
-use Rattle.live_script.specs.Refusals.{refusal_text}
-use Rattle.live_top.specs.Answers.{Refuses, Runs, WritesFront}
+use Rattle.script_report.specs.declared.refusal.Refusal.{Refusal}
+use Rattle.live_script.specs.Judging.{Reached, is_of_live}
+use Rattle.script_report.specs.Refusals.{refusal_text}
+use Rattle.live_top.specs.Answers.{Refuses, Runs, SaysRefused, WritesFront}
 use Rattle.live_top.specs.Inputs.{IsRead}
 use Rattle.live_top.specs.Journals.{live_text}
 use Rattle.live_top.specs.Outcomes.{Outcome, Refused, Taken, labels_at, outcome_of}
+
+-- What a line's refusal wrote says why it is refused.
+pub says_refused : (left a b : Option (List ℕ)) (line : ℕ) (why : Refusal) (s : Status) → Refuses line why a b s
+    → (is_of_live why ≡ true) × IfSome left (λ input. outcome_of input ≡ Refused line why)
+    → (at number : ℕ) → s ≡ status.Refused at number → SaysRefused at number a b
+says_refused left a b line why s is halted at number answered =
+    let told = subst (Refuses line why a b) answered is in
+    record {
+      why = why;
+      among = halted.0;
+      number_is = told.1;
+      text = subst (λ (n : ℕ). GainsText a b (refusal_text n why)) (sym told.0) told.2;
+    }
 
 -- An input that was read to its end came to what its lines came to.
 read_outcome : (left rest : Option (List ℕ)) (r : Reached) → IsRead left rest r
@@ -86,7 +100,7 @@ module _ (draw : ℕ → ℕ → ℕ) (a b : Option (List ℕ)) where
         over_input left (Taken r) (runs_front r end s ran) (read_outcome left rest r read)
 
     pub front_of_refusal : (left : Option (List ℕ)) (line : ℕ) (why : Refusal) → Refuses line why a b s
-        → IfSome left (λ input. outcome_of input ≡ Refused line why)
+        → (is_of_live why ≡ true) × IfSome left (λ input. outcome_of input ≡ Refused line why)
         → IfSome left (λ input. Same ⊎ WritesFront draw (outcome_of input) a b (s ≡ status.WriteFault))
-    front_of_refusal left line why is refused =
-        over_input left (Refused line why) (refuses_front line why s is) refused
+    front_of_refusal left line why is halted =
+        over_input left (Refused line why) (refuses_front line why s is) halted.1

@@ -1,5 +1,4 @@
 mod PrintedMembers
-mod PrintedForms
 mod PrintedLines
 mod PrintedClaims
 mod PrintedPublishers

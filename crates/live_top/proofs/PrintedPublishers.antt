@@ -1,9 +1,8 @@
 -- The publishers that journals and catalogues name are members of the group.
-use Rattle.std.proofs.Common.{◌≡◌, ℕ, zero, suc, ◌-◌, ◌<◌, ◌≤◌, Bool, true, false, ◌&&◌, ◌==◌, List, [], ◌∷◌}
-use Rattle.std.proofs.Common.{length, get_or, Option, Some, None, refl, sym, ap, subst, arith}
-use Rattle.std.proofs.lemmas.Bool.{and_parts, eqb-true}
+use Rattle.std.proofs.Common.{◌≡◌, ℕ, zero, suc, ◌-◌, ◌<◌, ◌≤◌, Bool, true, false, List, [], ◌∷◌, length, get_or}
+use Rattle.std.proofs.Common.{Option, Some, None, refl, sym, ap, subst, arith}
 use Rattle.std.proofs.lemmas.List.{length-map}
-use Rattle.std.proofs.lemmas.List.Elements.{All-nil, All-cons, All-replicate}
+use Rattle.std.proofs.lemmas.List.Elements.{All-nil, All-cons, All-head, All-tail, All-replicate}
 use Rattle.std.specs.Prelude.{is_some, is_none, if◌then◌else◌}
 use Rattle.std.specs.List.{All}
 use Rattle.repo_plan.specs.declared.part.Part.{Part}
@@ -11,11 +10,11 @@ use Rattle.repo_plan.specs.Plan.{first, unclaimed}
 use Rattle.repo_catalog.specs.declared.entry.Entry.{Entry}
 use Rattle.script_report.specs.Labels.{MembersHaveLabels}
 use Rattle.group_model.specs.Publications.{Logs, published, published_entry, is_unwithdrawn, join_of}
-use Rattle.group_model.specs.Events.{Came}
 use Rattle.group_model.specs.Member.{Member, plan_of}
 use Rattle.group_model.specs.Replies.{Reply}
 use Rattle.group_model.specs.World.{World, logs}
-use Rattle.group_model.specs.Steps.{claim_at, to_claim, came_as, passes_checks}
+use Rattle.group_model.specs.Sound.{IsPublishedPart}
+use Rattle.group_model.specs.Steps.{claim_at, to_claim}
 use Rattle.group_model.proofs.Lists.{from_filter, in_at}
 use Rattle.group_model.proofs.Parts.{in_published, in_range}
 use Rattle.sorted_lists.proofs.Sets.{In, from_map}
@@ -25,8 +24,8 @@ use Rattle.live_member.specs.declared.event.LiveEvent.TheVariants as event
 use Rattle.live_member.specs.declared.event.LiveReply.TheVariants as reply
 use Rattle.live_member.specs.declared.event.LiveEntry.{LiveEntry}
 use Rattle.live_member.specs.Meanings.{Meaning, as_posts, whole_logs, world_at}
-use Rattle.live_member.specs.Replay.{Replays, after, reply_of, live_reply, is_part, fed}
-use Rattle.live_member.specs.Lives.{opening}
+use Rattle.live_member.specs.Replay.{Replays, after, reply_of, live_reply}
+use Rattle.live_member.specs.Lives.{BringsPart, opening}
 use Rattle.live_settle.specs.declared.ran.Ran.{Ran}
 use Rattle.live_settle.specs.Rans.{IsRan}
 use Rattle.live_top.specs.Printed.{HasLabel, PartIsOfMember, NamesMembers, PublishersAreMembers}
@@ -40,6 +39,12 @@ own_label (label ∷ labels) (suc p) less = own_label labels p (omega arith)
 has_label : (t : Meaning) (p : ℕ) → p < length t.lists → HasLabel t p
 has_label t p less labels width = own_label labels p (omega (arith, less, width))
 
+-- a part of a publication of the lists is of one of their members
+brought_below : (t : Meaning) (part : Part) → IsPublishedPart (whole_logs t) part → part.publisher < length t.lists
+brought_below t part is =
+    let inside = in_range (whole_logs t) part.publisher part.seq is.there.from_one is.there.to_last in
+    omega (arith, inside, length-map t.lists as_posts)
+
 -- ---- an entry
 
 module _ (t : Meaning) (j : ℕ) (there : j < length t.lists) where
@@ -51,14 +56,6 @@ module _ (t : Meaning) (j : ℕ) (there : j < length t.lists) where
   claim_labelled f true c below = tt
   claim_labelled f false None below = tt
   claim_labelled f false (Some part) below = has_label t part.publisher below
-
-  feed_labelled : (f : ℕ) (part u : Part) → u.publisher < n → (b : Bool) → is_part part u ≡ b
-      → PartIsOfMember t (event.Accept f part) (live_reply (Reply.Fed b))
-  feed_labelled f part u below false is = tt
-  feed_labelled f part u below true is =
-      let both = and_parts (part.publisher == u.publisher) ((part.seq == u.seq) && (part.part == u.part)) is in
-      let its : part.publisher ≡ u.publisher = eqb-true part.publisher u.publisher both.0 in
-      has_label t part.publisher (omega (arith, its, below))
 
   lose_labelled : (f : ℕ) (c : Option Part) → IsBelow n c
       → PartIsOfMember t (event.Lose f) (if is_none c then reply.Refused else live_reply (Reply.Lost c))
@@ -82,22 +79,12 @@ module _ (t : Meaning) (j : ℕ) (there : j < length t.lists) where
           wider None below = tt
           wider (Some part) below = omega (arith, wide, below)
 
-    feeds : (f : ℕ) (part : Part) (c : Option Part) → IsBelow n c
-        → PartIsOfMember t (event.Accept f part) (live_reply (Reply.Fed (passes_checks (came_as w (fed part) c))))
-    feeds f part None below = tt
-    feeds f part (Some u) below =
-        subst (λ (b : Bool). PartIsOfMember t (event.Accept f part) (live_reply (Reply.Fed b)))
-        (passes (is_part part u)) (feed_labelled f part u below (is_part part u) refl) where
-          passes : (b : Bool) → b ≡ passes_checks (if b then Came.Its else Came.Nothing)
-          passes true = refl
-          passes false = refl
-
-    labelled : (e : LiveEvent) → PartIsOfMember t e (reply_of t j m e)
-    labelled event.Publish = tt
-    labelled (event.Hear octets) = tt
-    labelled (event.Claim f) = claim_labelled f (is_some (claim_at w j f)) (to_claim w j) next_below
-    labelled (event.Accept f part) = feeds f part (claim_at w j f) (claim_below f)
-    labelled (event.Lose f) = lose_labelled f (claim_at w j f) (claim_below f)
+    labelled : (e : LiveEvent) → BringsPart t e → PartIsOfMember t e (reply_of t j m e)
+    labelled event.Publish brings = tt
+    labelled (event.Hear octets) brings = tt
+    labelled (event.Claim f) brings = claim_labelled f (is_some (claim_at w j f)) (to_claim w j) next_below
+    labelled (event.Accept f part) brings = has_label t part.publisher (brought_below t part brings)
+    labelled (event.Lose f) brings = lose_labelled f (claim_at w j f) (claim_below f)
 
   -- ---- a journal
 
@@ -109,13 +96,18 @@ module _ (t : Meaning) (j : ℕ) (there : j < length t.lists) where
   abbrev IsLabelled : LiveEntry → Type 0
   IsLabelled e = PartIsOfMember t e.event e.reply
 
-  each_labelled : (es : List LiveEntry) (from to : Member) → Replays t j es from to → length to.known ≤ n
-      → All (IsBelow n) from.claims → All IsLabelled es
-  each_labelled [] from to is wide each = All-nil IsLabelled
-  each_labelled (e ∷ es) from to is wide each =
+  abbrev Brings : LiveEntry → Type 0
+  Brings e = BringsPart t e.event
+
+  each_labelled : (es : List LiveEntry) (from to : Member) → Replays t j es from to → All Brings es
+      → length to.known ≤ n → All (IsBelow n) from.claims → All IsLabelled es
+  each_labelled [] from to is brought wide each = All-nil IsLabelled
+  each_labelled (e ∷ es) from to is brought wide each =
       let now : length from.known ≤ n = omega (arith, grows (e ∷ es) from to is, wide) in
-      All-cons IsLabelled e es (subst (PartIsOfMember t e.event) is.0 (labelled from now each e.event))
-      (each_labelled es (after t j from e.event) to is.1 wide ((goes_on t j there from e.event).claims n now each))
+      let first = labelled from now each e.event (All-head Brings e es brought) in
+      All-cons IsLabelled e es (subst (PartIsOfMember t e.event) is.0 first)
+      (each_labelled es (after t j from e.event) to is.1 (All-tail Brings e es brought) wide
+      ((goes_on t j there from e.event).claims n now each))
 
 -- ---- a catalogue
 
@@ -137,7 +129,7 @@ names_members t r is =
     let wide : length r.member.known ≤ length t.lists = omega (arith, is.truly.sound.width, whole) in
     record {
       journal = each_labelled t r.member.number there r.journal.items (in_group (opening t r.member.number))
-          (in_group r.member) is.replays wide (All-replicate (IsBelow (length t.lists)) 16 None tt);
+          (in_group r.member) is.replays is.brought wide (All-replicate (IsBelow (length t.lists)) 16 None tt);
       catalogue = subst (All (λ (e : Entry). HasLabel t e.publisher)) (sym is.catalogue)
           (λ k d less. has_label t _ (omega (
             arith,

@@ -1,6 +1,6 @@
 -- What reading an input comes to, by what was read of it.
-use Rattle.std.proofs.Common.{◌≡◌, ◌∙◌, ℕ, ◌<◌, ◌≤◌, ltb, List, [], ◌++◌, length, Option, Some, None, Result, Ok}
-use Rattle.std.proofs.Common.{Err}
+use Rattle.std.proofs.Common.{◌≡◌, ◌∙◌, ℕ, ◌+◌, ◌<◌, ◌≤◌, true, ltb, List, [], ◌∷◌, ◌++◌, length, Option, Some, None}
+use Rattle.std.proofs.Common.{Result, Ok, Err}
 use Rattle.std.proofs.Common.{refl, sym, ap, subst, arith, inl, inr}
 use Rattle.std.specs.Prelude.{IfErr, IfOk, IfSome}
 use Rattle.std.specs.Result.{IsErrAnd}
@@ -10,12 +10,14 @@ use Rattle.std.proofs.lemmas.List.{append-nil}
 use Rattle.repo_io.specs.Outside.{HasRisen}
 use Rattle.repo_io.specs.declared.read_fault.ReadFault.{ReadFault}
 use Rattle.repo_io.specs.declared.read_fault.ReadFault.TheVariants as fault
-use Rattle.live_script.specs.Judging.{Reached}
-use Rattle.live_script.specs.declared.refusal.Refusal.{Refusal}
+use Rattle.repo_io.specs.Lines.{lines}
+use Rattle.live_script.specs.Judging.{IsJudged, Reached, Verdict, is_of_live, judged, refused, takes, unjudged}
+use Rattle.live_script.proofs.Judged.{each_line_is_judged}
+use Rattle.script_report.specs.declared.refusal.Refusal.{Refusal}
 use Rattle.live_top.specs.declared.input.Halt.{Halt}
 use Rattle.live_top.specs.declared.input.Halt.TheVariants as halt
 use Rattle.live_top.specs.Inputs.{IsHaltedAt, IsRead, Stops, halt_of}
-use Rattle.live_top.specs.Outcomes.{Refused, Taken, outcome_of}
+use Rattle.live_top.specs.Outcomes.{Refused, Taken, outcome_behind, outcome_from, outcome_of}
 use Rattle.live_top.proofs.Counting.{input_within, refused_whole}
 
 -- An input whose lines are all taken is shorter than what was asked for, so it was read to its end.
@@ -44,13 +46,30 @@ refused_of (Some whole) (Some more) input n why read ended is =
           refused_whole input more n why (omega (arith, ltb-false (length input) 16777217 long)) is
     ])
 
+-- A line of an input is refused for a reason that such an input has.
+refused_among : (r : Reached) (ls : List (List ℕ)) (n : ℕ) (why : Refusal) → outcome_from r ls ≡ Refused n why
+    → is_of_live why ≡ true
+unfolding outcome_from
+refused_among r [] n why is = absurd cc
+refused_among r (line ∷ ls) n why is =
+    go (judged r line) (each_line_is_judged r line) is (λ next h. refused_among next ls n why h) where
+      go : (v : Verdict) → IsJudged v
+          → outcome_behind (λ next. outcome_from next ls) (r.lines + 1) v ≡ Refused n why
+          → ((next : Reached) → outcome_from next ls ≡ Refused n why → is_of_live why ≡ true)
+          → is_of_live why ≡ true
+      go (refused w) is_judged h others =
+          let same : w ≡ why = cc in
+          subst (λ (reason : Refusal). is_of_live reason ≡ true) same is_judged
+      go (takes next) is_judged h others = others next h
+      go unjudged is_judged h others = absurd is_judged
+
 pub halted_at : (left rest : Option (List ℕ)) (old new : ℕ) (input : List ℕ) (r : Result Reached Halt)
     → Keeps left (prepend_known input rest) → length input ≤ 16777217 → (length input < 16777217 → IsAtEnd rest)
     → IfErr r (Stops (outcome_of input)) → IfErr r (IsHaltedAt left old new)
 halted_at left rest old new input (Ok script) read most ended stops = tt
 halted_at left rest old new input (Err halt.Failed) read most ended stops = absurd stops
 halted_at left rest old new input (Err (halt.Refused n why)) read most ended stops =
-    refused_of left rest input n why read ended stops
+    (refused_among _ (lines input) n why stops, refused_of left rest input n why read ended stops)
 halted_at left rest old new input (Err halt.NoMemory) read most ended stops = tt
 
 -- Nothing was read whole.

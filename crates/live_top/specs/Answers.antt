@@ -1,5 +1,5 @@
 -- What a run of a live group answers, writes and leaves.
-use Rattle.std.specs.Prelude.{◌≡◌, ⊤, ℕ, Bool, false, List, [], ◌∷◌, codes, Option, Some, None, Vec}
+use Rattle.std.specs.Prelude.{◌≡◌, ⊤, ℕ, Bool, true, false, List, [], ◌∷◌, codes, Option, Some, None, Vec}
 use Rattle.std.specs.Global.{Global}
 use Rattle.std.specs.Str.{bytes_eq}
 use Rattle.std.specs.Io.KnownBytes.{IsAtEnd, Keeps, prepend_known}
@@ -8,9 +8,9 @@ use Rattle.live_settle.specs.Rans.{AreRans}
 use Rattle.repo_io.specs.declared.status.Status.{Status}
 use Rattle.repo_io.specs.declared.status.Status.TheVariants as status
 use Rattle.repo_io.specs.Outside.{GainsText, GainsFront}
-use Rattle.live_script.specs.declared.refusal.Refusal.{Refusal}
-use Rattle.live_script.specs.Refusals.{refusal_number, refusal_text}
-use Rattle.live_script.specs.Judging.{Reached}
+use Rattle.script_report.specs.declared.refusal.Refusal.{Refusal}
+use Rattle.script_report.specs.Refusals.{refusal_number, refusal_text}
+use Rattle.live_script.specs.Judging.{Reached, is_of_live}
 use Rattle.live_top.specs.Outcomes.{Outcome, Refused, Taken, Unjudged, outcome_of, meaning_at, labels_at}
 use Rattle.live_top.specs.Journals.{live_text}
 
@@ -26,9 +26,10 @@ status_of (Refused line why) = status.Refused line (refusal_number why)
 status_of (Taken r) = status.Done
 status_of Unjudged = status.Refused 0 0
 
--- The line is refused, for one of the reasons, and what was written says so.
+-- The line is refused, for a reason that a live group's input has, and what was written says so.
 pub record SaysRefused (line number : ℕ) (old new : Option (List ℕ)) : Type 0 where
   pub why : Refusal
+  pub among : is_of_live why ≡ true
   pub number_is : number ≡ refusal_number why
   pub text : GainsText old new (refusal_text line why)
 

@@ -1,12 +1,12 @@
 -- What reading an input's lines comes to.
-use Rattle.std.specs.Prelude.{◌≡◌, ⊤, ℕ, List, Option, IfSome}
+use Rattle.std.specs.Prelude.{◌≡◌, ⊤, ℕ, true, List, Option, IfSome}
 use Rattle.std.specs.Io.KnownBytes.{IsAtEnd, Keeps, prepend_known}
 use Rattle.repo_io.specs.Outside.{HasRisen}
 use Rattle.repo_io.specs.declared.read_fault.ReadFault.{ReadFault}
 use Rattle.repo_io.specs.declared.read_fault.ReadFault.TheVariants as fault
 use Rattle.live_top.specs.declared.input.Halt.{Halt}
 use Rattle.live_top.specs.declared.input.Halt.TheVariants as halt
-use Rattle.live_script.specs.Judging.{Reached}
+use Rattle.live_script.specs.Judging.{Reached, is_of_live}
 use Rattle.live_script.specs.declared.stop.Stop.{Stop}
 use Rattle.live_script.specs.declared.stop.Stop.TheVariants as stop
 use Rattle.live_top.specs.Outcomes.{Outcome, Refused, Taken, outcome_of}
@@ -34,9 +34,10 @@ abbrev pub halt_at : ℕ → Stop → Halt
 halt_at line (stop.Refused why) = halt.Refused line why
 halt_at line stop.NoMemory = halt.NoMemory
 
--- A line of the input is the first that is refused, however much of it was read; or the source failed, or memory ran
--- out.
+-- A line of the input is the first that is refused, however much of it was read, for a reason that such an input has;
+-- or the source failed, or memory ran out.
 abbrev pub IsHaltedAt : Option (List ℕ) → (old new : ℕ) → Halt → Type 0
 IsHaltedAt left old new halt.Failed = HasRisen old new
-IsHaltedAt left old new (halt.Refused line why) = IfSome left (λ input. outcome_of input ≡ Refused line why)
+IsHaltedAt left old new (halt.Refused line why) =
+    (is_of_live why ≡ true) × IfSome left (λ input. outcome_of input ≡ Refused line why)
 IsHaltedAt left old new halt.NoMemory = ⊤

@@ -1,3 +1,4 @@
+pub use Rattle.script_report.specs.Refusals
 pub use Rattle.live_script.specs.Judging
 pub use Rattle.live_settle.specs.Rans
 pub use Rattle.repo_io.specs.Outside

@@ -4,7 +4,7 @@ use Rattle.live_settle.specs.Rans.{numbers_below}
 use Rattle.live_member.specs.Meanings.{Meaning, meaning_of}
 use Rattle.script_lang.specs.Checking.{party_label}
 use Rattle.repo_io.specs.Lines.{lines}
-use Rattle.live_script.specs.declared.refusal.Refusal.{Refusal}
+use Rattle.script_report.specs.declared.refusal.Refusal.{Refusal}
 use Rattle.live_script.specs.Judging.{Reached, Verdict, nothing_reached, judged, refused, takes, unjudged}
 
 -- The first line that is refused, and why; or what all lines came to. That no row judges a line doesn't happen.

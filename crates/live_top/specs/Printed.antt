@@ -34,11 +34,11 @@ abbrev pub HasLabel : Meaning → ℕ → Type 0
 HasLabel t p =
     (labels : List (List ℕ)) → length labels ≡ length t.lists → slice_get labels p ≡ Some (label_at labels p)
 
--- The publisher of a part that was claimed, kept or lost is a member. A packet that was refused changes nothing,
--- whatever part it was lent for, so of that part nothing is said.
+-- The publisher of a part that an entry tells of is a member: of one that was claimed or lost, and of one whose packet
+-- came, whether it was kept or refused.
 abbrev pub PartIsOfMember : Meaning → LiveEvent → LiveReply → Type 0
 PartIsOfMember t (event.Claim f) (reply.Claimed part) = HasLabel t part.publisher
-PartIsOfMember t (event.Accept f part) reply.Kept = HasLabel t part.publisher
+PartIsOfMember t (event.Accept f part) how = HasLabel t part.publisher
 PartIsOfMember t (event.Lose f) (reply.Lost part) = HasLabel t part.publisher
 PartIsOfMember t _ _ = ⊤
 
@@ -47,7 +47,7 @@ pub record NamesMembers (t : Meaning) (r : Ran) : Type 0 where
   pub journal : All (λ e. PartIsOfMember t e.event e.reply) r.journal.items
   pub catalogue : All (λ e. HasLabel t e.publisher) (alone_catalogue r.member.store)
 
--- Where members ran, the publishers of the parts that they claimed, kept and lost, and of what they list, are members
--- of the group, so that each is printed by its label.
+-- Where members ran, the publishers of all parts that their journals tell of, and of what they list, are members of the
+-- group, so that each is printed by its label.
 abbrev pub PublishersAreMembers : Type 0
 PublishersAreMembers = (t : Meaning) (rans : List Ran) → AreRans t rans → All (NamesMembers t) rans

@@ -3,9 +3,10 @@ ghost use Rattle.repo_io.specs.Lines.{lines};
 ghost use Rattle.live_top.specs.Outcomes.{Outcome, outcome_of};
 ghost use Rattle.live_top.specs.Inputs.{IsHaltedAt, IsRead, Stops, halt_at};
 
-use live_script::{Refusal, Script, Stop};
+use live_script::{Script, Stop};
 use repo_io::{ReadFault, Source, read_up_to};
 use script_lang::SCRIPT_LIMIT;
+use script_report::Refusal;
 use std::alloc::Global;
 
 // Why no group runs.

@@ -5,8 +5,8 @@ pub fn journals_are_printed_whole()
     ensures { JournalsArePrintedWhole }
 {}
 
-/// The publishers of the parts that members claimed, kept and lost, and of what they list, are members of their group,
-/// and have labels. Of a part whose packet was refused nothing is said.
+/// The publisher in each line of a journal that names a part, and in each line of a catalogue, is a member of the
+/// group, and has a label.
 pub fn publishers_are_members()
     ensures { PublishersAreMembers }
 {}

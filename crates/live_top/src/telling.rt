@@ -1,9 +1,7 @@
 ghost use Rattle.std.specs.Prelude.{◌≡◌, ◌++◌, codes, map, string_bytes, IfOk, OnOk};
-ghost use Rattle.std.specs.List.{All};
 ghost use Rattle.script_report.specs.Pieces.{Appends};
 ghost use Rattle.live_top.specs.Journals.{catalogue_lines, catalogues, entry_line, feed_line, journal_lines};
 ghost use Rattle.live_top.specs.Journals.{journals, live_text, part_line};
-ghost use Rattle.live_top.specs.Printed.{HasLine, HaveLines};
 
 use live_member::LiveEntry;
 use live_member::LiveEvent::{Accept, Claim, Hear, Lose, Publish};
@@ -26,7 +24,6 @@ pub(crate) fn live_text(
     labels: &[String],
     rans: &[Ran],
 ) -> Result<Vec<u8>, AllocError>
-    requires { HaveLines rans.now }
     ensures { IfOk result (λ text. text.items ≡ live_text (map string_bytes labels.now) rans.now) }
 {
     let mut text = Vec::new(alloc);
@@ -36,7 +33,6 @@ pub(crate) fn live_text(
 }
 
 fn put_journals(text: &mut Vec<u8>, labels: &[String], rans: &[Ran]) -> Result<(), AllocError>
-    requires { HaveLines rans.now }
     ensures { OnOk result (text.new.items ≡ text.old.items
         ++ journals (map string_bytes labels.now) (map string_bytes labels.now) rans.now) }
 {
@@ -53,7 +49,6 @@ fn put_entries(
     own: &str,
     entries: &[LiveEntry],
 ) -> Result<(), AllocError>
-    requires { All HasLine entries.now }
     ensures { OnOk result (text.new.items ≡ text.old.items
         ++ journal_lines (map string_bytes labels.now) own.now entries.now) }
 {
@@ -64,9 +59,8 @@ fn put_entries(
     Ok(())
 }
 
-// The line of an entry. The condition leaves no other forms.
+// The line of an entry. One of no form that a journal has gets none.
 fn put_entry(text: &mut Vec<u8>, labels: &[String], entry: &LiveEntry) -> Result<(), AllocError>
-    requires { HasLine entry.now }
     ensures { Appends (entry_line (map string_bytes labels.now) entry.now) text.old.items text.new.items result }
 {
     match (&entry.event, entry.reply) {
@@ -81,7 +75,7 @@ fn put_entry(text: &mut Vec<u8>, labels: &[String], entry: &LiveEntry) -> Result
         (Accept { f, part }, Refused) => put_not_kept(text, labels, *f, *part),
         (Lose { f }, Lost { part }) => put_lost(text, labels, *f, part),
         (Lose { f }, Refused) => put_journal_lose_refused(text, u64::from(*f)),
-        _ => unreachable!(),
+        _ => Ok(()),
     }
 }
 

@@ -1,5 +1,7 @@
 //! The program `ndnlive`: `live` reads the group, the members and the publications of a live group on standard input,
 //! lets the members run in threads, and writes their journals and catalogues on standard output.
+//!
+//! What is promised of its call `run_live`: `docs/promises/live_top.md`.
 #![tactic(auto)]
 
 #[cfg(test)]

@@ -15,4 +15,4 @@ loop-member-preserved g c =
     (subst (λ (es : List EarView). AreOpen c.args.members (n + 1) (opened ++ o ∷ []) es)
     (sym c.in_ok-push-2.ensures.items)
     (one_open c.args.members n opened ears o e c.loop-member.invariant c.in_ok-opened.ensures.inbox
-    c.in_ok-opened.ensures.ports))
+    c.in_ok-opened.ensures.capacity c.in_ok-opened.ensures.ports))

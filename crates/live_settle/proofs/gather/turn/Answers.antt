@@ -8,9 +8,10 @@ use Rattle.live_settle.proofs.gather.turn.Goals as goal
 
 pub returns-in_default : goal.returns-in_default
 returns-in_default g c =
-    joins_at g.L.Lists.meaning c.args.lives.now c.args.j c.index-lives-j.result c.claim.new.self c.in_ok-part.field-0
-    c.requires.ready c.requires.there c.requires.gathering c.requires.room c.in_ok-part.ensures
-    c.in_default.not-Claimed
+    let both = joins_at g.L.Lists.meaning c.args.lives.now c.args.j c.index-lives-j.result c.claim.new.self
+    c.in_ok-part.field-0 c.requires.ready c.requires.there c.requires.gathering c.requires.room c.in_ok-part.ensures
+    c.in_default.not-Claimed in
+    record { turned = both.0; entries = both.1 }
 
 pub bounds-lives-part : goal.bounds-lives-part
 bounds-lives-part g c =
@@ -19,19 +20,20 @@ bounds-lives-part g c =
     c.in-Claimed.part c.in-Claimed.is in
     omega (arith, inside, length-set c.args.lives.now c.args.j c.claim.new.self)
 
-pub unreachable-requires : goal.unreachable-requires
-unreachable-requires g c =
-    never_none g.L.Lists.meaning c.args.lives.now c.args.j c.index-lives-j.result c.claim.new.self
+pub returns-in_default-2 : goal.returns-in_default-2
+returns-in_default-2 g c =
+    absurd (never_none g.L.Lists.meaning c.args.lives.now c.args.j c.index-lives-j.result c.claim.new.self
     c.in_ok-part.field-0 c.requires.ready c.requires.there c.requires.gathering c.requires.room c.in_ok-part.ensures
     c.in-Claimed.part c.in-Claimed.is c.index-lives-part.result
-    (sym c.in_ok-lent.ensures.own ∙ ap (option_map (λ (l : Loan). l.octets)) c.in_default-2.is)
+    (sym c.in_ok-lent.ensures.own ∙ ap (option_map (λ (l : Loan). l.octets)) c.in_default-2.is))
 
-pub returns : goal.returns
-returns g c =
-    turned_at g.L.Lists.meaning c.args.lives.now c.args.j c.index-lives-j.result c.claim.new.self
+pub returns-in_ok-accept : goal.returns-in_ok-accept
+returns-in_ok-accept g c =
+    let both = turned_at g.L.Lists.meaning c.args.lives.now c.args.j c.index-lives-j.result c.claim.new.self
     c.in_ok-part.field-0 c.requires.ready c.requires.there c.requires.gathering c.requires.room c.in_ok-part.ensures
-    c.in-Claimed.part c.in-Claimed.is c.index-lives-part.result c.index-lives-j-2.result c.accept.new.self
+    c.in-Claimed.part c.in-Claimed.is c.index-lives-part.result c.index-lives-j-in-Some.result c.accept.new.self
     c.in_ok-accept.field-0 c.in-Some.lent
     (subst (λ (o : Option Loan). IfSome o (λ l. l.part ≡ c.in-Claimed.part)) c.in-Some.is c.in_ok-lent.ensures.part)
     (sym c.in_ok-lent.ensures.own ∙ ap (option_map (λ (l : Loan). l.octets)) c.in-Some.is)
-    c.in_ok-accept.ensures
+    c.in_ok-accept.ensures in
+    record { turned = both.0; entries = both.1 }

@@ -1,6 +1,10 @@
-use Rattle.std.proofs.Common.{sym, ap, subst, arith, length}
-use Rattle.live_settle.specs.Ready.{ArePlaced}
-use Rattle.live_settle.proofs.Places.{placed_from, numbers_in_front}
+use Rattle.std.proofs.Common.{◌≡◌, ◌∙◌, List, sym, ap, subst, arith, length}
+use Rattle.std.proofs.lemmas.Result.{IfOk-weaker}
+use Rattle.live_member.specs.Lives.{Living}
+use Rattle.live_settle.specs.Ready.{ArePlaced, KeepFronts}
+use Rattle.live_settle.proofs.Ending.{fronts_come_out}
+use Rattle.live_settle.proofs.Fronts.{fronts_on}
+use Rattle.live_settle.proofs.Places.{placed_from, numbers_in_front, in_front}
 use Rattle.live_settle.proofs.settling.settle.Goals as goal
 
 pub all_ready-requires-clause-placed : goal.all_ready-requires-clause-placed
@@ -15,3 +19,30 @@ all_ran-requires-clause-numbers g c =
     let placed = c.in_ok-all_gather.ensures.ready.placed in
     numbers_in_front t _ c.all_gather.new.lives _ placed
     (omega (arith, first.width, placed.width, c.as_mut_slice.ensures.len, ap length c.as_mut_slice.ensures.value))
+
+pub returns-clause-fronts : goal.returns-clause-fronts
+returns-clause-fronts g c =
+    let t = g.L.Lists.meaning in
+    let n = c.args.lives.len in
+    let old = c.args.lives.items in
+    let one = c.all_ready.new.lives in
+    let two = c.all_hear.new.lives in
+    let three = c.all_gather.new.lives in
+    let given = c.as_mut_slice.ensures.value in
+    let long : n ≡ length t.lists =
+    (let first = placed_from t old c.requires.numbers in
+    omega (arith, first.width, c.as_mut_slice.ensures.len, ap length given)) in
+    let ready : c.as_mut_slice-2.result.now ≡ one =
+    c.as_mut_slice-2.ensures.value ∙ in_front n one _ (long ∙ sym c.in_ok-all_ready.ensures.ready.placed.width) in
+    let heard : c.as_mut_slice-3.result.now ≡ two =
+    c.as_mut_slice-3.ensures.value ∙ in_front n two _ (long ∙ sym c.in_ok-all_hear.ensures.ready.placed.width) in
+    let fronts : KeepFronts old three =
+    fronts_on old one three
+    (subst (λ (ls : List Living). KeepFronts ls one) given c.in_ok-all_ready.ensures.fronts)
+    (fronts_on one two three
+    (subst (λ (ls : List Living). KeepFronts ls two) ready c.in_ok-all_hear.ensures.fronts)
+    (subst (λ (ls : List Living). KeepFronts ls three) heard c.in_ok-all_gather.ensures.fronts)) in
+    IfOk-weaker c.all_ran.result _ _ (λ rans journals.
+    fronts_come_out old three _ rans.items fronts
+    (in_front n three _ (long ∙ sym c.in_ok-all_gather.ensures.ready.placed.width)) journals)
+    c.all_ran.ensures.journals

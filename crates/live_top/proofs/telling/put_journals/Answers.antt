@@ -1,30 +1,17 @@
-use Rattle.std.proofs.Common.{◌≡◌, ◌++◌, ◌∙◌, rules, map, string_bytes, length, length-append, subst, sym, ap}
-use Rattle.std.specs.List.{All}
+use Rattle.std.proofs.Common.{◌≡◌, ◌++◌, ◌∙◌, rules, map, string_bytes, length-append, subst, sym}
 use Rattle.std.specs.Slice.Iter.{iter_rest}
 use Rattle.std.specs.Iterator.Adapters.{zip_first, zip_second}
 use Rattle.std.proofs.lemmas.Slice.Zip.{zip_turn, zip_end}
-use Rattle.live_settle.specs.declared.ran.Ran.{Ran}
 use Rattle.script_report.specs.Pieces.{KeepsFront}
 use Rattle.script_report.proofs.Fronts.{keeps_more}
 use Rattle.script_report.proofs.Together.{writes_none, writes_more, writes_all}
 use Rattle.live_top.specs.Journals.{journal_lines}
-use Rattle.live_top.specs.Printed.{HasLine}
 use Rattle.live_top.proofs.PrintedMembers.{journals, journal, journals_are_text}
 use Rattle.live_top.proofs.telling.put_journals.Goals as goal
 
 pub loop-own-init : goal.loop-own-init
 loop-own-init c =
     writes_none (journals (map string_bytes c.args.labels.now)) c.args.labels.now c.args.rans.now c.args.text.now.items
-
-pub put_entries-requires : goal.put_entries-requires
-put_entries-requires c =
-    let first : iter_rest (zip_first c.into_iter-own-iterator.result) ≡ c.args.labels.now = search rules in
-    let second : iter_rest (zip_second c.into_iter-own-iterator.result) ≡ c.args.rans.now = search rules in
-    let turn = zip_turn c.args.labels.now c.args.rans.now c.loop-own.yielded _ _ c.next.new.self c.next.result first
-    second c.loop-own.yielded_by (c.in-Some.own, c.in-Some.ran) c.in-Some.is c.next.ensures.steps in
-    subst (All HasLine)
-    (ap (λ (r : Ran). r.journal.items) (sym (turn.3 c.in-Some.ran.now)) ∙ sym c.deref-in-loop-own.ensures.value)
-    (c.requires (length c.loop-own.yielded) c.in-Some.ran.now turn.1)
 
 pub loop-own-preserved : goal.loop-own-preserved
 loop-own-preserved c =

@@ -2,7 +2,7 @@ use Rattle.std.proofs.Common.{◌≡◌, ◌∙◌, ℕ, List, subst}
 use Rattle.std.specs.Prelude.{⊤}
 use Rattle.repo_io.specs.Outside.{GainsFront}
 use Rattle.repo_io.proofs.Outputs.{front_taken}
-use Rattle.live_script.specs.Refusals.{refusal_text}
+use Rattle.script_report.specs.Refusals.{refusal_text}
 use Rattle.live_top.proofs.top.refuse.Goals as goal
 
 pub returns-clause-refused : goal.returns-clause-refused

@@ -1,5 +1,5 @@
 use Rattle.std.proofs.Common.{◌≡◌}
-use Rattle.live_top.proofs.Fronts.{front_of_refusal, front_of_run}
+use Rattle.live_top.proofs.Fronts.{front_of_refusal, front_of_run, says_refused}
 use Rattle.live_top.proofs.top.run_live.Goals as goal
 
 pub returns-in-Ok-clause-front : goal.returns-in-Ok-clause-front
@@ -14,4 +14,10 @@ returns-in-Err-Refused-clause-front g c =
     front_of_refusal (g.D.Draws.draw c.args.draws.now) (g.K.Sink.out c.args.sink.now)
     (g.K.Sink.out c.refuse.new.sink) (c.refuse.new.sink ≡ c.args.sink.now) c.refuse.result
     c.refuse.ensures.no_memory (g.S.Source.left c.args.source.now) _ _ c.refuse.ensures.refused
+    (rw c.in-Err-Refused.field-0-is at c.in-Err-Refused.ensures.halted)
+
+pub returns-in-Err-Refused-clause-refused : goal.returns-in-Err-Refused-clause-refused
+returns-in-Err-Refused-clause-refused g c =
+    says_refused (g.S.Source.left c.args.source.now) (g.K.Sink.out c.args.sink.now)
+    (g.K.Sink.out c.refuse.new.sink) _ _ c.refuse.result c.refuse.ensures.refused
     (rw c.in-Err-Refused.field-0-is at c.in-Err-Refused.ensures.halted)

@@ -10,8 +10,6 @@ use Rattle.repo_io.specs.Outside.{GainsFront, GainsText}
 use Rattle.repo_io.proofs.Outputs.{front_taken}
 use Rattle.live_top.specs.Answers.{Runs, RunsTo}
 use Rattle.live_top.specs.Journals.{live_text}
-use Rattle.live_top.specs.Printed.{HaveLines}
-use Rattle.live_top.proofs.PrintedLines.{printed_whole}
 use Rattle.live_top.proofs.Running.{nobody_ran, same_meaning, within_limits}
 use Rattle.live_top.proofs.top.run_script.Goals as goal
 
@@ -25,9 +23,6 @@ returns-in_default-clause-ran g c =
 pub run_members-requires-clause-within : goal.run_members-requires-clause-within
 run_members-requires-clause-within g c κs few =
     within_limits (g.D.Draws.draw c.args.draws.now) c.args.script c.in-Some.members c.in-Some.ensures.some
-
-pub live_text-requires : goal.live_text-requires
-live_text-requires g c = subst HaveLines (sym c.deref-2.ensures.value) (printed_whole _ _ c.in-Ok.ensures)
 
 pub returns-in-Ok-write_whole-clause-ran : goal.returns-in-Ok-write_whole-clause-ran
 returns-in-Ok-write_whole-clause-ran g c =

@@ -14,7 +14,7 @@ accepted-requires-clause-passes g c is =
     subst (IsLoan t) (λ i. loan (sym c.part-part.ensures.part i) (sym c.octets.ensures i)) c.part-part.ensures.lent in
     ap (λ (k : GroupKeys). accept_verdict k a c.args.f c.octets.result.now) c.requires.group
     ∙ passes t g.row.M a c.self.inside.journal.items c.self.inside.coming.items c.args.f c.part-part.result
-    c.octets.result.now c.self.invariant.live lent is
+    c.octets.result.now c.self.invariant.live lent.packet is
 
 pub invariant_of-self-2 : goal.invariant_of-self-2
 invariant_of-self-2 g c =
@@ -34,8 +34,8 @@ invariant_of-self-2 g c =
       c.in_ok-reply.ensures.reply,
     )
     (kept_on t g.row.M a _ journal coming _ _ (omega (arith, c.if-len.false, c.len.ensures))
-    (accept_after t g.row.M a journal coming c.args.f part octets live lent) c.self.inside.number c.self.inside.draw
-    c.self.invariant (accept_quiet t g.row.M a journal coming c.args.f part octets live lent))
+    (accept_after t g.row.M a journal coming c.args.f part octets live lent.packet) lent.published c.self.inside.number
+    c.self.inside.draw c.self.invariant (accept_quiet t g.row.M a journal coming c.args.f part octets live lent.packet))
 
 pub returns : goal.returns
 returns g c =
@@ -43,6 +43,7 @@ returns g c =
     let a = c.self.inside.member in
     let journal = c.self.inside.journal.items in
     let coming = c.self.inside.coming.items in
+    let live = c.self.invariant.live in
     let part = c.part-part.result in
     let octets = c.octets.result.now in
     let lent : IsLoan t (loan part octets) =
@@ -56,6 +57,5 @@ returns g c =
       c.in_ok-reply.ensures.reply,
     )
     (steps_on t g.row.M a _ journal coming _ _ (omega (arith, c.if-len.false, c.len.ensures))
-    (accept_after t g.row.M a journal coming c.args.f part octets c.self.invariant.live lent) c.self.inside.number
-    c.self.inside.draw c.self.invariant
-    (accept_quiet t g.row.M a journal coming c.args.f part octets c.self.invariant.live lent))
+    (accept_after t g.row.M a journal coming c.args.f part octets live lent.packet) lent.published c.self.inside.number
+    c.self.inside.draw c.self.invariant (accept_quiet t g.row.M a journal coming c.args.f part octets live lent.packet))

@@ -24,7 +24,7 @@ invariant_of-self-2 g c =
     )
     (kept_on t g.row.M a _ journal coming _ _ (omega (arith, c.if-len.false, c.len.ensures))
     (hear_after t g.row.M a journal coming c.args.told.now c.self.inside.draw kept.live c.octets.ensures.told value)
-    c.self.inside.number c.self.inside.draw kept
+    tt c.self.inside.number c.self.inside.draw kept
     (hear_quiet t g.row.M a journal coming c.args.told.now c.self.inside.draw kept.live c.octets.ensures.told value))
 
 pub returns : goal.returns
@@ -48,5 +48,5 @@ returns g c =
     )
     (steps_on t g.row.M a _ journal coming _ _ (omega (arith, c.if-len.false, c.len.ensures))
     (hear_after t g.row.M a journal coming c.args.told.now c.self.inside.draw kept.live c.octets.ensures.told value)
-    c.self.inside.number c.self.inside.draw kept
+    tt c.self.inside.number c.self.inside.draw kept
     (hear_quiet t g.row.M a journal coming c.args.told.now c.self.inside.draw kept.live c.octets.ensures.told value))

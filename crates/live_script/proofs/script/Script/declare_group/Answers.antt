@@ -13,7 +13,7 @@ returns-in_err-check-clause-stopped c =
 
 pub new-requires : goal.new-requires
 new-requires c =
-    group_named (stated c.args.line.now) c.args.name.now c.requires.line c.requires.is c.octets-octets.ensures.name
+    group_named (stated c.args.line.now) c.args.name.now c.requires.line c.requires.is c.is_sound.ensures.name
 
 pub invariant_of-self : goal.invariant_of-self
 invariant_of-self c =

@@ -1,16 +1,15 @@
-use Rattle.std.proofs.Common.{◌≡◌, ◌∙◌, ◌++◌, ◌∷◌, [], ℕ, List, ◌<◌, length, map, Option, Some, Ok, refl, sym, ap}
+use Rattle.std.proofs.Common.{◌≡◌, ◌∙◌, ◌<◌, length, map, Option, Ok, sym, ap}
 use Rattle.std.proofs.Common.{subst}
 use Rattle.std.specs.Prelude.{is_some, string_bytes}
-use Rattle.std.proofs.lemmas.Bool.{false≢true}
-use Rattle.std.proofs.lemmas.List.{length-map, map-append}
+use Rattle.std.proofs.lemmas.List.{length-map}
 use Rattle.script_lang.specs.Checking.{after_line}
 use Rattle.script_lang.specs.Forms.{Stated, stated}
 use Rattle.repo_member.specs.Groups.{GroupKeys}
 use Rattle.live_script.specs.Judging.{Reached, may_stand, with_member_too}
 use Rattle.live_script.specs.Scripts.{IsKept, group_keys, node_of, totals_view}
 use Rattle.live_script.proofs.Declaring.{is_free, member_declares, member_kept, member_named, member_taken}
-use Rattle.live_script.proofs.Publishing.{one_list_more}
-use Rattle.live_script.proofs.Taking.{nothing_taken, out_of_memory, stopped_by}
+use Rattle.live_script.proofs.Declaring.{member_ungrouped}
+use Rattle.live_script.proofs.Taking.{memory_wanted, nothing_taken, out_of_memory, stopped_by}
 use Rattle.live_script.proofs.script.Script.declare_member.Goals as goal
 
 pub returns-in_err-check-clause-taken : goal.returns-in_err-check-clause-taken
@@ -21,25 +20,20 @@ returns-in_err-check-clause-stopped c =
     stopped_by _ c.args.self (stated c.args.line.now) c.in_err-check.field-0.0 c.from_residual.result c.self.view_is
     (ap (λ (s : Stated). may_stand s.verb) c.requires.is) c.in_err-check.ensures.refused c.from_residual.ensures.1
 
-pub unreachable-requires : goal.unreachable-requires
-unreachable-requires c =
-    let words = c.self.inside.words in
-    let declares = member_declares words c.check.new.self c.args.label.now c.args.node.now c.args.key.now
-    (subst (λ (s : Stated). after_line words s ≡ Ok c.check.new.self) c.requires.is c.in_ok-check.ensures.ok) in
-    absurd (false≢true (ap is_some (sym c.in_default.is) ∙ sym c.self.invariant.there ∙ declares.0.group))
-
-pub unreachable-unreachable : goal.unreachable-unreachable
-unreachable-unreachable c = absurd c.unreachable.type_inv
+pub returns-in_default-clause-stopped : goal.returns-in_default-clause-stopped
+returns-in_default-clause-stopped c =
+    member_ungrouped _ c.args.self (stated c.args.line.now) c.args.label.now c.args.node.now c.args.key.now
+    c.self.view_is c.requires.is (c.self.invariant.there ∙ ap is_some c.in_default.is)
 
 pub add_member-requires-clause-node : goal.add_member-requires-clause-node
 add_member-requires-clause-node c =
     (member_named (stated c.args.line.now) c.args.label.now c.args.node.now c.args.key.now c.requires.line c.requires.is
-    c.octets-octets.ensures.name).0
+    c.is_sound.ensures.name).0
 
 pub add_member-requires-clause-key : goal.add_member-requires-clause-key
 add_member-requires-clause-key c =
     (member_named (stated c.args.line.now) c.args.label.now c.args.node.now c.args.key.now c.requires.line c.requires.is
-    c.octets-octets.ensures.name).1
+    c.is_sound.ensures.name).1
 
 pub add_member-requires-clause-apart : goal.add_member-requires-clause-apart
 add_member-requires-clause-apart c =
@@ -66,51 +60,25 @@ returns-in_err-add_member-clause-taken c =
 
 pub returns-in_err-add_member-clause-stopped : goal.returns-in_err-add_member-clause-stopped
 returns-in_err-add_member-clause-stopped c =
-    out_of_memory c.args.self (stated c.args.line.now) c.from_residual-in_err-add_member.result
-    c.from_residual-in_err-add_member.ensures.1
+    memory_wanted c.args.self (stated c.args.line.now) c.from_residual-in_err-add_member.result
+    c.in_err-add_member.field-0.0 c.in_err-add_member.ensures.err c.from_residual-in_err-add_member.ensures.1
 
-pub returns-in_err-to_string-clause-taken : goal.returns-in_err-to_string-clause-taken
-returns-in_err-to_string-clause-taken c =
-    nothing_taken c.from_residual-in_err-to_string.result _ c.from_residual-in_err-to_string.ensures.0
+pub returns-in_err-add_list-clause-taken : goal.returns-in_err-add_list-clause-taken
+returns-in_err-add_list-clause-taken c =
+    nothing_taken c.from_residual-in_err-add_list.result _ c.from_residual-in_err-add_list.ensures.0
 
-pub returns-in_err-to_string-clause-stopped : goal.returns-in_err-to_string-clause-stopped
-returns-in_err-to_string-clause-stopped c =
-    out_of_memory c.args.self (stated c.args.line.now) c.from_residual-in_err-to_string.result
-    c.from_residual-in_err-to_string.ensures.1
-
-pub returns-in_err-push-clause-taken : goal.returns-in_err-push-clause-taken
-returns-in_err-push-clause-taken c =
-    nothing_taken c.from_residual-in_err-push.result _ c.from_residual-in_err-push.ensures.0
-
-pub returns-in_err-push-clause-stopped : goal.returns-in_err-push-clause-stopped
-returns-in_err-push-clause-stopped c =
-    out_of_memory c.args.self (stated c.args.line.now) c.from_residual-in_err-push.result
-    c.from_residual-in_err-push.ensures.1
-
-pub returns-in_err-push-2-clause-taken : goal.returns-in_err-push-2-clause-taken
-returns-in_err-push-2-clause-taken c =
-    nothing_taken c.from_residual-in_err-push-2.result _ c.from_residual-in_err-push-2.ensures.0
-
-pub returns-in_err-push-2-clause-stopped : goal.returns-in_err-push-2-clause-stopped
-returns-in_err-push-2-clause-stopped c =
-    out_of_memory c.args.self (stated c.args.line.now) c.from_residual-in_err-push-2.result
-    c.from_residual-in_err-push-2.ensures.1
+pub returns-in_err-add_list-clause-stopped : goal.returns-in_err-add_list-clause-stopped
+returns-in_err-add_list-clause-stopped c =
+    out_of_memory c.args.self (stated c.args.line.now) c.from_residual-in_err-add_list.result
+    c.from_residual-in_err-add_list.ensures.1
 
 pub invariant_of-self : goal.invariant_of-self
 invariant_of-self c =
     let words = c.self.inside.words in
     let declares = member_declares words c.check.new.self c.args.label.now c.args.node.now c.args.key.now
     (subst (λ (s : Stated). after_line words s ≡ Ok c.check.new.self) c.requires.is c.in_ok-check.ensures.ok) in
-    let labels : map string_bytes c.push.new.self.items
-    ≡ map string_bytes c.self.inside.labels.items ++ c.args.label.now ∷ [] =
-    ap (map string_bytes) c.in_ok-push.ensures.items
-    ∙ map-append string_bytes c.self.inside.labels.items (c.in_ok-to_string.field-0 ∷ [])
-    ∙ ap (λ (b : List ℕ). map string_bytes c.self.inside.labels.items ++ b ∷ []) c.in_ok-to_string.ensures.ok in
-    let lists = one_list_more c.self.inside.lists.items c.push-2.new.self.items c.new.result
-    c.in_ok-push-2.ensures.items
-    c.new.ensures.items in
     let group : c.add_member.new.group ≡ with_member_too c.args.node.now c.args.key.now c.in-Some.group =
-    c.in_ok-add_member.ensures in
+    c.in_ok-add_member.ensures.ok in
     let kept = subst (λ (o : Option GroupKeys). IsKept (map string_bytes c.self.inside.labels.items) o
     (totals_view c.self.inside.totals) (record {
       lines = c.self.inside.lines;
@@ -119,19 +87,18 @@ invariant_of-self c =
       keys = group_keys c.self.inside.group;
       lists = map (λ l. l.items) c.self.inside.lists.items;
     })) c.in-Some.is c.self.invariant in
-    rw (labels, lists, group) (member_kept _ c.in-Some.group _ _ c.check.new.self c.args.label.now c.args.node.now
-    c.args.key.now (ap group_keys c.in-Some.is) kept declares.1)
+    rw (c.in_ok-add_list.ensures.labels, c.in_ok-add_list.ensures.lists, group)
+    (member_kept _ c.in-Some.group _ _ c.check.new.self c.args.label.now c.args.node.now c.args.key.now
+    (ap group_keys c.in-Some.is) kept declares.1)
 
 pub returns-clause-taken : goal.returns-clause-taken
 returns-clause-taken c =
-    let lists = one_list_more c.self.inside.lists.items c.push-2.new.self.items c.new.result
-    c.in_ok-push-2.ensures.items
-    c.new.ensures.items in
     member_taken _ c.args.self (stated c.args.line.now) c.check.new.self c.args.label.now c.args.node.now c.args.key.now
-    c.add_member.new.group (map (λ l. l.items) c.push-2.new.self.items) c.self.view_is c.requires.is
+    c.add_member.new.group (map (λ l. l.items) c.add_list.new.lists.items) c.self.view_is c.requires.is
     c.in_ok-check.ensures.ok
-    (c.in_ok-add_member.ensures
-    ∙ ap (with_member_too c.args.node.now c.args.key.now) (sym (ap group_keys c.in-Some.is))) lists
+    (c.in_ok-add_member.ensures.ok
+    ∙ ap (with_member_too c.args.node.now c.args.key.now) (sym (ap group_keys c.in-Some.is)))
+    c.in_ok-add_list.ensures.lists
 
 pub returns-clause-same : goal.returns-clause-same
 returns-clause-same c = (ap (λ (r : Reached). r.lines) c.self.view_is, ap (λ (r : Reached). r.octets) c.self.view_is)

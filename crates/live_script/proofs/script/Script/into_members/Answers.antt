@@ -10,4 +10,4 @@ returns-in_default-clause-none c =
 pub returns-clause-some : goal.returns-clause-some
 returns-clause-some c =
     gives _ c.self.inside.group _ _ c.args.self c.in-Some.group c.self.inside.labels c.self.inside.lists c.self.view_is
-    refl refl refl c.in-Some.is c.self.invariant c.roster-roster.ensures.sound
+    refl refl refl c.in-Some.is c.self.invariant c.is_sound.ensures

@@ -1,4 +1,4 @@
-use Rattle.std.proofs.Common.{◌≡◌, ◌∙◌, true, Some, None, Ok, Option, sym, ap, subst}
+use Rattle.std.proofs.Common.{◌∙◌, Ok, Option, sym, ap, subst}
 use Rattle.std.specs.Option.{option_map}
 use Rattle.script_lang.specs.declared.line.Line.{Line}
 use Rattle.script_lang.specs.Forms.{stated}

@@ -1,4 +1,3 @@
-use Rattle.script_lang.specs.Forms.{stated}
 use Rattle.live_script.proofs.Taking.{not_live}
 use Rattle.live_script.proofs.script.Script.take_stated.Goals as goal
 
