@@ -1,9 +1,11 @@
 #!/usr/bin/env python3
-"""check_journals.py INPUT PRINTED: replays the journals that `ndnlive live` printed for an input.
+"""Replays the journals that `ndnlive live` printed for an input.
 
-It takes each journal from the member's beginning, entry by entry, and works out what each is to reply: the next object of
-the member's list is published; a sync Interest is heard; a fetcher claims the least wanted part that nobody claims; the
-packet of a part comes for its claim; a claim ends. It names the first entry that isn't so. Then it compares each
+    python3 tools/check_journals.py INPUT PRINTED
+
+It takes each journal from the member's beginning, entry by entry, and works out what each is to reply: the next object
+of the member's list is published; a sync Interest is heard; a fetcher claims the least wanted part that nobody claims;
+the packet of a part comes for its claim; a claim ends. It names the first entry that isn't so. Then it compares each
 catalogue with what the member holds after its journal, and with the join of all lists. It knows nothing of the program.
 """
 import bisect

@@ -15,12 +15,14 @@ def kind(what, size, words="run", status=0):
     return enter
 
 
-def heads(members, clients=0):
+def heads(members, clients=0, mirrors=0):
     yield f"group {GROUP}"
     for j in range(1, members + 1):
         yield f"member m{j} /n/{j} {KEY.hex()}"
     for j in range(1, clients + 1):
         yield f"client c{j} /c/{j} {KEY.hex()}"
+    for j in range(1, mirrors + 1):
+        yield f"mirror k{j} * /"
 
 
 def node(j):

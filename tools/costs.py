@@ -23,6 +23,7 @@ import time
 
 sys.dont_write_bytecode = True
 import member_costs  # noqa: F401 (they enter their kinds)
+import mirror_costs  # noqa: F401
 import client_costs  # noqa: F401
 from cost_kinds import KINDS
 

@@ -1,11 +1,15 @@
 #!/usr/bin/env python3
-"""stress_live.py --program FILE [--runs N] [--members N] [--objects N] [--jobs N] [--seed N] [--seconds N]: runs `ndnlive live` many times.
+"""Runs `ndnlive live` many times, and replays the journals of each run.
+
+    python3 tools/stress_live.py [--program FILE] [--runs N] [--members N] [--objects N] [--jobs N] [--seed N]
+                                 [--seconds N]
 
 Each run has an input of its own, drawn from the seed and the run's number: so many members, and objects of 1 to 6
 segments, which members publish. A run fails where the program doesn't end in time or with status 0, or where
 `check_journals.py` finds a journal that doesn't replay or a catalogue that isn't the join of all lists; its input and
 output are kept then. In the end it tells how long runs took, and over all of them how many publications were told to
-how many members and how many of these news were not heard, how many claims found no part, and how many entries were refused.
+how many members and how many of these news were not heard, how many claims found no part, and how many entries were
+refused.
 """
 import argparse
 import contextlib
