@@ -19,7 +19,6 @@ use Rattle.group_model.specs.Publications.{Logs}
 use Rattle.group_model.specs.Member.{tries_of, with_each_tried, with_tries}
 use Rattle.group_model.proofs.Lists.{from_filter}
 use Rattle.group_model.proofs.Tries.{each_tried_at}
-use Rattle.mirror_model.specs.Asked.{asked_numbers}
 use Rattle.repo_member.specs.Groups.{GroupKeys}
 use Rattle.repo_member.specs.Alone.{Alone}
 use Rattle.repo_member.specs.Outcomes.{AreFetchedOf}
@@ -34,12 +33,6 @@ use Rattle.bench_world.proofs.PhaseOutcomes.{lends_true}
 use Rattle.bench_world.proofs.NextParts.{all_from_in, next_unclaimed, next_rise}
 
 -- ---- jobs
-
--- There is a number for each publisher, asked or not.
-pub many_asked : (asked : Option ℕ) (p : ℕ) (ns : List ℕ) → length (asked_numbers asked p ns) ≡ length ns
-many_asked asked p [] = refl
-many_asked asked p (n ∷ ns) =
-    let rest : length (asked_numbers asked (p + 1) ns) ≡ length ns = many_asked asked (p + 1) ns in omega (arith, rest)
 
 -- There are as many parts as jobs.
 pub many_parts : (g : GroupKeys) (h : HoldingsState) (jobs : List Job) (parts : List (Option CheckedPart)) (ns : List ℕ)

@@ -127,7 +127,9 @@ comes_from w m t h =
     (and_from (someone_holds w.members (record_of t)) (not (member_holds m t)) h.record_too
     (not_from_false (member_holds m t) h.fresh))))
 
-holder : (ms : List Member) (t : Part) → someone_holds ms t ≡ true → (m : Member) × In m ms × (member_holds m t ≡ true)
+-- who of them holds it
+pub holder : (ms : List Member) (t : Part) → someone_holds ms t ≡ true
+    → (m : Member) × In m ms × (member_holds m t ≡ true)
 holder [] t h = absurd (true≢false (sym h))
 holder (x ∷ xs) t h = elim (or_cases (member_holds x t) (someone_holds xs t) h) [
   | inl a ↦ (x, inl refl, a)

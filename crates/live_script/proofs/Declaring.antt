@@ -1,13 +1,12 @@
 -- What lines that are taken declare: names and keys that a group takes, and what is kept beside them.
-use Rattle.std.proofs.Common.{◌≡◌, ◌∙◌, ℕ, zero, suc, ◌+◌, ◌<◌, ◌≤◌, Bool, true, false, not, ◌||◌, nat_lt}
+use Rattle.std.proofs.Common.{◌≡◌, ◌∙◌, ℕ, ◌+◌, ◌<◌, ◌≤◌, Bool, true, false, not, ◌||◌}
 use Rattle.std.proofs.Common.{nat_le, List, [], ◌∷◌, ◌++◌, length, length-append, map, sum_by, Option, Some, None, Ok}
 use Rattle.std.proofs.Common.{Err}
 use Rattle.std.proofs.Common.{refl, sym, ap, subst, arith}
 use Rattle.std.proofs.Common.{if◌then◌else◌}
-use Rattle.std.specs.Prelude.{IsTrue, is_some}
-use Rattle.std.specs.List.{All, list_all, list_any}
-use Rattle.std.specs.Str.{bytes_eq}
-use Rattle.std.proofs.lemmas.Bool.{false≢true, and_from, or_parts}
+use Rattle.std.specs.Prelude.{is_some}
+use Rattle.std.specs.List.{All, list_any}
+use Rattle.std.proofs.lemmas.Bool.{false≢true, or_parts}
 use Rattle.std.proofs.lemmas.List.{length-map, map-append}
 use Rattle.std.proofs.lemmas.List.Elements.{All-nil, All-push}
 use Rattle.std.proofs.lemmas.List.Sums.{sum_by-append, sum_by-cons}
@@ -16,53 +15,30 @@ use Rattle.std.proofs.lemmas.Bool.Decides.{nat_tests}
 use Rattle.ndn_name.specs.Names.{Component, IsName, encoding}
 use Rattle.ndn_name.specs.UriText.{is_digest}
 use Rattle.svs_vector.specs.Rosters.{has_same_octets, member_of}
-use Rattle.repo_object.specs.Objects.{NamedContents, IsObject, is_object_name}
+use Rattle.repo_object.specs.Objects.{NamedContents, IsObject}
 use Rattle.script_lang.specs.declared.check_fault.CheckFault.TheVariants as check_fault
 use Rattle.script_lang.specs.declared.verb.Verb.TheVariants as verb
 use Rattle.script_lang.specs.Kinds.{Text, Number, Named, Octets}
 use Rattle.script_lang.specs.Forms.{Stated, form, said}
 use Rattle.script_lang.specs.Lines.{line_of}
 use Rattle.script_lang.specs.Checking.{Declared, Party, after_line, declared_then, is_mirror, is_party_among}
-use Rattle.script_lang.specs.Checking.{is_there}
+use Rattle.script_lang.specs.Checking.{is_there, party_node}
 use Rattle.script_lang.specs.Checking.{party, party_label}
 use Rattle.script_lang.specs.Texts.{AreOf}
-use Rattle.script_lang.proofs.Conditions.{le_test}
 use Rattle.script_lang.proofs.LineTexts.{line_texts}
+use Rattle.script_lang.proofs.Parties.{nobody_has}
 use Rattle.repo_member.specs.Groups.{GroupKeys, NodeKeys, IsKey, IsPlainNodeName, is_name_taken, no_nodes}
-use Rattle.repo_member.proofs.PublicLaws.{none_found, same_name}
+use Rattle.repo_member.proofs.PublicLaws.{none_found, same_name, above_digests, object_name}
 use Rattle.script_report.specs.declared.refusal.Refusal.TheVariants as refusal
 use Rattle.live_script.specs.Judging.{Reached, counted, judged_line, named, nobody, refused, taken, with_member_too}
-use Rattle.live_script.specs.Scripts.{GivesNobody, IsKept, IsLine, IsPublication, TotalsView, group_keys, node_of}
+use Rattle.live_script.specs.Scripts.{GivesNobody, IsKept, IsLine, IsPublication, TotalsView, group_keys}
 
 -- ---- names and keys
-
-above_digests : (name : List Component) → list_any is_digest name ≡ false → All (λ (c : Component). 2 < c.0) name
-above_digests [] h k d lt = absurd (omega arith)
-above_digests (c ∷ cs) h zero d lt =
-    let low : nat_le c.0 2 ≡ false = (or_parts (is_digest c) (list_any is_digest cs) h).0 in
-    grind (arith, nat_tests)
-above_digests (c ∷ cs) h (suc k) d lt =
-    above_digests cs (or_parts (is_digest c) (list_any is_digest cs) h).1 k d (omega arith)
 
 node_name : (name : List Component) → IsName name
     → (list_any is_digest name ≡ false) × (1 ≤ length (encoding name)) × (length (encoding name) ≤ 200)
     → IsPlainNodeName name
 node_name name valid h = record { valid = valid; some = h.1; short = h.2; plain = above_digests name h.0 }
-
-no_digests : (name : List Component) → list_any is_digest name ≡ false → list_all (λ c. nat_lt 2 c.0) name ≡ true
-no_digests [] h = refl
-no_digests (c ∷ cs) h =
-    let no = or_parts (is_digest c) (list_any is_digest cs) h in
-    let low : nat_le c.0 2 ≡ false = no.0 in
-    let above : nat_lt 2 c.0 ≡ true = grind (arith, nat_tests) in
-    and_from (nat_lt 2 c.0) _ above (no_digests cs no.1)
-
-object_name : (name : List Component)
-    → (list_any is_digest name ≡ false) × (1 ≤ length (encoding name)) × (length (encoding name) ≤ 400)
-    → IsTrue (is_object_name name)
-object_name name h =
-    let some : nat_lt 0 (length (encoding name)) ≡ true = grind (arith, nat_tests, h.1) in
-    and_from _ _ (and_from _ _ some (le_test (length (encoding name)) 400 h.2)) (no_digests name h.0)
 
 -- The values of a line are within the ranges of its form.
 ranges : (s t : Stated) → IsLine s → s ≡ t → AreOf (form t.verb).kinds t.values
@@ -130,18 +106,8 @@ member_declares d e label node key h = go d.group d.events (is_there d p) (nat_l
   go true false false true g a f k = absurd cc
   go true false false false g a f k = (record { group = g; apart = a; few = grind (arith, nat_tests, f) }, cc)
 
--- A name that no party has is that of nobody.
-nobody_has : (label : List ℕ) (node : List Component) (parties : List Party)
-    → is_party_among (party label node) parties ≡ false
-    → list_any (has_same_octets node) (map node_of parties) ≡ false
-nobody_has label node [] h = refl
-nobody_has label node (q ∷ parties) h =
-    let both = or_parts (bytes_eq q.label label || bytes_eq (encoding q.node) (encoding node)) _ h in
-    let apart = or_parts (bytes_eq q.label label) (bytes_eq (encoding q.node) (encoding node)) both.0 in
-    rw (same_name.symm node q.node, apart.1) (nobody_has label node parties both.1)
-
 pub is_free : (d : Declared) (keys : GroupKeys) (label : List ℕ) (node : List Component)
-    → map node_of d.members ≡ keys.members.names → keys.clients ≡ no_nodes
+    → map party_node d.members ≡ keys.members.names → keys.clients ≡ no_nodes
     → is_there d (party label node) ≡ false → is_name_taken keys node ≡ false
 is_free d keys label node members none h =
     let parties = or_parts (is_party_among (party label node) d.members || is_party_among (party label node) d.clients)
@@ -149,7 +115,8 @@ is_free d keys label node members none h =
     let both = or_parts (is_party_among (party label node) d.members) (is_party_among (party label node) d.clients)
     parties.0 in
     let no_member : member_of node keys.members.names ≡ None = none_found (has_same_octets node) keys.members.names
-    (ap (list_any (has_same_octets node)) (sym members) ∙ nobody_has label node d.members both.0) in
+    (ap (list_any (has_same_octets node)) (sym members)
+    ∙ nobody_has (has_same_octets node) label node d.members (same_name.symm node) both.0) in
     let no_client : member_of node keys.clients.names ≡ None =
     ap (λ (n : NodeKeys). member_of node n.names) none in
     ap (λ o. is_some o || is_some (member_of node keys.clients.names)) no_member ∙ ap (λ o. is_some o) no_client
@@ -197,7 +164,7 @@ member_kept labels g totals r d label node key same k is = rw is (record {
   there = k.there;
   names = ap (λ (xs : List (List ℕ)). xs ++ label ∷ []) k.names
       ∙ sym (map-append party_label r.declared.members (party label node ∷ []));
-  nodes = map-append node_of r.declared.members (party label node ∷ [])
+  nodes = map-append party_node r.declared.members (party label node ∷ [])
       ∙ ap (λ (xs : List (List Component)). xs ++ node ∷ []) (k.nodes ∙ ap (λ (h : GroupKeys). h.members.names) same);
   clients = k.clients;
   no_clients = ap (λ (h : GroupKeys). h.clients) (sym same) ∙ k.no_clients;
@@ -268,5 +235,5 @@ nobody_kept labels group totals view r seen same none k = subst GivesNobody seen
   none_of (x ∷ xs) h = absurd cc
 
   members : view.declared.members ≡ []
-  members = none_of view.declared.members (sym (length-map view.declared.members node_of)
+  members = none_of view.declared.members (sym (length-map view.declared.members party_node)
       ∙ ap length (k.nodes ∙ ap (λ (g : GroupKeys). g.members.names) keys))

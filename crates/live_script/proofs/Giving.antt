@@ -6,19 +6,20 @@ use Rattle.std.specs.Prelude.{string_bytes}
 use Rattle.std.proofs.lemmas.Bool.{and_parts}
 use Rattle.std.proofs.lemmas.List.{length-map}
 use Rattle.script_lang.proofs.Conditions.{le_tested}
+use Rattle.script_lang.specs.Checking.{party_node}
 use Rattle.repo_object.specs.declared.object.Object.{Object}
 use Rattle.repo_member.specs.Groups.{GroupKeys, IsGroup}
 use Rattle.live_member.specs.Meanings.{IsWithinLimits, meaning_of}
 use Rattle.live_member.proofs.PublicLaws.{parts_are_counted, within}
 use Rattle.live_script.specs.Judging.{Reached}
-use Rattle.live_script.specs.Scripts.{Gives, IsKept, TotalsView, group_keys, node_of}
+use Rattle.live_script.specs.Scripts.{Gives, IsKept, TotalsView, group_keys}
 
 within_kept : (labels : List (List ℕ)) (group : Option GroupKeys) (totals : TotalsView) (view : Reached)
     → IsKept labels group totals view → IsGroup view.keys → (draws : List ℕ)
     → IsWithinLimits (meaning_of view.keys view.lists draws)
 within_kept labels group totals view k is draws =
     let wide : length view.lists ≡ length view.keys.members.names =
-    k.width ∙ sym (length-map view.declared.members node_of) ∙ ap length k.nodes in
+    k.width ∙ sym (length-map view.declared.members party_node) ∙ ap length k.nodes in
     let outer = and_parts (nat_le totals.objects 200 && nat_le totals.contents 1048576) (nat_le totals.parts 4000)
     k.few in
     let inner = and_parts (nat_le totals.objects 200) (nat_le totals.contents 1048576) outer.0 in

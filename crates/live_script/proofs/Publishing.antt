@@ -1,14 +1,14 @@
 -- What a publication's line declares, and what is kept then.
-use Rattle.std.proofs.Common.{◌≡◌, ◌∙◌, ℕ, suc, ◌+◌, ◌-◌, ◌<◌, ◌≤◌, Bool, true, false, not, ◌||◌}
+use Rattle.std.proofs.Common.{◌≡◌, ◌∙◌, ℕ, suc, ◌+◌, ◌-◌, ◌<◌, ◌≤◌, Bool, true, false, not}
 use Rattle.std.proofs.Common.{nat_lt}
 use Rattle.std.proofs.Common.{nat_le, List, [], ◌∷◌, ◌++◌, length, map, sum_by, get_or, set, Option, Some, None, Ok}
 use Rattle.std.proofs.Common.{Err, refl, Vec, Global}
 use Rattle.std.proofs.Common.{length-append, sym, ap, subst, arith, if◌then◌else◌}
 use Rattle.std.specs.Int.{div_ceil}
-use Rattle.std.specs.List.{All, list_any, prefix_len}
+use Rattle.std.specs.List.{All}
 use Rattle.std.specs.Str.{bytes_eq}
 use Rattle.std.proofs.Math.Nat.{le-div_iff_mul-le}
-use Rattle.std.proofs.lemmas.Bool.{false≢true, lt-ltb}
+use Rattle.std.proofs.lemmas.Bool.{lt-ltb}
 use Rattle.std.proofs.lemmas.Bool.Decides.{nat_tests}
 use Rattle.std.proofs.lemmas.Grind.{div_ceil_times}
 use Rattle.std.proofs.lemmas.List.{get_or-map, length-map, length-set, map-append, map-set}
@@ -25,26 +25,17 @@ use Rattle.script_lang.specs.declared.verb.Verb.TheVariants as verb
 use Rattle.script_lang.specs.Kinds.{Value, Text, Number, Named, Octets}
 use Rattle.script_lang.specs.Forms.{Stated, said}
 use Rattle.script_lang.specs.Checking.{Declared, Party, adds, after_line, are_known, are_within_limits, has_label}
-use Rattle.script_lang.specs.Checking.{party_label, party_place, publication_parts, segments, with_totals}
+use Rattle.script_lang.specs.Checking.{party_label, party_place, publication_parts, segments, with_totals, party_node}
 use Rattle.script_lang.proofs.Conditions.{and_left}
+use Rattle.script_lang.proofs.Parties.{any_within}
 use Rattle.repo_member.specs.Groups.{GroupKeys}
 use Rattle.script_report.specs.declared.refusal.Refusal.TheVariants as refusal
 use Rattle.live_script.specs.Judging.{Reached, counted, cut_object, is_few, judged_line, member_number, published}
 use Rattle.live_script.specs.Judging.{refused}
 use Rattle.live_script.specs.Judging.{with_object}
-use Rattle.live_script.specs.Scripts.{IsKept, TotalsView, are_few, node_of, with_one_more}
+use Rattle.live_script.specs.Scripts.{IsKept, TotalsView, are_few, with_one_more}
 
 -- ---- the place of a member
-
-any_within : {X : Type 0} (test : X → Bool) (xs : List X) → list_any test xs ≡ true
-    → prefix_len (λ x. not (test x)) xs < length xs
-any_within test [] h = absurd (false≢true h)
-any_within test (x ∷ xs) h = go (test x) h (any_within test xs) where
-  go : (b : Bool) → (b || list_any test xs) ≡ true
-      → (list_any test xs ≡ true → prefix_len (λ y. not (test y)) xs < length xs)
-      → (if not b then 1 + prefix_len (λ y. not (test y)) xs else 0) < length (x ∷ xs)
-  go true k behind = omega arith
-  go false k behind = omega (arith, behind k)
 
 pub place_within : (label : List ℕ) (parties : List Party) → has_label label parties ≡ true
     → member_number label parties < length parties
@@ -192,7 +183,7 @@ module _ (m : List ℕ) (name : List Component) (size : ℕ) (content : List ℕ
       octets = kept.octets;
       there = ap (λ (x : Declared). x.group) declares.is ∙ kept.there;
       names = kept.names ∙ ap (λ (x : Declared). map party_label x.members) (sym declares.is);
-      nodes = ap (λ (x : Declared). map node_of x.members) declares.is ∙ kept.nodes;
+      nodes = ap (λ (x : Declared). map party_node x.members) declares.is ∙ kept.nodes;
       clients = ap (λ (x : Declared). x.clients) declares.is ∙ kept.clients;
       no_clients = kept.no_clients;
       width = length-set r.lists place (get_or r.lists place [] ++ object ∷ []) ∙ wide;

@@ -4,7 +4,7 @@ use Rattle.std.specs.Prelude.{Ok, IsTrue, is_some, nat_le, string_bytes}
 use Rattle.std.specs.List.{All}
 use Rattle.ndn_name.specs.Names.{Component}
 use Rattle.script_lang.specs.Limits.{script_lines, script_octets}
-use Rattle.script_lang.specs.Checking.{Party, party_label, publication_parts}
+use Rattle.script_lang.specs.Checking.{party_label, publication_parts, party_node}
 use Rattle.script_lang.specs.Forms.{Stated}
 use Rattle.script_lang.specs.Lines.{line_of}
 use Rattle.repo_object.specs.Objects.{IsObject, is_object_name}
@@ -47,9 +47,6 @@ abbrev pub group_keys : Option GroupKeys → GroupKeys
 group_keys None = nobody
 group_keys (Some group) = group
 
-abbrev pub node_of : Party → List Component
-node_of p = p.node
-
 -- What is kept is what the lines declare: the group, in order its members' labels and lists, and the totals over these,
 -- which are within the limits. No client is declared.
 pub record IsKept (labels : List (List ℕ)) (group : Option GroupKeys) (totals : TotalsView) (r : Reached) : Type 0 where
@@ -57,7 +54,7 @@ pub record IsKept (labels : List (List ℕ)) (group : Option GroupKeys) (totals 
   pub octets : r.octets ≤ script_octets
   pub there : r.declared.group ≡ is_some group
   pub names : labels ≡ map party_label r.declared.members
-  pub nodes : map node_of r.declared.members ≡ r.keys.members.names
+  pub nodes : map party_node r.declared.members ≡ r.keys.members.names
   pub clients : r.declared.clients ≡ []
   pub no_clients : r.keys.clients ≡ no_nodes
   pub width : length r.lists ≡ length r.declared.members

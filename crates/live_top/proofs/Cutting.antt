@@ -1,14 +1,11 @@
 -- The first line of an input, and what the lines behind it come to.
-use Rattle.std.proofs.Common.{◌≡◌, ◌≢◌, ◌∙◌, ℕ, zero, suc, ◌+◌, ◌<◌, ◌≤◌, Bool, true, false, eqb, cond, List, []}
+use Rattle.std.proofs.Common.{◌≡◌, ◌≢◌, ◌∙◌, ℕ, zero, suc, ◌+◌, ◌<◌, true, false, eqb, List, []}
 use Rattle.std.proofs.Common.{◌∷◌, length, take, drop}
-use Rattle.std.proofs.Common.{get_or, Some, None, position, refl, sym, arith, inl, inr}
-use Rattle.std.specs.List.{position_or_len}
-use Rattle.std.proofs.lemmas.Bool.{ltb-false, or_from}
-use Rattle.std.proofs.lemmas.Bool.Decides.{eqb_tells}
+use Rattle.std.proofs.Common.{get_or, Some, None, position, refl, sym, arith}
 use Rattle.std.proofs.lemmas.List.{drop_all, take_all}
 use Rattle.std.proofs.lemmas.List.Quantifiers.{position-Some}
-use Rattle.repo_io.specs.Lines.{has_feed, lines}
-use Rattle.repo_io.proofs.LineLaws.{open_line}
+use Rattle.repo_io.specs.Lines.{lines}
+use Rattle.repo_io.proofs.LineLaws.{no_feed_found, open_line}
 use Rattle.live_script.specs.declared.stop.Stop.{Stop}
 use Rattle.live_script.specs.declared.stop.Stop.TheVariants as stop
 use Rattle.live_script.specs.Stopping.{IsStop}
@@ -36,25 +33,10 @@ line_found octets at is =
     let one : at + 1 ≡ suc at = omega arith in
     rw one (first_feed octets at facts.0 facts.1 facts.2)
 
-none_before : (octets : List ℕ) → length octets ≤ position_or_len (λ octet. eqb octet 10) octets
-    → has_feed octets ≡ false
-none_before [] le = refl
-none_before (b ∷ bs) le = elim (eqb_tells b 10) [
-  | inl same ↦ let none = rw same.0 at le in absurd (omega (arith, none))
-  | inr other ↦ let more = rw other.0 at le in or_from (eqb b 10) (has_feed bs) other.0
-      (none_before bs (omega (arith, more)))
-]
-
-none_found : (octets : List ℕ) → position (λ octet. eqb octet 10) octets ≡ None → has_feed octets ≡ false
-none_found octets e = none_before octets (ltb-false _ _ (by_test _ _ e)) where
-  by_test : (test : Bool) (at : ℕ) → cond test (Some at) None ≡ None → test ≡ false
-  by_test true at e = absurd cc
-  by_test false at e = refl
-
 pub last_line : (octets : List ℕ) → octets ≢ [] → None ≡ position (λ octet. eqb octet 10) octets
     → lines octets ≡ octets ∷ lines []
 unfolding lines
-last_line octets some is = open_line octets some (none_found octets (sym is))
+last_line octets some is = open_line octets some (no_feed_found octets (sym is))
 
 pub whole_line : (octets front back : List ℕ) → front ≡ take (length octets) octets → back ≡ drop (length octets) octets
     → lines octets ≡ octets ∷ lines [] → lines octets ≡ front ∷ lines back

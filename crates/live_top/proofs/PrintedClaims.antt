@@ -1,5 +1,5 @@
 -- What an event makes of the vector and the claims of a member.
-use Rattle.std.proofs.Common.{◌≡◌, inl, inr, ℕ, ◌+◌, ◌-◌, ◌<◌, ◌≤◌, Bool, true, false, List, [], ◌∷◌, length}
+use Rattle.std.proofs.Common.{◌≡◌, inl, inr, ℕ, ◌+◌, ◌-◌, ◌<◌, ◌≤◌, Bool, true, false, List, length}
 use Rattle.std.proofs.Common.{get_or, map, Option, Some, None, refl, sym, ◌∙◌, subst, arith}
 use Rattle.std.proofs.lemmas.Bool.{and_parts, cases_lt}
 use Rattle.std.proofs.lemmas.List.{get_or_past, get_or-set_same, length-map, length-set}
@@ -8,9 +8,9 @@ use Rattle.std.specs.Prelude.{is_some, is_none, if◌then◌else◌}
 use Rattle.std.specs.List.{All}
 use Rattle.repo_plan.specs.declared.part.Part.{Part}
 use Rattle.repo_plan.specs.Plan.{is_wanted, is_unclaimed, known_parts, unclaimed, first}
-use Rattle.svs_vector.specs.Vectors.{join}
 use Rattle.repo_object.specs.Objects.Post.{Offers}
 use Rattle.repo_member.specs.Verdicts.{group_verdict}
+use Rattle.repo_member.proofs.PublicLaws.{long_join}
 use Rattle.group_model.specs.Events.{SyncInterest, Came}
 use Rattle.group_model.specs.Events.Came.{Nothing, Its, Another}
 use Rattle.group_model.specs.Publications.{Logs}
@@ -67,12 +67,6 @@ pub record GoesOn (from to : Member) : Type 0 where
 stays : (m : Member) → GoesOn m m
 stays m = record { longer = omega arith; claims = λ n wide each. each }
 
-longer_join : (v w : List ℕ) → length v ≤ length (join v w)
-unfolding join
-longer_join [] w = omega arith
-longer_join (n ∷ v) [] = omega arith
-longer_join (n ∷ v) (m ∷ w) = omega (arith, longer_join v w)
-
 claims_on : (f : ℕ) (c : Option Part) (m : Member) → IsBelow (length m.known) c → GoesOn m (member_with_claim f c m)
 claims_on f c m below = record {
   longer = omega arith;
@@ -116,7 +110,7 @@ module _ (t : Meaning) (j : ℕ) (there : j < length t.lists) (m : Member) where
         → GoesOn m (member (if ahead then w else after_deliver (outside t) w j sync.vector) j)
     go true = same_as_before
     go false = becomes (learns (drawn (outside t) w j) w.moment sync.vector (member w j))
-        (record { longer = longer_join (member w j).known sync.vector; claims = λ n wide each. each })
+        (record { longer = long_join (member w j).known sync.vector; claims = λ n wide each. each })
 
   claims : (f : ℕ) (c : Option Part) → to_claim w j ≡ c → GoesOn m (member (after_claiming w j f c) j)
   claims f None is = same_as_before

@@ -1,5 +1,5 @@
 -- The publishers that journals and catalogues name are members of the group.
-use Rattle.std.proofs.Common.{◌≡◌, ℕ, zero, suc, ◌-◌, ◌<◌, ◌≤◌, Bool, true, false, List, [], ◌∷◌, length, get_or}
+use Rattle.std.proofs.Common.{◌≡◌, ℕ, ◌-◌, ◌<◌, ◌≤◌, Bool, true, false, List, [], ◌∷◌, length, get_or}
 use Rattle.std.proofs.Common.{Option, Some, None, refl, sym, ap, subst, arith}
 use Rattle.std.proofs.lemmas.List.{length-map}
 use Rattle.std.proofs.lemmas.List.Elements.{All-nil, All-cons, All-head, All-tail, All-replicate}
@@ -8,7 +8,6 @@ use Rattle.std.specs.List.{All}
 use Rattle.repo_plan.specs.declared.part.Part.{Part}
 use Rattle.repo_plan.specs.Plan.{first, unclaimed}
 use Rattle.repo_catalog.specs.declared.entry.Entry.{Entry}
-use Rattle.script_report.specs.Labels.{MembersHaveLabels}
 use Rattle.group_model.specs.Publications.{Logs, published, published_entry, is_unwithdrawn, join_of}
 use Rattle.group_model.specs.Member.{Member, plan_of}
 use Rattle.group_model.specs.Replies.{Reply}
@@ -30,14 +29,10 @@ use Rattle.live_settle.specs.declared.ran.Ran.{Ran}
 use Rattle.live_settle.specs.Rans.{IsRan}
 use Rattle.live_top.specs.Printed.{HasLabel, PartIsOfMember, NamesMembers, PublishersAreMembers}
 use Rattle.live_top.proofs.PrintedClaims.{IsBelow, below_at, open_below, same, goes_on}
-
-own_label : MembersHaveLabels
-own_label [] p less = absurd (omega arith)
-own_label (label ∷ labels) zero less = refl
-own_label (label ∷ labels) (suc p) less = own_label labels p (omega arith)
+use Rattle.script_report.proofs.LabelLemmas.{members_have_labels}
 
 has_label : (t : Meaning) (p : ℕ) → p < length t.lists → HasLabel t p
-has_label t p less labels width = own_label labels p (omega (arith, less, width))
+has_label t p less labels width = members_have_labels labels p (omega (arith, less, width))
 
 -- a part of a publication of the lists is of one of their members
 brought_below : (t : Meaning) (part : Part) → IsPublishedPart (whole_logs t) part → part.publisher < length t.lists

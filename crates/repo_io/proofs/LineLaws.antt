@@ -1,8 +1,8 @@
 -- Lines: joined they are the input, and there is one way to cut it.
-use Rattle.std.proofs.Common.{◌≡◌, ◌≢◌, ℕ, Bool, true, false, eqb, List, [], ◌∷◌, ◌++◌, refl, sym, ap, ◌∙◌}
-use Rattle.std.proofs.Common.{append_assoc, inl, inr}
-use Rattle.std.specs.List.{concat}
-use Rattle.std.proofs.lemmas.Bool.{or_parts, or_from}
+use Rattle.std.proofs.Common.{◌≡◌, ◌≢◌, ℕ, ◌≤◌, Bool, true, false, cond, eqb, List, [], ◌∷◌, ◌++◌, length, Some, None}
+use Rattle.std.proofs.Common.{position, refl, sym, ap, ◌∙◌, arith, append_assoc, inl, inr}
+use Rattle.std.specs.List.{concat, position_or_len}
+use Rattle.std.proofs.lemmas.Bool.{ltb-false, or_parts, or_from}
 use Rattle.std.proofs.lemmas.Bool.Decides.{eqb_tells}
 use Rattle.std.proofs.lemmas.List.{append-nil}
 use Rattle.repo_io.specs.Lines.{AreLines, IsOpen, IsWhole, has_feed, octet_in_front, lines}
@@ -117,3 +117,20 @@ only_lines (line ∷ []) (inr o) = ap lines (append-nil line) ∙ open_line line
 only_lines (line ∷ next ∷ others) are =
     whole_first line (concat (next ∷ others)) are.0 ∙ ap (λ (t : List (List ℕ)). line ∷ t)
     (only_lines (next ∷ others) are.1)
+
+-- ---- no line feed
+
+pub no_feed_before : (octets : List ℕ) → length octets ≤ position_or_len (λ octet. eqb octet 10) octets
+    → has_feed octets ≡ false
+no_feed_before [] le = refl
+no_feed_before (b ∷ bs) le = elim (eqb_tells b 10) [
+  | inl same ↦ let none = rw same.0 at le in absurd (omega (arith, none))
+  | inr other ↦ let more = rw other.0 at le in or_from (eqb b 10) (has_feed bs) other.0
+      (no_feed_before bs (omega (arith, more)))
+]
+
+pub no_feed_found : (octets : List ℕ) → position (λ octet. eqb octet 10) octets ≡ None → has_feed octets ≡ false
+no_feed_found octets e = no_feed_before octets (ltb-false _ _ (by_test _ _ e)) where
+  by_test : (test : Bool) (at : ℕ) → cond test (Some at) None ≡ None → test ≡ false
+  by_test true at e = absurd cc
+  by_test false at e = refl

@@ -133,7 +133,8 @@ keeps_hidden_one pair a = record {
       or_parts (eq_by_cmp pair_cmp (pair_of t) pair) (contains pair_cmp a.hidden (pair_of t))
       (sym (contains-insert_key exact_pairs pair a.hidden (pair_of t)) ∙ shown) in
       value_outside pair a.store t
-      ∙ ap (λ (b : Bool). cond (not b) (value_of part_cmp a.store t) None) (eq_turned exact_pairs pair (pair_of t) ∙ apart.0)
+      ∙ ap (λ (b : Bool). cond (not b) (value_of part_cmp a.store t) None)
+      (eq_turned exact_pairs pair (pair_of t) ∙ apart.0)
       ∙ h;
 }
 

@@ -1,4 +1,5 @@
 mod GroupLemmas
+mod PlainNames
 pub mod MemberLemmas
 mod PostLemmas
 mod OwnLemmas

@@ -34,6 +34,7 @@ pub use Rattle.repo_member.proofs.CallLogs.{logs_go_on, publications_stay, withd
 pub use Rattle.repo_member.proofs.CallVectors.{numbers_never_fall, known_is_the_join, long_join}
 pub use Rattle.repo_member.proofs.CallReach.{in_every_member, claims_once}
 pub use Rattle.repo_member.proofs.CallPackets.{held_packets_stay, hidden_for_good, hidden_is_gone, own_stored}
+pub use Rattle.repo_member.proofs.PlainNames.{above_digests, object_name, plain_name}
 pub use Rattle.repo_member.proofs.GroupLemmas.{client_is, client_plain, same_name, none_found, none_have_keys}
 pub use Rattle.repo_member.proofs.OwnLemmas.{is_publisher}
 pub use Rattle.repo_holdings.proofs.GainingLemmas.{contains-value}

@@ -6,3 +6,4 @@ pub use Rattle.repo_mirror.proofs.GroupLemmas.{mirrors_plan_alike, mirrors_want_
 pub use Rattle.repo_mirror.proofs.GroupLemmas.{mirrors_begin_true, mirrors_learn_true}
 pub use Rattle.repo_mirror.proofs.GrownLemmas.{mirrors_grow_true}
 pub use Rattle.repo_mirror.proofs.TrueLemmas.{mirrors_take_true}
+pub use Rattle.repo_mirror.proofs.AskedLemmas.{length-asked}

@@ -1,16 +1,14 @@
 -- What a line that is taken states can be carried out: an event names members and clients that are there and is within
 -- its limits, and what is declared has a name and a key that a group takes.
-use Rattle.std.proofs.Common.{◌≡◌, ℕ, zero, suc, ◌+◌, ◌-◌, ◌*◌, ◌<◌, ◌≤◌, Bool, true, false, not, ◌||◌, nat_lt, nat_le}
+use Rattle.std.proofs.Common.{◌≡◌, ℕ, ◌-◌, ◌*◌, ◌<◌, ◌≤◌, Bool, true, false, not, nat_lt, nat_le}
 use Rattle.std.proofs.Common.{List, [], ◌∷◌, length, Option, Some, None, Ok, Err, refl, sym, ap, subst}
 use Rattle.std.proofs.Common.{arith, if◌then◌else◌}
-use Rattle.std.specs.Prelude.{IsTrue}
 use Rattle.std.specs.Int.{div_ceil}
-use Rattle.std.specs.List.{All, list_all, list_any, prefix_len}
+use Rattle.std.specs.List.{list_any}
 use Rattle.std.specs.Option.{IfSome}
 use Rattle.std.specs.Str.{bytes_eq}
 use Rattle.std.proofs.Math.Nat.{lt_of_mul-lt-mul_right}
-use Rattle.std.proofs.lemmas.Bool.{false≢true, and_from, lt-ltb, or_parts}
-use Rattle.std.proofs.lemmas.Bool.Decides.{nat_tests}
+use Rattle.std.proofs.lemmas.Bool.{lt-ltb}
 use Rattle.std.proofs.lemmas.Grind.{div_ceil_times}
 use Rattle.std.proofs.lemmas.List.{length-map}
 use Rattle.ndn_name.specs.Names.{Component, encoding}
@@ -18,7 +16,6 @@ use Rattle.ndn_name.specs.UriText.{is_digest}
 use Rattle.ndn_name.specs.UriVerdict.{HasUri}
 use Rattle.sorted_lists.specs.Range.{numbers_from}
 use Rattle.repo_process.proofs.ProcessLemmas.{length-numbers}
-use Rattle.repo_object.specs.Objects.{is_object_name}
 use Rattle.repo_object.specs.Cuts.{piece, pieces}
 use Rattle.script_lang.specs.declared.check_fault.CheckFault.TheVariants as check_fault
 use Rattle.script_lang.specs.declared.verb.Verb.{Verb}
@@ -30,25 +27,17 @@ use Rattle.script_lang.specs.Checking.{Declared, Party, has_label, labels_in, ar
 use Rattle.script_lang.specs.Checking.{is_mirror, mirror_place}
 use Rattle.script_lang.specs.Checking.{are_within_limits, with_totals, adds, after_by, after_event, after_line}
 use Rattle.script_lang.specs.Texts.{AreOf, AreWordTexts, IsLineText, IsWordText}
-use Rattle.script_lang.proofs.Conditions.{and_left, and_right, le_test, le_tested, lt_tested}
+use Rattle.script_lang.proofs.Conditions.{and_left, and_right, le_tested, lt_tested}
 use Rattle.script_lang.proofs.LineTexts.{line_texts}
+use Rattle.script_lang.proofs.Parties.{any_within}
 use Rattle.repo_member.specs.Groups.{IsPlainNodeName, IsKey}
+use Rattle.repo_member.proofs.PublicLaws.{above_digests, object_name}
 use Rattle.bench_world.specs.EventValues.{EventValue}
 use Rattle.bench_world.specs.Steps.{IsReady, NamesClient}
 use Rattle.repo_top.specs.SaidEvents.{mirror_number, party_number, said_by, said_event}
 use Rattle.repo_top.proofs.ReadNames.{read_name_valid}
 
 -- ---- places
-
-any_within : {X : Type 0} (test : X → Bool) (xs : List X) → list_any test xs ≡ true
-    → prefix_len (λ x. not (test x)) xs < length xs
-any_within test [] h = absurd (false≢true h)
-any_within test (x ∷ xs) h = go (test x) h (any_within test xs) where
-  go : (b : Bool) → (b || list_any test xs) ≡ true
-      → (list_any test xs ≡ true → prefix_len (λ y. not (test y)) xs < length xs)
-      → (if not b then 1 + prefix_len (λ y. not (test y)) xs else 0) < length (x ∷ xs)
-  go true k behind = omega arith
-  go false k behind = omega (arith, behind k)
 
 -- a label that is known has the number of a party
 pub number_within : (label : List ℕ) (a b : List Party) → b ≡ a → has_label label a ≡ true
@@ -77,21 +66,6 @@ place_of_known label parties known =
     ap (λ (b : Bool). if b then Some n else None) inside
 
 -- ---- names and contents
-
-no_digests : (name : List Component) → list_any is_digest name ≡ false → list_all (λ c. nat_lt 2 c.0) name ≡ true
-no_digests [] h = refl
-no_digests (c ∷ cs) h =
-    let no = or_parts (is_digest c) (list_any is_digest cs) h in
-    let low : nat_le c.0 2 ≡ false = no.0 in
-    let above : nat_lt 2 c.0 ≡ true = grind (arith, nat_tests) in
-    and_from (nat_lt 2 c.0) _ above (no_digests cs no.1)
-
-object_name : (name : List Component)
-    → (list_any is_digest name ≡ false) × (1 ≤ length (encoding name)) × (length (encoding name) ≤ 400)
-    → IsTrue (is_object_name name)
-object_name name h =
-    let some : nat_lt 0 (length (encoding name)) ≡ true = grind (arith, nat_tests, h.1) in
-    and_from _ _ (and_from _ _ some (le_test (length (encoding name)) 400 h.2)) (no_digests name h.0)
 
 -- a content has no more pieces than it has octets for
 few_pieces : (size : ℕ) (content : List ℕ) → 1 ≤ size → length content ≤ 20000 * size
@@ -376,14 +350,6 @@ pub written : (kinds : List Kind) (values : List Value) (texts : List (List ℕ)
 written [] [] [] h = tt
 written (kind ∷ kinds) (value ∷ values) (text ∷ texts) h = ((text, h.0), written kinds values texts h.1)
 written kinds values texts h = absurd h
-
-above_digests : (name : List Component) → list_any is_digest name ≡ false → All (λ (c : Component). 2 < c.0) name
-above_digests [] h k d lt = absurd (omega arith)
-above_digests (c ∷ cs) h zero d lt =
-    let low : nat_le c.0 2 ≡ false = (or_parts (is_digest c) (list_any is_digest cs) h).0 in
-    grind (arith, nat_tests)
-above_digests (c ∷ cs) h (suc k) d lt =
-    above_digests cs (or_parts (is_digest c) (list_any is_digest cs) h).1 k d (omega arith)
 
 node_name : (name : List Component) (text : List ℕ)
     → (list_any is_digest name ≡ false) × (1 ≤ length (encoding name)) × (length (encoding name) ≤ 200)

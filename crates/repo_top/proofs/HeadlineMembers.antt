@@ -21,7 +21,7 @@ use Rattle.group_model.specs.Refusals.{NamesThose}
 use Rattle.repo_member.specs.Groups.{GroupKeys, HaveKeys, IsGroup, IsPlainNodeName}
 use Rattle.repo_member.specs.InGroup.{AreLogs}
 use Rattle.repo_member.specs.Blocks.{AreWithinLimits}
-use Rattle.repo_member.proofs.PublicLaws.{logs_begin, none_have_keys}
+use Rattle.repo_member.proofs.PublicLaws.{logs_begin, none_have_keys, same_name}
 use Rattle.script_lang.specs.declared.verb.Verb.{Verb}
 use Rattle.script_lang.specs.declared.verb.Verb.TheVariants as verb
 use Rattle.script_lang.specs.Kinds.{Value, Text, Number, Named, Octets}
@@ -29,9 +29,10 @@ use Rattle.script_lang.specs.Forms.{Stated, form, said}
 use Rattle.script_lang.specs.Lines.{line_of}
 use Rattle.script_lang.specs.Texts.{AreOf, IsLineText}
 use Rattle.script_lang.specs.Checking as checking
-use Rattle.script_lang.specs.Checking.{Declared, after_group, after_line, is_party_among, is_there, party}
+use Rattle.script_lang.specs.Checking.{Declared, after_group, after_line, is_party_among, is_there, party, party_node}
 use Rattle.script_lang.specs.Checking.{party_label}
 use Rattle.script_lang.proofs.LineTexts.{line_texts}
+use Rattle.script_lang.proofs.Parties.{nobody_has}
 use Rattle.bench_world.specs.EventValues.{EventValue, group_event}
 use Rattle.bench_world.specs.Steps.{IsReady}
 use Rattle.bench_world.proofs.EventRuns.{named_ready}
@@ -42,19 +43,19 @@ use Rattle.repo_top.specs.Judging.{Given, State, acted_by, acted_if, found_world
 use Rattle.repo_top.specs.Judging.{outside_of, says, taken_by, with_client, with_client_too, with_group}
 use Rattle.repo_top.specs.Judging.{declaring_member, declaring_mirror, mirrors_begin, mirrors_behind, watchers_at}
 use Rattle.repo_top.specs.Judging.{with_member_too, with_mirrors, with_watchers}
-use Rattle.repo_top.specs.Progressing.{node_of}
 use Rattle.repo_top.specs.Story.{Reached, nothing_reached}
 use Rattle.repo_top.specs.Headline.{LinesAreTaken, AreTakenFirst, ReachSoundGroups}
 use Rattle.repo_top.proofs.ReadNames.{read_name_valid}
 use Rattle.repo_top.proofs.Fitting.{AreWritten, client_fits, event_fits, group_fits, member_fits, written}
 use Rattle.repo_top.proofs.DeclaredGroups.{AreApart, AreOthers, apart_client, apart_member, differ, one_has_too}
-use Rattle.repo_top.proofs.Judgings.{client_declares, member_declares, mirror_declares, nobody_has}
+use Rattle.repo_top.proofs.Judgings.{client_declares, member_declares, mirror_declares}
 use Rattle.repo_top.proofs.HeadlineTaken.{IsMirrored, IsWatched, fetched_so, heard_so, listed_so, says_state, told_so}
 use Rattle.repo_top.proofs.HeadlineTaken.{watched_so}
 use Rattle.repo_top.proofs.HeadlineGroups.{IsSoundState, declares_group, event_line}
 use Rattle.repo_top.proofs.HeadlineGroups.{opened, sound_beginning, sound_from_start, sound_line}
 use Rattle.repo_top.proofs.LinesTaken.{LineTaken, acted_said, nothing, stating, taken_line}
 use Rattle.repo_top.proofs.HeadlineLimits.{AllWithin, BringsWithin, IsLimited, limited_after}
+use Rattle.svs_vector.specs.Rosters.{has_same_octets}
 
 -- ---- what lines bring
 
@@ -152,7 +153,7 @@ record IsNew (g : GroupKeys) (node : List Component) : Type 0 where
   client : AreOthers node g.clients.names
 
 new_name : (d : Declared) (g : GroupKeys) (label : List ℕ) (node : List Component)
-    → map node_of d.members ≡ g.members.names → map node_of d.clients ≡ g.clients.names
+    → map party_node d.members ≡ g.members.names → map party_node d.clients ≡ g.clients.names
     → is_there d (party label node) ≡ false → IsNew g node
 new_name d g label node members clients apart =
     let parties =
@@ -160,16 +161,18 @@ new_name d g label node members clients apart =
     let both =
     or_parts (is_party_among (party label node) d.members) (is_party_among (party label node) d.clients) parties.0 in
     record {
-      member = subst (AreOthers node) members (nobody_has label node d.members both.0);
-      client = subst (AreOthers node) clients (nobody_has label node d.clients both.1);
+      member = subst (AreOthers node) members
+          (nobody_has (has_same_octets node) label node d.members (same_name.symm node) both.0);
+      client = subst (AreOthers node) clients
+          (nobody_has (has_same_octets node) label node d.clients (same_name.symm node) both.1);
     }
 
 -- The names are those that lines declare, behind the group's line there is a group, and what is published is within
 -- its limits.
 pub record IsKept (given : Given) (s : State) : Type 0 where
   pub ungrouped : s.declared.group ≡ false → s.declared.clients ≡ []
-  pub members : map node_of s.declared.members ≡ s.keys.members.names
-  pub clients : map node_of s.declared.clients ≡ s.keys.clients.names
+  pub members : map party_node s.declared.members ≡ s.keys.members.names
+  pub clients : map party_node s.declared.clients ≡ s.keys.clients.names
   pub group : s.declared.group ≡ true → AreGroupKeys s.keys
   pub limited : s.declared.group ≡ true → IsLimited s.keys (found_world given s)
 
@@ -226,8 +229,8 @@ module _ (given : Given) (s : State) (sound : IsSoundState given s) (kept : IsKe
       } in
       let result : IsKept given next = record {
         ungrouped = λ h. absurd (true≢false h);
-        members = ap (map node_of) (sound.ungrouped declares.first);
-        clients = ap (map node_of) (kept.ungrouped declares.first);
+        members = ap (map party_node) (sound.ungrouped declares.first);
+        clients = ap (map party_node) (kept.ungrouped declares.first);
         group = λ h. grouped;
         limited = λ h. limited_before given next (sound.begun (sound.uneventful declares.first))
             (group_of (group_named name) grouped);
@@ -261,7 +264,7 @@ module _ (given : Given) (s : State) (sound : IsSoundState given s) (kept : IsKe
       } in
       let result : IsKept given next = record {
         ungrouped = λ h. absurd (true≢false (sym m.0.group ∙ h));
-        members = map-append node_of s.declared.members (party label node ∷ [])
+        members = map-append party_node s.declared.members (party label node ∷ [])
             ∙ ap (λ (xs : List (List Component)). xs ++ node ∷ []) kept.members;
         clients = kept.clients;
         group = λ h. grouped;
@@ -281,8 +284,8 @@ module _ (given : Given) (s : State) (sound : IsSoundState given s) (kept : IsKe
       let fits = client_fits octets label node key read in
       let group : AreGroupKeys s.keys = kept.group m.0.group in
       let free : IsNew s.keys node = new_name s.declared s.keys label node kept.members kept.clients m.0.apart in
-      let count : length (map node_of s.declared.clients) ≡ length s.declared.clients =
-      length-map s.declared.clients node_of in
+      let count : length (map party_node s.declared.clients) ≡ length s.declared.clients =
+      length-map s.declared.clients party_node in
       let few : length s.keys.clients.names < 16 =
       subst (λ (xs : List (List Component)). length xs < 16) kept.clients (omega (arith, m.0.few, count)) in
       let next : State = record {
@@ -301,7 +304,7 @@ module _ (given : Given) (s : State) (sound : IsSoundState given s) (kept : IsKe
       let result : IsKept given next = record {
         ungrouped = λ h. absurd (true≢false (sym m.0.group ∙ h));
         members = kept.members;
-        clients = map-append node_of s.declared.clients (party label node ∷ [])
+        clients = map-append party_node s.declared.clients (party label node ∷ [])
             ∙ ap (λ (xs : List (List Component)). xs ++ node ∷ []) kept.clients;
         group = λ h. grouped;
         limited = λ h. limited_before given next (sound.begun m.0.early)
@@ -366,8 +369,8 @@ module _ (given : Given) (s : State) (sound : IsSoundState given s) (kept : IsKe
       } in
       let result : IsKept given next = record {
         ungrouped = λ h. absurd (true≢false (sym grouped ∙ h));
-        members = ap (map node_of) members ∙ kept.members;
-        clients = ap (map node_of) clients ∙ kept.clients;
+        members = ap (map party_node) members ∙ kept.members;
+        clients = ap (map party_node) clients ∙ kept.clients;
         group = λ h. kept.group declares.grouped;
         limited = λ h. limited_after s.keys out w event brings ready (kept.limited declares.grouped);
       } in
@@ -383,8 +386,8 @@ module _ (given : Given) (s : State) (sound : IsSoundState given s) (kept : IsKe
       let result : IsKept given (with_watchers (found_world given s) s d watched.m
       (after_watch_call watched.call (watchers_at s watched.m))) = record {
         ungrouped = λ h. absurd (true≢false (sym grouped ∙ h));
-        members = ap (map node_of) members ∙ kept.members;
-        clients = ap (map node_of) clients ∙ kept.clients;
+        members = ap (map party_node) members ∙ kept.members;
+        clients = ap (map party_node) clients ∙ kept.clients;
         group = λ h. kept.group declares.grouped;
         limited = λ h. kept.limited declares.grouped;
       } in
@@ -399,8 +402,8 @@ module _ (given : Given) (s : State) (sound : IsSoundState given s) (kept : IsKe
       let grouped : d.group ≡ true = ap (λ (x : Declared). x.group) declares.is ∙ declares.grouped in
       let result : IsKept given (with_mirrors (found_world given s) s d mirrored.mirrors) = record {
         ungrouped = λ h. absurd (true≢false (sym grouped ∙ h));
-        members = ap (map node_of) members ∙ kept.members;
-        clients = ap (map node_of) clients ∙ kept.clients;
+        members = ap (map party_node) members ∙ kept.members;
+        clients = ap (map party_node) clients ∙ kept.clients;
         group = λ h. kept.group declares.grouped;
         limited = λ h. kept.limited declares.grouped;
       } in

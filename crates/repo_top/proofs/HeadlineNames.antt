@@ -1,5 +1,5 @@
 -- The report of a line that is taken tells of members alone that lines declared.
-use Rattle.std.proofs.Common.{◌≡◌, ◌∙◌, ℕ, zero, suc, ◌+◌, ◌<◌, Bool, true, false, nat_le, List, [], ◌∷◌, length, map}
+use Rattle.std.proofs.Common.{◌≡◌, ◌∙◌, ℕ, ◌+◌, ◌<◌, Bool, true, false, nat_le, List, [], ◌∷◌, length, map}
 use Rattle.std.proofs.Common.{filter, Option, Some, None, Result, Ok, Err, refl, sym, ap, subst, arith, if◌then◌else◌}
 use Rattle.std.specs.Prelude.{is_some}
 use Rattle.std.specs.List.{All}
@@ -31,7 +31,7 @@ use Rattle.script_lang.specs.Checking.{are_mirrors, is_mirror, labels_in, party_
 use Rattle.script_lang.proofs.Conditions.{and_left}
 use Rattle.script_report.specs.Texts.{watch_text}
 use Rattle.script_report.specs.declared.refusal.Refusal.TheVariants as refusal
-use Rattle.script_report.specs.Labels.{MembersHaveLabels, label_at}
+use Rattle.script_report.specs.Labels.{label_at}
 use Rattle.repo_top.specs.Mirrors.{Mirroring, is_listed_by, mirror_of, mirrored_entries}
 use Rattle.repo_top.specs.SaidEvents.{mirror_number, party_number, pattern_for, publisher_number, said_event}
 use Rattle.repo_top.specs.ToldMembers.{TellsOfMembers, ReportsTellOfMembers, mirror_fetches, mirror_hears, mirror_lists}
@@ -48,11 +48,6 @@ use Rattle.repo_top.proofs.HeadlineTaken.{heard_if_so, says_report, says_state}
 use Rattle.repo_top.proofs.HeadlineGroups.{IsSoundState, event_line, sound_beginning}
 use Rattle.repo_top.proofs.HeadlineGroups.{sound_lines}
 use Rattle.repo_top.proofs.LinesTaken.{acted_said, not_checked}
-
-pub members_have_labels : MembersHaveLabels
-members_have_labels [] m there = absurd (omega arith)
-members_have_labels (label ∷ labels) zero there = refl
-members_have_labels (label ∷ labels) (suc m) there = members_have_labels labels m (omega arith)
 
 abbrev Tells : State → List ℕ → Type 0
 Tells new report = TellsOfMembers (map party_label new.declared.members) new.declared.mirrors report

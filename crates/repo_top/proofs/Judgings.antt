@@ -5,11 +5,10 @@ use Rattle.std.proofs.Common.{Some, None, Ok, Err, ◌⊎◌, inl, inr, nat_le, 
 use Rattle.std.proofs.Common.{if◌then◌else◌}
 use Rattle.std.specs.List.{list_any}
 use Rattle.std.specs.Option.{option_map}
-use Rattle.std.specs.Str.{bytes_eq}
 use Rattle.std.specs.Prelude.{is_some}
 use Rattle.std.proofs.lemmas.Bool.{or_parts}
 use Rattle.std.proofs.lemmas.Bool.Decides.{nat_tests}
-use Rattle.ndn_name.specs.Names.{Component, encoding}
+use Rattle.ndn_name.specs.Names.{Component}
 use Rattle.script_lang.specs.declared.line.Line.{Line}
 use Rattle.script_lang.specs.declared.line.Line.TheVariants as line
 use Rattle.script_lang.specs.declared.verb.Verb.{Verb}
@@ -23,9 +22,10 @@ use Rattle.script_lang.specs.Forms.{Stated, said, stated}
 use Rattle.script_lang.specs.Lines.{line_of}
 use Rattle.script_lang.specs.Reading.{FaultTells}
 use Rattle.script_lang.specs.Checking.{Declared, LineTotals, Party, after_line, after_event, are_known, are_known_by}
-use Rattle.script_lang.specs.Checking.{are_clients, are_those, are_within_limits, has_label, labels_in}
+use Rattle.script_lang.specs.Checking.{are_clients, are_those, are_within_limits, has_label, labels_in, party_node}
 use Rattle.script_lang.specs.Checking.{with_totals, adds, declared_then, is_party_among, is_there, party_label}
 use Rattle.script_lang.specs.Checking.{are_members, is_label_there, may_declare, party}
+use Rattle.script_lang.proofs.Parties.{nobody_has}
 use Rattle.svs_vector.specs.Rosters.{has_same_octets, member_of}
 use Rattle.group_model.specs.World.{Outside, World}
 use Rattle.group_model.specs.Steps.{after_event as after_group_event}
@@ -41,7 +41,7 @@ use Rattle.repo_top.specs.Judging.{judged_line, line_taken, mirrors_begin, mirro
 use Rattle.repo_top.specs.Judging.{with_client_too, with_member_too}
 use Rattle.repo_top.specs.declared.stop.Stop.{Stop}
 use Rattle.repo_top.specs.declared.stop.Stop.TheVariants as stop
-use Rattle.repo_top.specs.Progressing.{IsEventLine, IsStop, IsStopOf, node_of}
+use Rattle.repo_top.specs.Progressing.{IsEventLine, IsStop, IsStopOf}
 use Rattle.repo_top.specs.Stopping.{check_stop, line_stop}
 
 -- ---- octets
@@ -215,18 +215,8 @@ mirror_declares d e label publisher prefix h =
       go true false true false false g v k f h =
           (record { group = g; early = v; known = k; few = grind (arith, nat_tests, f) }, cc)
 
--- A name that no party has is that of nobody in the group.
-pub nobody_has : (label : List ℕ) (node : List Component) (parties : List Party)
-    → is_party_among (party label node) parties ≡ false
-    → list_any (has_same_octets node) (map node_of parties) ≡ false
-nobody_has label node [] h = refl
-nobody_has label node (q ∷ parties) h =
-    let both = or_parts (bytes_eq q.label label || bytes_eq (encoding q.node) (encoding node)) _ h in
-    let apart = or_parts (bytes_eq q.label label) (bytes_eq (encoding q.node) (encoding node)) both.0 in
-    rw (same_name.symm node q.node, apart.1) (nobody_has label node parties both.1)
-
 pub is_free : (d : Declared) (keys : GroupKeys) (label : List ℕ) (node : List Component)
-    → map node_of d.members ≡ keys.members.names → map node_of d.clients ≡ keys.clients.names
+    → map party_node d.members ≡ keys.members.names → map party_node d.clients ≡ keys.clients.names
     → is_there d (party label node) ≡ false → is_name_taken keys node ≡ false
 is_free d keys label node members clients h =
     let parties =
@@ -234,9 +224,11 @@ is_free d keys label node members clients h =
     let both =
     or_parts (is_party_among (party label node) d.members) (is_party_among (party label node) d.clients) parties.0 in
     let no_member : member_of node keys.members.names ≡ None = none_found (has_same_octets node) keys.members.names
-    (ap (list_any (has_same_octets node)) (sym members) ∙ nobody_has label node d.members both.0) in
+    (ap (list_any (has_same_octets node)) (sym members)
+    ∙ nobody_has (has_same_octets node) label node d.members (same_name.symm node) both.0) in
     let no_client : member_of node keys.clients.names ≡ None = none_found (has_same_octets node) keys.clients.names
-    (ap (list_any (has_same_octets node)) (sym clients) ∙ nobody_has label node d.clients both.1) in
+    (ap (list_any (has_same_octets node)) (sym clients)
+    ∙ nobody_has (has_same_octets node) label node d.clients (same_name.symm node) both.1) in
     ap (λ o. is_some o || is_some (member_of node keys.clients.names)) no_member ∙ ap (λ o. is_some o) no_client
 
 -- ---- events

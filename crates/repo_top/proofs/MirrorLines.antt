@@ -5,7 +5,7 @@ use Rattle.ndn_name.specs.Names.{Component}
 use Rattle.script_lang.specs.declared.verb.Verb.TheVariants as verb
 use Rattle.script_lang.specs.Kinds.{Value, Text, Number, Named}
 use Rattle.script_lang.specs.Forms.{Stated, said}
-use Rattle.script_lang.specs.Checking.{Declared, Party, are_members, is_mirror, labels_in, party_label}
+use Rattle.script_lang.specs.Checking.{Declared, Party, are_members, is_mirror, labels_in, party_label, party_node}
 use Rattle.script_lang.proofs.Conditions.{and_left}
 use Rattle.group_model.specs.World.{World, opening_world}
 use Rattle.group_model.specs.Refusals as group
@@ -24,7 +24,7 @@ use Rattle.repo_top.specs.Judging.{Given, State, begun_world, fetched_by, found_
 use Rattle.repo_top.specs.Judging.{line_taken, listed_by, mirror_fetched, mirror_heard, mirror_listed, mirrors_behind}
 use Rattle.repo_top.specs.Judging.{says}
 use Rattle.repo_top.specs.Progressing.{IsStop, IsStopOf, LineIsChecked, MirrorIsThere, MirrorsAreDeclared}
-use Rattle.repo_top.specs.Progressing.{NamesAreDeclared, Stands, has_group, has_world, mirrors_in, node_of}
+use Rattle.repo_top.specs.Progressing.{NamesAreDeclared, Stands, has_group, has_world, mirrors_in}
 use Rattle.repo_top.specs.Progressing.{standing_keys, state_of, world_in}
 use Rattle.repo_top.proofs.Fitting.{mirror_within, mirror_fits}
 use Rattle.repo_top.proofs.HeadlineTaken.{many_behind}
@@ -115,8 +115,8 @@ of_mirror labels standing ws e s label c event known =
         there = omega (arith, there, many.many);
         named = record {
           labels = was.labels ∙ ap (map party_label) (sym event.members);
-          members = ap (map node_of) event.members ∙ was.members;
-          clients = ap (map node_of) event.clients ∙ was.clients;
+          members = ap (map party_node) event.members ∙ was.members;
+          clients = ap (map party_node) event.clients ∙ was.clients;
         };
         watched = c.stands.watched ∙ ap (λ (ps : List Party). length ps) (sym event.members);
         mirrored = many;

@@ -18,7 +18,7 @@ use Rattle.group_model.specs.Steps.{settled_vector}
 use Rattle.group_model.specs.Sound.{IsSoundGroup}
 use Rattle.group_model.proofs.Lists.{at_in}
 use Rattle.group_model.proofs.Parents.{parent_of_parent}
-use Rattle.group_model.proofs.Settles.{someone, someone_lists}
+use Rattle.group_model.proofs.Settles.{holder, someone, someone_lists}
 use Rattle.sorted_lists.proofs.Sets.{In}
 use Rattle.mirror_model.specs.Asked.{is_kept}
 use Rattle.mirror_model.specs.Mirrors.{ComeInTurn, IsPartAskedFor, IsWantedByMirror, Mirror, mirror_gains}
@@ -89,13 +89,6 @@ record IsHeld (w : World) (t : Part) : Type 0 where
   from_one : 1 ≤ t.seq
   counted : t.part ≤ count (logs w) (pair_of t)
   with_record : someone_holds w.members (record_of t) ≡ true
-
-holder : (ms : List Member) (t : Part) → someone_holds ms t ≡ true → (m : Member) × In m ms × (member_holds m t ≡ true)
-holder [] t h = absurd (true≢false (sym h))
-holder (x ∷ xs) t h = elim (or_cases (member_holds x t) (someone_holds xs t) h) [
-  | inl a ↦ (x, inl refl, a)
-  | inr b ↦ let r : (m : Member) × In m xs × (member_holds m t ≡ true) = holder xs t b in (r.0, inr r.1, r.2)
-]
 
 held_soundly : (w : World) → IsSoundGroup w → (t : Part) → someone_holds w.members t ≡ true → IsHeld w t
 held_soundly w s t h =

@@ -2,15 +2,15 @@
 use Rattle.std.proofs.Common.{◌≡◌, ◌∙◌, inl, inr, ℕ, zero, suc, ◌+◌, ◌<◌, Bool, true, false, not, cond, ◌&&◌, ◌||◌}
 use Rattle.std.proofs.Common.{nat_le, List, [], ◌∷◌, length, map, set, take, refl, sym, ap, arith, ◌⊎◌}
 use Rattle.std.proofs.Common.{◌≤◌, ◌++◌, get_or-set_same, append_assoc, append-nil, length-append}
-use Rattle.std.specs.Prelude.{◌↔◌, ◌==◌, Option, Some, unwrap_or, is_some, filter, slice_index, sum_by}
+use Rattle.std.specs.Prelude.{◌↔◌, ◌==◌, is_some, filter, slice_index, sum_by}
 use Rattle.std.specs.Ordering.{eq_by_cmp}
 use Rattle.std.proofs.lemmas.Bool.{and_parts, and_from, or_left, or_right, eqb-true, eqb-false, eq-eqb, le-leb}
 use Rattle.std.proofs.lemmas.Bool.{leb-true, not-true}
 use Rattle.std.proofs.lemmas.List.{length-map, map-set}
-use Rattle.sorted_lists.specs.SortedList.{contains, value_of, with_value, Rises}
+use Rattle.sorted_lists.specs.SortedList.{contains, Rises}
 use Rattle.sorted_lists.proofs.RunOrder.{both_ways}
 use Rattle.sorted_lists.proofs.SameSets.{not_behind, same_sets}
-use Rattle.sorted_lists.proofs.Sets.{contains-filter, eq_same, rises_filter, value_of-with_value}
+use Rattle.sorted_lists.proofs.Sets.{contains-filter, eq_same, rises_filter}
 use Rattle.repo_plan.specs.declared.part.Part.{Part}
 use Rattle.repo_plan.specs.Parts.{part_cmp, pair_of, parent}
 use Rattle.repo_plan.proofs.Known.{wanted_rises}
@@ -22,7 +22,7 @@ use Rattle.group_model.specs.Member.{tries_of, with_each_tried, with_tries}
 use Rattle.group_model.specs.World.{World, logs}
 use Rattle.group_model.specs.Sound.{IsPublishedPart}
 use Rattle.group_model.proofs.PublicLaws.{all_parts_rise, parts_are_those}
-use Rattle.group_model.proofs.Tries.{rises_take}
+use Rattle.group_model.proofs.Tries.{rises_take, tried-at}
 use Rattle.mirror_model.specs.Asked.{is_kept}
 use Rattle.mirror_model.specs.Mirrors.{IsPartAskedFor, IsWantedByMirror, mirror_holds, mirror_plan}
 use Rattle.repo_mirror.specs.MirrorState.{MirrorState}
@@ -145,27 +145,6 @@ module _ (g : GroupKeys) (w : World) (m : MirrorState) (truly : IsTrueMirror g (
 
 -- ---- how often parts were tried
 
-tried_one : (t : Part) (n : ℕ) (es : List (Part × ℕ)) (u : Part)
-    → tries_of (with_tries t n es) u ≡ cond (eq_by_cmp part_cmp u t) (tries_of es t + n) (tries_of es u)
-tried_one t n es u = go (n == 0) refl where
-  some : (b : Bool)
-      → unwrap_or (cond b (Some (tries_of es t + n)) (value_of part_cmp es u)) 0
-      ≡ cond b (tries_of es t + n) (tries_of es u)
-  some true = refl
-  some false = refl
-
-  none : (b : Bool) → eq_by_cmp part_cmp u t ≡ b → n ≡ 0 → tries_of es u ≡ cond b (tries_of es t + n) (tries_of es u)
-  none true e z = ap (tries_of es) (eq_same exact_parts u t e) ∙ omega (arith, z)
-  none false e z = refl
-
-  go : (b : Bool) → (n == 0) ≡ b
-      → tries_of (cond b es (with_value part_cmp t (tries_of es t + n) es)) u
-      ≡ cond (eq_by_cmp part_cmp u t) (tries_of es t + n) (tries_of es u)
-  go true z = none (eq_by_cmp part_cmp u t) refl (eqb-true n 0 z)
-  go false z =
-      ap (λ (o : Option ℕ). unwrap_or o 0) (value_of-with_value exact_parts t (tries_of es t + n) es u)
-      ∙ some (eq_by_cmp part_cmp u t)
-
 tried_at : (more : Part → ℕ) (ts : List Part) (es : List (Part × ℕ)) (u : Part) → Rises part_cmp ts
     → tries_of (with_each_tried more ts es) u ≡ tries_of es u + cond (contains part_cmp ts u) (more u) 0
 tried_at more [] es u r = omega arith
@@ -181,14 +160,14 @@ tried_at more (t ∷ ts) es u r =
           let none : contains part_cmp ts u ≡ false =
           ap (contains part_cmp ts) this ∙ not_behind exact_parts t ts r.0 in
           let here : tries_of (with_tries t (more t) es) u ≡ tries_of es t + more t =
-          tried_one t (more t) es u ∙ ap (λ (b : Bool). cond b (tries_of es t + more t) (tries_of es u)) e in
+          tried-at t (more t) es u ∙ ap (λ (b : Bool). cond b (tries_of es t + more t) (tries_of es u)) e in
           rest ∙ ap (λ (b : Bool). tries_of (with_tries t (more t) es) u + cond b (more u) 0) none
           ∙ (let same : tries_of (with_tries t (more t) es) u + 0 ≡ tries_of (with_tries t (more t) es) u =
           omega arith in same)
           ∙ here ∙ ap (λ (x : Part). tries_of es x + more x) (sym this)
       go false e rest =
           rest ∙ ap (λ (n : ℕ). n + cond (contains part_cmp ts u) (more u) 0)
-          (tried_one t (more t) es u ∙ ap (λ (b : Bool). cond b (tries_of es t + more t) (tries_of es u)) e)
+          (tried-at t (more t) es u ∙ ap (λ (b : Bool). cond b (tries_of es t + more t) (tries_of es u)) e)
 
 -- ---- a fetch
 

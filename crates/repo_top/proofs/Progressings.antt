@@ -13,7 +13,7 @@ use Rattle.script_lang.specs.declared.verb.Verb.{Verb}
 use Rattle.script_lang.specs.declared.verb.Verb.TheVariants as verb
 use Rattle.script_lang.specs.Kinds.{Value, Text, Number, Named, Octets}
 use Rattle.script_lang.specs.Forms.{Stated, said, stated}
-use Rattle.script_lang.specs.Checking.{Declared, Party, after_line, party_label, party}
+use Rattle.script_lang.specs.Checking.{Declared, Party, after_line, party_label, party, party_node}
 use Rattle.group_model.specs.World.{World}
 use Rattle.repo_member.specs.Groups.{GroupKeys, IsKey, IsPlainNodeName, is_name_taken}
 use Rattle.group_model.specs.Steps.{after_event}
@@ -27,7 +27,7 @@ use Rattle.repo_top.specs.Judging.{outside_of, judged_line, line_taken, no_group
 use Rattle.repo_top.specs.Judging.{declaring_mirror, fetched_by, heard_by, heard_if, listed_by, mirrors_begin}
 use Rattle.repo_top.specs.Judging.{mirrors_behind, told_by, watched_by, with_member_too}
 use Rattle.repo_top.specs.Progressing.{IsEventLine, NamesAreDeclared, LineIsChecked, IsStop, IsStopOf, StatesFit}
-use Rattle.repo_top.specs.Progressing.{MirrorsAreDeclared, has_group, has_world, mirrors_in, node_of, standing_keys}
+use Rattle.repo_top.specs.Progressing.{MirrorsAreDeclared, has_group, has_world, mirrors_in, standing_keys}
 use Rattle.repo_top.specs.Progressing.{state_of, world_in}
 use Rattle.repo_top.specs.declared.stop.Stop.{Stop}
 use Rattle.repo_top.specs.ToldTexts.{told_text}
@@ -241,7 +241,7 @@ member_at given labels standing ws e label node key c =
     (record c.before { members = c.before.members ++ party label node ∷ [] }) = record {
       labels = ap (λ (xs : List (List ℕ)). xs ++ label ∷ []) was.labels
           ∙ sym (map-append party_label d.members (party label node ∷ []));
-      members = map-append node_of d.members (party label node ∷ [])
+      members = map-append party_node d.members (party label node ∷ [])
           ∙ ap (λ (xs : List (List Component)). xs ++ node ∷ []) was.members;
       clients = was.clients;
     } in (
@@ -268,7 +268,7 @@ member_at given labels standing ws e label node key c =
               mirrors = mirrors_begin (with_member_too node key (standing_keys standing)) (mirrors_in standing);
             })) (no_world standing unchanged);
       },
-      subst (λ n. n < 16) (sym (length-map d.members node_of)
+      subst (λ n. n < 16) (sym (length-map d.members party_node)
           ∙ ap (λ (xs : List (List Component)). length xs) was.members) may.few,
     )
 
@@ -305,7 +305,7 @@ client_at given labels standing ws e label node key c =
     (record c.before { clients = c.before.clients ++ party label node ∷ [] }) = record {
       labels = was.labels;
       members = was.members;
-      clients = map-append node_of d.clients (party label node ∷ [])
+      clients = map-append party_node d.clients (party label node ∷ [])
           ∙ ap (λ (xs : List (List Component)). xs ++ node ∷ []) was.clients;
     } in (
       record {
@@ -328,7 +328,7 @@ client_at given labels standing ws e label node key c =
               mirrors = mirrors_in standing;
             })) (no_world standing unchanged);
       },
-      subst (λ n. n < 16) (sym (length-map d.clients node_of)
+      subst (λ n. n < 16) (sym (length-map d.clients party_node)
           ∙ ap (λ (xs : List (List Component)). length xs) was.clients) may.few,
     )
 
@@ -371,8 +371,8 @@ event_acts given labels standing ws e l is c =
       };
       named = record {
         labels = was.labels ∙ ap (map party_label) (sym event.members);
-        members = ap (map node_of) event.members ∙ was.members;
-        clients = ap (map node_of) event.clients ∙ was.clients;
+        members = ap (map party_node) event.members ∙ was.members;
+        clients = ap (map party_node) event.clients ∙ was.clients;
       };
       group = event.group;
       events = event.events;
@@ -388,7 +388,7 @@ pub as_many : {X : Type 0} (f : X → List ℕ) (xs : List X) (keys : GroupKeys)
     → length xs ≡ length keys.members.names
 as_many f xs keys d n =
     sym (length-map xs f) ∙ ap (λ (ls : List (List ℕ)). length ls) n.labels ∙ length-map d.members party_label
-    ∙ sym (length-map d.members node_of) ∙ ap (λ (names : List (List Component)). length names) n.members
+    ∙ sym (length-map d.members party_node) ∙ ap (λ (names : List (List Component)). length names) n.members
 
 module _ (given : Given) (standing found : Standing) (ws : List (List Watching)) (d : Declared) (e : EventValue)
     (keys : GroupKeys) (w : World)

@@ -1,11 +1,9 @@
 -- What a reader holds: parts of its room, and the line at the front.
-use Rattle.std.proofs.Common.{◌≡◌, ℕ, zero, suc, ◌+◌, ◌-◌, ◌<◌, ◌≤◌, Bool, true, false, eqb, cond, ltb, List, [], ◌∷◌}
+use Rattle.std.proofs.Common.{◌≡◌, ℕ, zero, suc, ◌+◌, ◌-◌, ◌<◌, ◌≤◌, false, eqb, ltb, List, [], ◌∷◌}
 use Rattle.std.proofs.Common.{◌++◌, length, take, drop, slice_range, get_or, Option, Some, None, Result, Ok, Err, IfOk}
 use Rattle.std.proofs.Common.{refl, sym, ap, ◌∙◌, append_assoc, arith, inl, inr, position}
-use Rattle.std.specs.List.{position_or_len}
 use Rattle.std.specs.Io.KnownBytes.{Consumes, Keeps, prepend_known}
 use Rattle.std.proofs.lemmas.Bool.{or_from, eqb-true, ltb-true, ltb-false, cases_Bool}
-use Rattle.std.proofs.lemmas.Bool.Decides.{eqb_tells}
 use Rattle.std.specs.Bool.{then_some}
 use Rattle.std.specs.Option.{MatchOption}
 use Rattle.std.proofs.lemmas.List.{take_more, take-append-drop, drop-take, length-drop, length-take}
@@ -13,6 +11,7 @@ use Rattle.std.proofs.lemmas.List.Folds.{list_any-append}
 use Rattle.std.proofs.lemmas.List.Quantifiers.{position-Some}
 use Rattle.std.proofs.Math.Seq.{take-add, take-append-add, drop-drop}
 use Rattle.repo_io.specs.Lines.{IsWhole, has_feed}
+use Rattle.repo_io.proofs.LineLaws.{no_feed_found}
 use Rattle.repo_top.specs.Reading.{HasLine, LineIsBegun}
 
 -- ---- octets that are read
@@ -34,21 +33,6 @@ kept_behind a b h room front new (Ok n) len is p =
     rw (is, taken) (keeps_read a b front (take n new) p)
 
 -- ---- the line at the front
-
-pub none_found : (octets : List ℕ) → length octets ≤ position_or_len (λ octet. eqb octet 10) octets
-    → has_feed octets ≡ false
-none_found [] le = refl
-none_found (b ∷ bs) le = elim (eqb_tells b 10) [
-  | inl same ↦ let none = rw same.0 at le in absurd (omega (arith, none))
-  | inr other ↦ let more = rw other.0 at le in or_from (eqb b 10) (has_feed bs) other.0
-      (none_found bs (omega (arith, more)))
-]
-
-pub nothing_found : (octets : List ℕ) → position (λ octet. eqb octet 10) octets ≡ None → has_feed octets ≡ false
-nothing_found octets e = none_found octets (ltb-false _ _ (by_test _ _ e)) where
-  by_test : (test : Bool) (at : ℕ) → cond test (Some at) None ≡ None → test ≡ false
-  by_test true at e = absurd cc
-  by_test false at e = refl
 
 none_before : (xs : List ℕ) (i : ℕ) → ((k : ℕ) → k < i → eqb (get_or xs k 0) 10 ≡ false) → has_feed (take i xs) ≡ false
 none_before xs zero none = refl
@@ -93,7 +77,7 @@ module _ (held : List ℕ) (searched : ℕ) (within : searched ≤ length held) 
     all_free e = ap has_feed (sym (take-append-drop searched held))
         ∙ list_any-append (λ octet. eqb octet 10) (take searched held) (drop searched held)
         ∙ or_from (has_feed (take searched held)) (has_feed (drop searched held)) free
-        (nothing_found (drop searched held) e)
+        (no_feed_found (drop searched held) e)
 
 too_long : (held : List ℕ) → has_feed held ≡ false → 32768 < length held → HasLine (length held) held
 too_long held free long = record {

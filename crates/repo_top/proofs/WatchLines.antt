@@ -4,18 +4,15 @@ use Rattle.std.proofs.Common.{length, map, get_or, Option, Some, None, String, G
 use Rattle.std.proofs.Common.{arith, if◌then◌else◌, suc, zero}
 use Rattle.std.specs.Prelude.{is_some}
 use Rattle.std.specs.List.{All}
-use Rattle.std.specs.Ordering.{is_eq}
 use Rattle.std.proofs.lemmas.Bool.{not-true}
 use Rattle.std.proofs.lemmas.List.{length-map}
 use Rattle.std.proofs.lemmas.List.Elements.{All-cons, All-nil}
 use Rattle.ndn_name.specs.Names.{Component}
 use Rattle.repo_plan.specs.Parts.{Pair}
-use Rattle.repo_plan.proofs.Orders.{exact_pairs}
-use Rattle.sorted_lists.proofs.Orders.{less_back}
-use Rattle.sorted_lists.proofs.Sets.{In, eq_itself}
+use Rattle.sorted_lists.proofs.Sets.{In}
 use Rattle.repo_catalog.specs.declared.entry.Entry.{Entry}
-use Rattle.repo_catalog.specs.Entries.{IsCatalogue, entry_of, is_of, lists, publication_of}
-use Rattle.repo_catalog.proofs.NamedLemmas.{find_first}
+use Rattle.repo_catalog.specs.Entries.{IsCatalogue, entry_of, lists, publication_of}
+use Rattle.repo_catalog.proofs.NamedLemmas.{listed_in}
 use Rattle.repo_watch.specs.declared.pattern.Pattern.{Pattern}
 use Rattle.repo_watch.specs.Watching.{Watching, after_add, after_take, is_news, news_of, watch_of}
 use Rattle.group_model.specs.World.{World, catalogue_at, logs, member}
@@ -29,7 +26,7 @@ use Rattle.bench_world.proofs.Names.{names_all}
 use Rattle.script_lang.specs.declared.verb.Verb.TheVariants as verb
 use Rattle.script_lang.specs.Kinds.{Value, Text, Number, Named}
 use Rattle.script_lang.specs.Forms.{Stated, publisher_value, said}
-use Rattle.script_lang.specs.Checking.{Declared, Party, are_members, has_label, labels_in, party_label}
+use Rattle.script_lang.specs.Checking.{Declared, Party, are_members, has_label, labels_in, party_label, party_node}
 use Rattle.script_lang.proofs.Conditions.{and_left, and_right}
 use Rattle.script_report.specs.Texts.{watch_text}
 use Rattle.repo_top.specs.declared.progress.Standing.{Standing}
@@ -42,7 +39,7 @@ use Rattle.repo_top.specs.ToldTexts.{news_in, news_text}
 use Rattle.repo_top.specs.Judging.{Given, State, found_world, line_taken, refused, says, told_at, told_by}
 use Rattle.repo_top.specs.Judging.{watched, watched_by, watchers_at, watchers_of, with_watchers}
 use Rattle.repo_top.specs.Progressing.{IsStop, IsStopWhere, LineIsChecked, MirrorsAreDeclared, NamesAreDeclared, Stands}
-use Rattle.repo_top.specs.Progressing.{has_group, node_of, standing_keys}
+use Rattle.repo_top.specs.Progressing.{has_group, standing_keys}
 use Rattle.repo_top.proofs.Fitting.{number_within}
 use Rattle.repo_top.proofs.Judgings.{IsEvent, event_after}
 use Rattle.repo_top.proofs.Progressings.{same_mirrors}
@@ -70,8 +67,8 @@ module _ (labels : List (List ℕ)) (standing : Standing) (ws : List (List Watch
     there = number_within label e.members e.members refl known;
     named = record {
       labels = stands.named.labels ∙ ap (map party_label) (sym event.members);
-      members = ap (map node_of) event.members ∙ stands.named.members;
-      clients = ap (map node_of) event.clients ∙ stands.named.clients;
+      members = ap (map party_node) event.members ∙ stands.named.members;
+      clients = ap (map party_node) event.clients ∙ stands.named.clients;
     };
     group = event.group;
     events = event.events;
@@ -169,12 +166,6 @@ told_stops w s d m number (stop.Refused why) h =
 told_stops w s d m number stop.Foreign h = absurd h
 
 -- ---- the entries of the news
-
-listed_in : (entries : List Entry) (e : Entry) → IsCatalogue entries → In e entries
-    → entry_of (publication_of e) entries ≡ Some e
-listed_in entries e r among =
-    find_first (is_of (publication_of e)) entries e r among (eq_itself exact_pairs (publication_of e))
-    (λ f j l. ap is_eq (less_back exact_pairs.total (publication_of f) (publication_of e) l))
 
 found_again : (entries : List Entry) → IsCatalogue entries → (es : List Entry) → ((e : Entry) → In e es → In e entries)
     → map (λ pair. entry_of pair entries) (map publication_of es) ≡ map Some es

@@ -1,12 +1,11 @@
 -- What the lines so far came to, as the run keeps it.
 use Rattle.std.specs.Prelude.{ℕ, ◌≡◌, ◌<◌, ◌≤◌, zero, Bool, true, false, List, [], map, length, string_bytes, Option}
 use Rattle.std.specs.Prelude.{Some, None, Ok}
-use Rattle.ndn_name.specs.Names.{Component}
 use Rattle.script_lang.specs.declared.line.Line.{Line}
 use Rattle.script_lang.specs.declared.line.Line.TheVariants as line
 use Rattle.script_lang.specs.Forms.{Stated}
 use Rattle.script_lang.specs.Lines.{line_of}
-use Rattle.script_lang.specs.Checking.{Declared, Party, after_line, are_known, party_label}
+use Rattle.script_lang.specs.Checking.{Declared, after_line, are_known, party_label, party_node}
 use Rattle.group_model.specs.World.{World}
 use Rattle.group_model.specs.Refusals as group
 use Rattle.repo_member.specs.Groups.{GroupKeys}
@@ -67,9 +66,6 @@ has_world Opening = false
 has_world (Declaring group patterns) = false
 has_world (Acting world) = true
 
-abbrev pub node_of : Party → List Component
-node_of p = p.node
-
 -- How many events were carried out.
 abbrev pub steps : Progress → ℕ
 steps p = steps_in p.standing
@@ -77,8 +73,8 @@ steps p = steps_in p.standing
 -- The labels and the group's names are those that lines declare.
 pub record NamesAreDeclared (kept : List (List ℕ)) (keys : GroupKeys) (d : Declared) : Type 0 where
   pub labels : kept ≡ map party_label d.members
-  pub members : map node_of d.members ≡ keys.members.names
-  pub clients : map node_of d.clients ≡ keys.clients.names
+  pub members : map party_node d.members ≡ keys.members.names
+  pub clients : map party_node d.clients ≡ keys.clients.names
 
 -- There are as many mirrors as labels that lines declare for them, and no more than a group can have.
 pub record MirrorsAreDeclared (standing : Standing) (d : Declared) : Type 0 where

@@ -53,6 +53,9 @@ parties_of ds = map party_of ds
 abbrev pub party_label : Party → List ℕ
 party_label p = p.label
 
+abbrev pub party_node : Party → List Component
+party_node p = p.node
+
 -- The place of the first with this label.
 abbrev pub party_place : List ℕ → List Party → Option ℕ
 party_place label parties = position (λ (p : Party). bytes_eq p.label label) parties

@@ -1,2 +1,3 @@
 pub mod Fronts
 pub mod Together
+pub mod LabelLemmas

@@ -6,7 +6,8 @@ ghost use Rattle.script_report.specs.Refusals.{refusal_number, refusal_word};
 pub enum Refusal {
     /// It is not in the grammar.
     Syntax,
-    /// A label is not that of a member, or of a client where a client stands.
+    /// A label is not that of a member, of a client where a client stands, or of a mirror where
+    /// a mirror stands.
     UnknownLabel,
     /// A second group, or a label or node name that is there already.
     Duplicate,

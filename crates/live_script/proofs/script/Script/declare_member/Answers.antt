@@ -2,11 +2,11 @@ use Rattle.std.proofs.Common.{◌≡◌, ◌∙◌, ◌<◌, length, map, Option
 use Rattle.std.proofs.Common.{subst}
 use Rattle.std.specs.Prelude.{is_some, string_bytes}
 use Rattle.std.proofs.lemmas.List.{length-map}
-use Rattle.script_lang.specs.Checking.{after_line}
+use Rattle.script_lang.specs.Checking.{after_line, party_node}
 use Rattle.script_lang.specs.Forms.{Stated, stated}
 use Rattle.repo_member.specs.Groups.{GroupKeys}
 use Rattle.live_script.specs.Judging.{Reached, may_stand, with_member_too}
-use Rattle.live_script.specs.Scripts.{IsKept, group_keys, node_of, totals_view}
+use Rattle.live_script.specs.Scripts.{IsKept, group_keys, totals_view}
 use Rattle.live_script.proofs.Declaring.{is_free, member_declares, member_kept, member_named, member_taken}
 use Rattle.live_script.proofs.Declaring.{member_ungrouped}
 use Rattle.live_script.proofs.Taking.{memory_wanted, nothing_taken, out_of_memory, stopped_by}
@@ -50,7 +50,7 @@ add_member-requires-clause-few c =
     let words = c.self.inside.words in
     let declares = member_declares words c.check.new.self c.args.label.now c.args.node.now c.args.key.now
     (subst (λ (s : Stated). after_line words s ≡ Ok c.check.new.self) c.requires.is c.in_ok-check.ensures.ok) in
-    subst (λ n. n < 16) (sym (length-map words.members node_of)
+    subst (λ n. n < 16) (sym (length-map words.members party_node)
     ∙ ap length (c.self.invariant.nodes
     ∙ ap (λ (o : Option GroupKeys). (group_keys o).members.names) c.in-Some.is)) declares.0.few
 

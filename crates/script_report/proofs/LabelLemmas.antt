@@ -1,0 +1,8 @@
+-- A member's number stands for its label.
+use Rattle.std.proofs.Common.{zero, suc, ◌<◌, [], ◌∷◌, length, refl, arith}
+use Rattle.script_report.specs.Labels.{MembersHaveLabels}
+
+pub members_have_labels : MembersHaveLabels
+members_have_labels [] m there = absurd (omega arith)
+members_have_labels (label ∷ labels) zero there = refl
+members_have_labels (label ∷ labels) (suc m) there = members_have_labels labels m (omega arith)
