@@ -16,7 +16,7 @@ pub(crate) const ALICE: u32 = 0;
 pub(crate) const BOB: u32 = 1;
 
 // The name of a group, a node or an object.
-#[tactic(auto, using(crate::proofs::NodeNames::plain))]
+#[tactic(auto, using(crate::proofs::NodeNames::plain_name))]
 fn name(rt: &(impl Abort + AllocGlobal), text: &str) -> Name
     ensures { IsPlainNodeName result }
 {

@@ -24,7 +24,7 @@ const ALICE: u32 = 0;
 const BOB: u32 = 1;
 
 // The name of a group or a node.
-#[tactic(auto, using(crate::proofs::NodeNames::plain))]
+#[tactic(auto, using(crate::proofs::NodeNames::plain_name))]
 fn node_name(rt: &(impl Abort + AllocGlobal), text: &str) -> Name
     ensures { IsPlainNodeName result }
 {

@@ -26,7 +26,7 @@ const CAROL: u32 = 2;
 const DRAW: u32 = 100;
 
 // The name of a group or a node.
-#[tactic(auto, using(crate::proofs::NodeNames::plain))]
+#[tactic(auto, using(crate::proofs::NodeNames::plain_name))]
 fn node_name(rt: &(impl Abort + AllocGlobal), text: &str) -> Name
     ensures { IsPlainNodeName result }
 {
