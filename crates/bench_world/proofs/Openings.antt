@@ -12,6 +12,7 @@ use Rattle.group_model.specs.Member.{Member}
 use Rattle.group_model.specs.World.{Tally, logs_of, opening_world}
 use Rattle.group_model.specs.Limits.{IsWithinSteps}
 use Rattle.group_model.proofs.PublicLaws.{within_opening}
+use Rattle.repo_holdings.proofs.ContentLemmas.{numbers_last}
 use Rattle.repo_member.specs.Groups.{GroupKeys, IsGroup}
 use Rattle.repo_member.specs.Alone.{Alone}
 use Rattle.repo_member.specs.InGroup.{in_group, AreLogs}
@@ -22,12 +23,6 @@ use Rattle.bench_world.specs.Worlds.{begun_one, begun_all}
 
 -- ---- numbers
 
-numbers_push : (s n : ℕ) → numbers_from s (suc n) ≡ numbers_from s n ++ (s + n) ∷ []
-numbers_push s zero = let e : s ≡ s + 0 = omega arith in ap (λ (k : ℕ). k ∷ []) e
-numbers_push s (suc n) =
-    let e : s + 1 + n ≡ s + suc n = omega arith in
-    ap (λ (ks : List ℕ). s ∷ ks) (numbers_push (s + 1) n) ∙ ap (λ (k : ℕ). s ∷ (numbers_from (s + 1) n ++ k ∷ [])) e
-
 pub numbers_more : {A : Type 0} (f : ℕ → A) (n : ℕ) (made more : List A) (a : A) → made ≡ map f (numbers_from 0 n)
     → a ≡ f n → more ≡ made ++ a ∷ [] → more ≡ map f (numbers_from 0 (n + 1))
 numbers_more f n made more a is one e =
@@ -35,7 +30,7 @@ numbers_more f n made more a is one e =
     let next : suc n ≡ n + 1 = omega arith in
     e ∙ ap (λ xs. xs ++ a ∷ []) is ∙ ap (λ b. map f (numbers_from 0 n) ++ b ∷ []) (one ∙ ap f (sym last))
     ∙ sym (map-append f (numbers_from 0 n) ((0 + n) ∷ []))
-    ∙ ap (map f) (sym (numbers_push 0 n))
+    ∙ ap (map f) (sym (numbers_last 0 n))
     ∙ ap (λ (k : ℕ). map f (numbers_from 0 k)) next
 
 pub next_number : (n : ℕ) (made more : List ℕ) → made ≡ numbers_from 0 n → more ≡ made ++ n ∷ []
@@ -43,7 +38,7 @@ pub next_number : (n : ℕ) (made more : List ℕ) → made ≡ numbers_from 0 n
 next_number n made more is e =
     let last : 0 + n ≡ n = omega arith in
     let next : suc n ≡ n + 1 = omega arith in
-    e ∙ (λ i. is i ++ sym last i ∷ []) ∙ sym (numbers_push 0 n) ∙ ap (numbers_from 0) next
+    e ∙ (λ i. is i ++ sym last i ∷ []) ∙ sym (numbers_last 0 n) ∙ ap (numbers_from 0) next
 
 -- ---- logs
 

@@ -11,7 +11,7 @@ pub mod FreshLemmas
 pub mod HidingLemmas
 pub mod HoldingsLemmas
 mod ArrivedLemmas
-mod ContentLemmas
+pub mod ContentLemmas
 mod PairLists
 pub mod ParentLemmas
 mod PlanLemmas
