@@ -13,9 +13,9 @@ use Rattle.repo_io.specs.declared.status.Status.{Status}
 use Rattle.repo_io.specs.declared.status.Status.TheVariants.{Done}
 use Rattle.repo_top.specs.Forms.{asked_story}
 use Rattle.repo_top.specs.Inspection.{decoded_story, inspect_story, lines_story, without_spaces}
-use Rattle.repo_top.specs.Mirrors.{mirror_as}
-use Rattle.repo_top.specs.Judging.{Given, State}
-use Rattle.repo_top.specs.Story.{Story, refused}
+use Rattle.script_story.specs.Mirrors.{mirror_as}
+use Rattle.script_story.specs.Judging.{Given, State}
+use Rattle.script_story.specs.Story.{Story, refused}
 use Rattle.repo_top.specs.Carrying.{EndsIn, Known, LeavesWorld, Leaving, Ran}
 use Rattle.repo_top.proofs.KnownRuns.{ran_as}
 

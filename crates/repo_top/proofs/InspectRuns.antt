@@ -5,13 +5,13 @@ use Rattle.std.specs.Option.{option_map}
 use Rattle.std.proofs.lemmas.List.{append-nil}
 use Rattle.std.proofs.lemmas.Bool.Decides.{leb_tells}
 use Rattle.std.specs.Io.KnownBytes.{IsAtEnd, Keeps, prepend_known}
-use Rattle.repo_top.specs.declared.ending.Ending.{Ending}
-use Rattle.repo_top.specs.declared.ending.Ending.TheVariants as ending
+use Rattle.script_story.specs.declared.ending.Ending.{Ending}
+use Rattle.script_story.specs.declared.ending.Ending.TheVariants as ending
 use Rattle.repo_io.specs.declared.status.Status.{Status}
 use Rattle.repo_io.specs.declared.status.Status.TheVariants.{Done, NoMemory, WriteFault}
 use Rattle.repo_io.specs.Statuses.{IsTold}
-use Rattle.repo_top.specs.Answers.{status_of}
-use Rattle.repo_top.specs.Story.{Story}
+use Rattle.script_story.specs.Answers.{status_of}
+use Rattle.script_story.specs.Story.{Story}
 use Rattle.repo_top.specs.Inspection.{inspect_story}
 use Rattle.repo_top.proofs.Inspections.{same_inspection, inspection_takes_whole}
 

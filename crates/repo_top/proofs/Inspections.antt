@@ -7,11 +7,11 @@ use Rattle.hex.specs.Hex.{decode_of}
 use Rattle.hex.specs.declared.error.FromHexError.{FromHexError}
 use Rattle.ndn_tlv.specs.declared.tlv_fault.TlvFault.{TlvFault}
 use Rattle.ndn_inspect.specs.Inspection.{inspected}
-use Rattle.repo_top.specs.declared.ending.Ending.TheVariants.{Done}
+use Rattle.script_story.specs.declared.ending.Ending.TheVariants.{Done}
 use Rattle.repo_io.specs.declared.status.Status.TheVariants.{Foreign}
-use Rattle.repo_top.specs.Answers.{status_of}
+use Rattle.script_story.specs.Answers.{status_of}
 use Rattle.script_report.specs.declared.refusal.Refusal.TheVariants.{Limit}
-use Rattle.repo_top.specs.Story.{refused}
+use Rattle.script_story.specs.Story.{refused}
 use Rattle.repo_top.specs.Inspection.{decoded_story, inspect_story, lines_story, sound_ending, without_spaces}
 
 too_long : (octets : List ℕ) → 16777216 < length octets → inspect_story octets ≡ refused Limit

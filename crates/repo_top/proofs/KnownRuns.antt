@@ -4,9 +4,9 @@ use Rattle.std.specs.Io.KnownBytes.{IsAtEnd, Keeps, prepend_known}
 use Rattle.repo_io.specs.declared.status.Status.{Status}
 use Rattle.repo_io.specs.declared.status.Status.TheVariants.{Done, ReadFault}
 use Rattle.repo_io.specs.Lines.{lines}
-use Rattle.repo_top.specs.Judging.{Given}
+use Rattle.script_story.specs.Judging.{Given}
 use Rattle.repo_top.specs.Reading.{HasLine, LineIsBegun}
-use Rattle.repo_top.specs.Story.{Reached, Story, story_of}
+use Rattle.script_story.specs.Story.{Reached, Story, story_of}
 use Rattle.repo_top.specs.Carrying.{Carried, EndsIn, Finishes, Known, Ran, Stops, Took}
 use Rattle.repo_top.proofs.Runs.{carried_line, carried_read, ran_finished, ran_stopped, ran_unread}
 

@@ -17,18 +17,20 @@ use Rattle.repo_top.specs.declared.progress.Standing.TheVariants.{Acting}
 use Rattle.repo_watch.specs.Watching.{Watching}
 use Rattle.repo_top.specs.declared.stop.Stop.{Stop}
 use Rattle.repo_top.specs.declared.stop.Stop.TheVariants as stop
-use Rattle.repo_top.specs.Mirrors.{Mirroring, mirror_as, mirror_begins, mirror_of, mirrored_entries}
-use Rattle.repo_top.specs.SaidEvents.{mirror_number, pattern_for, publisher_number}
-use Rattle.repo_top.specs.ToldTexts.{listing_text}
-use Rattle.repo_top.specs.Judging.{Given, State, begun_world, fetched_by, found_world, heard_by, heard_if}
-use Rattle.repo_top.specs.Judging.{line_taken, listed_by, mirror_fetched, mirror_heard, mirror_listed, mirrors_behind}
-use Rattle.repo_top.specs.Judging.{says}
+use Rattle.script_story.specs.Mirrors.{Mirroring, mirror_as, mirror_begins, mirror_of, mirrored_entries}
+use Rattle.script_story.specs.SaidEvents.{mirror_number, pattern_for, publisher_number}
+use Rattle.script_story.specs.ToldTexts.{listing_text}
+use Rattle.script_story.specs.Judging.{Given, State, begun_world, fetched_by, found_world, heard_by, heard_if}
+use Rattle.script_story.specs.Judging.{line_taken, listed_by, mirror_fetched, mirror_heard, mirror_listed}
+use Rattle.script_story.specs.Judging.{mirrors_behind}
+use Rattle.script_story.specs.Judging.{says}
 use Rattle.repo_top.specs.Progressing.{IsStop, IsStopOf, LineIsChecked, MirrorIsThere, MirrorsAreDeclared}
 use Rattle.repo_top.specs.Progressing.{NamesAreDeclared, Stands, has_group, has_world, mirrors_in}
 use Rattle.repo_top.specs.Progressing.{standing_keys, state_of, world_in}
-use Rattle.repo_top.proofs.Fitting.{mirror_within, mirror_fits}
-use Rattle.repo_top.proofs.HeadlineTaken.{many_behind}
-use Rattle.repo_top.proofs.Judgings.{IsEvent, event_after, mirror_declares, mirror_says}
+use Rattle.script_story.proofs.Fitting.{mirror_within, mirror_fits}
+use Rattle.script_story.proofs.HeadlineTaken.{many_behind}
+use Rattle.script_story.proofs.Declarations.{IsEvent, event_after, mirror_declares}
+use Rattle.repo_top.proofs.Judgings.{mirror_says}
 use Rattle.repo_top.proofs.Progressings.{Says, no_world, same_mirrors}
 
 -- ---- a declaration

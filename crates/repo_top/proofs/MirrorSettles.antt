@@ -28,7 +28,7 @@ use Rattle.mirror_model.proofs.Gains.{gains_known}
 use Rattle.repo_mirror.specs.MirrorState.{MirrorState}
 use Rattle.repo_mirror.specs.TrueMirrors.{mirror_in_group}
 use Rattle.bench_world.specs.MirrorSettles.{HasSettled}
-use Rattle.repo_top.specs.Mirrors.{comes_to, mirror_as, mirror_settles}
+use Rattle.script_story.specs.Mirrors.{comes_to, mirror_as, mirror_settles}
 
 -- ---- what comes in turn
 

@@ -32,8 +32,8 @@ use Rattle.bench_world.specs.Worlds.{GroupState, world_of}
 use Rattle.bench_world.specs.MirrorFetching.{HasFetched, mirror_asks, mirror_attempt, mirror_attempts, mirror_counts}
 use Rattle.bench_world.specs.MirrorFetching.{mirror_gets, mirror_wants}
 use Rattle.bench_world.specs.MirrorSteps.{mirror_at, no_mirror}
-use Rattle.repo_top.specs.Mirrors.{Mirroring, asked_by, attempts_for, attempts_made, counted, gets, is_asked_for}
-use Rattle.repo_top.specs.Mirrors.{is_wanted_by, mirror_as, mirror_begins, mirror_fetches, mirror_of, wanted_by}
+use Rattle.script_story.specs.Mirrors.{Mirroring, asked_by, attempts_for, attempts_made, counted, gets, is_asked_for}
+use Rattle.script_story.specs.Mirrors.{is_wanted_by, mirror_as, mirror_begins, mirror_fetches, mirror_of, wanted_by}
 
 -- ---- lists of mirrors
 

@@ -22,21 +22,21 @@ use Rattle.bench_world.specs.EventValues.{EventValue, group_event, telling}
 use Rattle.repo_watch.specs.Watching.{Watching}
 use Rattle.repo_top.specs.declared.progress.Standing.{Standing}
 use Rattle.repo_top.specs.declared.progress.Standing.TheVariants.{Opening, Declaring, Acting}
-use Rattle.repo_top.specs.Judging.{Given, State, Verdict, says, acted, acted_by, acted_if, found_world, group_named}
-use Rattle.repo_top.specs.Judging.{outside_of, judged_line, line_taken, no_group, taken_by, with_client_too}
-use Rattle.repo_top.specs.Judging.{declaring_mirror, fetched_by, heard_by, heard_if, listed_by, mirrors_begin}
-use Rattle.repo_top.specs.Judging.{mirrors_behind, told_by, watched_by, with_member_too}
+use Rattle.script_story.specs.Judging.{Given, State, Verdict, says, acted, acted_by, acted_if, found_world, group_named}
+use Rattle.script_story.specs.Judging.{outside_of, judged_line, line_taken, no_group, taken_by, with_client_too}
+use Rattle.script_story.specs.Judging.{declaring_mirror, fetched_by, heard_by, heard_if, listed_by, mirrors_begin}
+use Rattle.script_story.specs.Judging.{mirrors_behind, told_by, watched_by, with_member_too}
 use Rattle.repo_top.specs.Progressing.{IsEventLine, NamesAreDeclared, LineIsChecked, IsStop, IsStopOf, StatesFit}
 use Rattle.repo_top.specs.Progressing.{MirrorsAreDeclared, has_group, has_world, mirrors_in, standing_keys}
 use Rattle.repo_top.specs.Progressing.{state_of, world_in}
 use Rattle.repo_top.specs.declared.stop.Stop.{Stop}
-use Rattle.repo_top.specs.ToldTexts.{told_text}
-use Rattle.repo_top.specs.Mirrors.{Mirroring}
-use Rattle.repo_top.specs.SaidEvents.{mirror_number, said_event}
-use Rattle.repo_top.proofs.Fitting.{client_fits, event_fits, group_fits, member_fits}
-use Rattle.repo_top.proofs.Judgings.{acted_says, acted_stops, client_declares, client_says, event_declares}
-use Rattle.repo_top.proofs.Judgings.{event_says, group_declares, group_says, is_free, member_declares, member_says}
-use Rattle.repo_top.proofs.Judgings.{taken_line}
+use Rattle.script_story.specs.ToldTexts.{told_text}
+use Rattle.script_story.specs.Mirrors.{Mirroring}
+use Rattle.script_story.specs.SaidEvents.{mirror_number, said_event}
+use Rattle.script_story.proofs.Fitting.{client_fits, event_fits, group_fits, member_fits}
+use Rattle.script_story.proofs.Declarations.{client_declares, group_declares, is_free, member_declares}
+use Rattle.repo_top.proofs.Judgings.{acted_says, acted_stops, client_says, event_declares, event_says, group_says}
+use Rattle.repo_top.proofs.Judgings.{member_says, taken_line}
 
 -- Nothing but what a line declares matters where it is taken.
 same_acted : (given : Given) (standing : Standing) (ws : List (List Watching)) (d e : Declared) (o : Option EventValue)

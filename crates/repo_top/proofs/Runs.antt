@@ -11,16 +11,16 @@ use Rattle.std.proofs.lemmas.List.Elements.{filter-append}
 use Rattle.std.proofs.lemmas.List.Folds.{concat-append, list_any-append}
 use Rattle.std.proofs.Math.Numerals.{suc-eq-add-one}
 use Rattle.std.proofs.Math.Seq.{take-append_seam, take-append-add}
-use Rattle.repo_top.specs.declared.ending.Ending.TheVariants as ending
+use Rattle.script_story.specs.declared.ending.Ending.TheVariants as ending
 use Rattle.repo_io.specs.declared.status.Status.{Status}
 use Rattle.repo_io.specs.declared.status.Status.TheVariants.{Done, ReadFault, WriteFault}
 use Rattle.script_report.specs.declared.refusal.Refusal.TheVariants.{Limit}
 use Rattle.repo_io.specs.Outside.{GainsText, GainsFront}
 use Rattle.repo_io.specs.Lines.{IsWhole, has_feed, lines}
-use Rattle.repo_top.specs.Judging.{Given, Verdict, foreign, refused, says, unjudged}
+use Rattle.script_story.specs.Judging.{Given, Verdict, foreign, refused, says, unjudged}
 use Rattle.repo_top.specs.Reading.{HasLine, LineIsBegun, IsTooLong}
-use Rattle.repo_top.specs.Story.{Reached, Story, reached_behind, behind_text, ended, judged_next, nothing_reached}
-use Rattle.repo_top.specs.Story.{story_from, story_of}
+use Rattle.script_story.specs.Story.{Reached, Story, reached_behind, behind_text, ended, judged_next, nothing_reached}
+use Rattle.script_story.specs.Story.{story_from, story_of}
 use Rattle.repo_top.specs.Taken.{FallsShortNear, IsTakenNear, LacksText, can_be_judged, end_of_line, lines_so_far}
 use Rattle.repo_top.specs.Taken.{lines_taken, report_of, report_through, taken}
 use Rattle.repo_top.specs.Carrying.{Carried, EndsIn, Finishes, IsStopping, Ran, Stops, StatusTells, Took}

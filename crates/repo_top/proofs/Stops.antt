@@ -6,11 +6,11 @@ use Rattle.repo_io.specs.declared.status.Status.TheVariants.{Foreign}
 use Rattle.repo_top.specs.declared.stop.Stop.{Stop}
 use Rattle.repo_top.specs.declared.stop.Stop.TheVariants as stop
 use Rattle.repo_io.specs.Outside.{GainsText, GainsFront}
-use Rattle.repo_top.specs.Judging.{Given, State, says}
+use Rattle.script_story.specs.Judging.{Given, State, says}
 use Rattle.repo_top.specs.Progressing.{IsStop}
-use Rattle.repo_top.specs.Story.{Reached, Story, reached_behind, judged_next, story_from}
+use Rattle.script_story.specs.Story.{Reached, Story, reached_behind, judged_next, story_from}
 use Rattle.repo_io.specs.Statuses.{IsTold}
-use Rattle.repo_top.specs.Answers.{status_of}
+use Rattle.script_story.specs.Answers.{status_of}
 use Rattle.repo_top.specs.Taken.{IsStoppedAt}
 use Rattle.repo_top.specs.Carrying.{Halts, Stops, StatusTells, stop_status, stop_text}
 use Rattle.repo_io.proofs.Outputs.{front_longer, front_taken}

@@ -7,18 +7,18 @@ use Rattle.std.proofs.lemmas.List.{append-nil, length-take, take-append-drop, ta
 use Rattle.std.proofs.lemmas.List.Folds.{list_any_at}
 use Rattle.script_lang.specs.declared.line_fault.LineFault.TheVariants as line_fault
 use Rattle.script_lang.specs.Lines.{ends_with, line_of, without_last_octet}
-use Rattle.repo_top.specs.declared.ending.Ending.TheVariants.{Done, Refused}
+use Rattle.script_story.specs.declared.ending.Ending.TheVariants.{Done, Refused}
 use Rattle.script_report.specs.declared.refusal.Refusal.TheVariants.{Limit}
 use Rattle.repo_top.specs.declared.stop.Stop.{Stop}
 use Rattle.repo_top.specs.declared.stop.Stop.TheVariants as stop
-use Rattle.repo_top.specs.Judging.{Given, Verdict, judged, refused}
+use Rattle.script_story.specs.Judging.{Given, Verdict, judged, refused}
 use Rattle.repo_top.specs.Progressing.{IsStop}
 use Rattle.script_report.specs.Refusals.{refusal_text}
-use Rattle.repo_top.specs.Answers.{status_of}
+use Rattle.script_story.specs.Answers.{status_of}
 use Rattle.repo_io.specs.Lines.{IsWhole, has_feed, lines}
 use Rattle.repo_top.specs.Reading.{HasLine, IsTooLong}
-use Rattle.repo_top.specs.Story.{Reached, Story, behind_text, ended, is_within_script, judged_next, story_from}
-use Rattle.repo_top.specs.Story.{story_of_line}
+use Rattle.script_story.specs.Story.{Reached, Story, behind_text, ended, is_within_script, judged_next, story_from}
+use Rattle.script_story.specs.Story.{story_of_line}
 use Rattle.repo_top.specs.Carrying.{Took, stop_status, stop_text}
 use Rattle.repo_io.proofs.LineLaws.{long_line, whole_first}
 

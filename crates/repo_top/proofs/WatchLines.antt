@@ -34,16 +34,16 @@ use Rattle.script_report.specs.declared.refusal.Refusal.TheVariants as refusal
 use Rattle.repo_top.specs.declared.stop.Stop.{Stop}
 use Rattle.repo_top.specs.declared.stop.Stop.TheVariants as stop
 use Rattle.script_report.specs.Labels.{label_at}
-use Rattle.repo_top.specs.SaidEvents.{party_number}
-use Rattle.repo_top.specs.ToldTexts.{news_in, news_text}
-use Rattle.repo_top.specs.Judging.{Given, State, found_world, line_taken, refused, says, told_at, told_by}
-use Rattle.repo_top.specs.Judging.{watched, watched_by, watchers_at, watchers_of, with_watchers}
+use Rattle.script_story.specs.SaidEvents.{party_number}
+use Rattle.script_story.specs.ToldTexts.{news_in, news_text}
+use Rattle.script_story.specs.Judging.{Given, State, found_world, line_taken, refused, says, told_at, told_by}
+use Rattle.script_story.specs.Judging.{watched, watched_by, watchers_at, watchers_of, with_watchers}
 use Rattle.repo_top.specs.Progressing.{IsStop, IsStopWhere, LineIsChecked, MirrorsAreDeclared, NamesAreDeclared, Stands}
 use Rattle.repo_top.specs.Progressing.{has_group, standing_keys}
-use Rattle.repo_top.proofs.Fitting.{number_within}
-use Rattle.repo_top.proofs.Judgings.{IsEvent, event_after}
+use Rattle.script_story.proofs.Fitting.{number_within}
+use Rattle.script_story.proofs.Declarations.{IsEvent, event_after}
 use Rattle.repo_top.proofs.Progressings.{same_mirrors}
-use Rattle.repo_top.proofs.HeadlineNames.{news_among}
+use Rattle.script_story.proofs.HeadlineNames.{news_among, news_pairs}
 
 -- ---- what is known of the line
 
@@ -192,11 +192,6 @@ same_each (x ∷ xs) (y ∷ ys) h =
 among_all : (o : Option Watching) (entries : List Entry) (e : Entry) → In e (news_in o entries) → In e entries
 among_all None entries e i = absurd i
 among_all (Some watching) entries e i = (from_filter (is_news watching) entries e i).0
-
-pub news_pairs : (o : Option Watching) (entries : List Entry)
-    → news_of o entries ≡ map publication_of (news_in o entries)
-news_pairs None entries = refl
-news_pairs (Some watching) entries = refl
 
 pub news_listed : (o : Option Watching) (entries : List Entry) (pairs : List Pair) → IsCatalogue entries
     → pairs ≡ news_of o entries → All (λ pair. lists pair entries ≡ true) pairs

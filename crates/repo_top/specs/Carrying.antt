@@ -16,13 +16,14 @@ use Rattle.repo_io.specs.Outside.{GainsText, GainsFront}
 use Rattle.script_report.specs.Refusals.{refusal_number, refusal_text}
 use Rattle.repo_io.specs.Lines.{lines}
 use Rattle.bench_world.specs.Worlds.{GroupState, world_of}
-use Rattle.repo_top.specs.Mirrors.{mirror_as}
-use Rattle.repo_top.specs.Judging.{Given, State, says}
+use Rattle.script_story.specs.Mirrors.{mirror_as}
+use Rattle.script_story.specs.Judging.{Given, State, says}
 use Rattle.repo_top.specs.Progressing.{IsProgress, progress_state, steps}
-use Rattle.repo_top.specs.Story.{Reached, Story, reached_behind, behind_text, judged_next, nothing_reached, story_from}
-use Rattle.repo_top.specs.Story.{story_of}
+use Rattle.script_story.specs.Story.{Reached, Story, reached_behind, behind_text, judged_next, nothing_reached}
+use Rattle.script_story.specs.Story.{story_from}
+use Rattle.script_story.specs.Story.{story_of}
 use Rattle.repo_io.specs.Statuses.{IsTold}
-use Rattle.repo_top.specs.Answers.{status_of}
+use Rattle.script_story.specs.Answers.{status_of}
 use Rattle.repo_top.specs.Taken.{IsStoppedAt, IsTakenNear, FallsShortNear, can_be_judged, lines_so_far, lines_taken}
 use Rattle.repo_top.specs.Taken.{report_of, taken}
 

@@ -2,8 +2,8 @@
 use Rattle.std.specs.Prelude.{ℕ, ⊤, List, [], ◌∷◌, Option, Some, None, codes, if◌then◌else◌}
 use Rattle.std.specs.Option.{option_map}
 use Rattle.std.specs.Str.{bytes_eq}
-use Rattle.repo_top.specs.Judging.{Given}
-use Rattle.repo_top.specs.Story.{Story, story_of}
+use Rattle.script_story.specs.Judging.{Given}
+use Rattle.script_story.specs.Story.{Story, story_of}
 use Rattle.repo_top.specs.Inspection.{inspect_story}
 use Rattle.repo_top.specs.Words.{number_within}
 use Rattle.repo_top.specs.declared.generator.Measures.{Measures}

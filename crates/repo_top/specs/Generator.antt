@@ -3,8 +3,8 @@ use Rattle.std.specs.Prelude.{ℕ, zero, suc, ◌+◌, ◌*◌, ◌/◌, ◌%◌
 use Rattle.std.specs.Prelude.{if◌then◌else◌}
 use Rattle.std.specs.Fmt.{digits}
 use Rattle.repo_top.specs.declared.generator.Measures.{Measures}
-use Rattle.repo_top.specs.declared.ending.Ending.TheVariants.{Done}
-use Rattle.repo_top.specs.Story.{Story, plain_story}
+use Rattle.script_story.specs.declared.ending.Ending.TheVariants.{Done}
+use Rattle.script_story.specs.Story.{Story, plain_story}
 
 -- A state follows another by a linear congruential generator modulo 2 ^ 64.
 abbrev pub next_state : ℕ → ℕ

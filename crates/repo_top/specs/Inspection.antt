@@ -6,11 +6,11 @@ use Rattle.hex.specs.Hex.{decode_of}
 use Rattle.hex.specs.declared.error.FromHexError.{FromHexError}
 use Rattle.ndn_tlv.specs.declared.tlv_fault.TlvFault.{TlvFault}
 use Rattle.ndn_inspect.specs.Inspection.{Lines, inspected, printed_with_fault}
-use Rattle.repo_top.specs.declared.ending.Ending.{Ending}
-use Rattle.repo_top.specs.declared.ending.Ending.TheVariants.{Done, Refused}
+use Rattle.script_story.specs.declared.ending.Ending.{Ending}
+use Rattle.script_story.specs.declared.ending.Ending.TheVariants.{Done, Refused}
 use Rattle.script_report.specs.declared.refusal.Refusal.TheVariants.{Syntax, Limit, BadPacket}
 use Rattle.script_report.specs.Refusals.{refusal_number}
-use Rattle.repo_top.specs.Story.{Story, plain_story, refused}
+use Rattle.script_story.specs.Story.{Story, plain_story, refused}
 
 -- A space, a tab, a line feed or a carriage return.
 abbrev pub is_space : ℕ → Bool

@@ -19,9 +19,9 @@ use Rattle.repo_top.specs.declared.progress.Standing.TheVariants.{Opening, Decla
 use Rattle.script_report.specs.declared.refusal.Refusal.{Refusal}
 use Rattle.repo_top.specs.declared.stop.Stop.{Stop}
 use Rattle.repo_top.specs.declared.stop.Stop.TheVariants as stop
-use Rattle.repo_top.specs.Mirrors.{Mirroring, mirror_as, mirror_begins}
-use Rattle.repo_top.specs.SaidEvents.{said_event}
-use Rattle.repo_top.specs.Judging.{State, Verdict, no_group, refused, foreign, event_refused}
+use Rattle.script_story.specs.Mirrors.{Mirroring, mirror_as, mirror_begins}
+use Rattle.script_story.specs.SaidEvents.{said_event}
+use Rattle.script_story.specs.Judging.{State, Verdict, no_group, refused, foreign, event_refused}
 
 abbrev pub standing_keys : Standing → GroupKeys
 standing_keys Opening = no_group

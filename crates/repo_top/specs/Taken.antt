@@ -6,9 +6,9 @@ use Rattle.script_lang.specs.Limits.{line_octets}
 use Rattle.repo_io.specs.declared.status.Status.{Status}
 use Rattle.repo_io.specs.declared.status.Status.TheVariants.{Done, Usage, Refused, ReadFault, WriteFault, NoMemory}
 use Rattle.repo_io.specs.declared.status.Status.TheVariants.{Foreign}
-use Rattle.repo_top.specs.Judging.{Given}
+use Rattle.script_story.specs.Judging.{Given}
 use Rattle.repo_io.specs.Lines.{has_feed, lines}
-use Rattle.repo_top.specs.Story.{nothing_reached, story_from}
+use Rattle.script_story.specs.Story.{nothing_reached, story_from}
 
 -- ---- lines
 

@@ -1,10 +1,10 @@
 ghost use Rattle.std.specs.Prelude.{◌≡◌, IfOk};
 ghost use Rattle.repo_top.specs.Inspection.{inspect_story, is_space, octets_story, without_spaces};
-ghost use Rattle.repo_top.specs.Story.{refused};
+ghost use Rattle.script_story.specs.Story.{refused};
 
-use crate::ending::Ending;
 use hex::FromHexError;
 use script_report::{Refusal, put_refused};
+use script_story::Ending;
 use std::alloc::{AllocError, Global};
 
 // How many octets of the input are taken at most.

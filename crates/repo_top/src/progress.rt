@@ -10,11 +10,11 @@ ghost use Rattle.bench_world.specs.EventValues.{event_value, group_event, tellin
 ghost use Rattle.bench_world.specs.Serving.{outside};
 ghost use Rattle.bench_world.specs.Steps.{IsReady, NamesClient};
 ghost use Rattle.bench_world.specs.Worlds.{drawing, world_of};
-ghost use Rattle.repo_top.specs.ToldTexts.{told_text};
-ghost use Rattle.repo_top.specs.Mirrors.{mirror_as, mirror_begins};
-ghost use Rattle.repo_top.specs.Judging.{acted, acted_by, given_by, group_named, judged, judged_line, line_taken};
-ghost use Rattle.repo_top.specs.Judging.{mirrors_begin, mirrors_behind, opening_state, says, with_client_too};
-ghost use Rattle.repo_top.specs.Judging.{with_member_too};
+ghost use Rattle.script_story.specs.ToldTexts.{told_text};
+ghost use Rattle.script_story.specs.Mirrors.{mirror_as, mirror_begins};
+ghost use Rattle.script_story.specs.Judging.{acted, acted_by, given_by, group_named, judged, judged_line, line_taken};
+ghost use Rattle.script_story.specs.Judging.{mirrors_begin, mirrors_behind, opening_state, says, with_client_too};
+ghost use Rattle.script_story.specs.Judging.{with_member_too};
 ghost use Rattle.repo_top.specs.Progressing.{IsEventLine, NamesAreDeclared, LineIsChecked, IsLine, IsProgress, IsStop};
 ghost use Rattle.repo_top.specs.Progressing.{IsStopOf, MirrorsAreDeclared, StatesFit, has_group, has_world};
 ghost use Rattle.repo_top.specs.Progressing.{mirrors_in, progress_state, standing_keys, steps, steps_in, world_in};

@@ -1,8 +1,8 @@
 ghost use Rattle.std.specs.Prelude.{◌≡◌, ◌≢◌, [], None};
 ghost use Rattle.repo_io.specs.Outside.{HasRisen};
-ghost use Rattle.repo_top.specs.Judging.{given_by};
+ghost use Rattle.script_story.specs.Judging.{given_by};
 ghost use Rattle.repo_io.specs.Lines.{lines};
-ghost use Rattle.repo_top.specs.Story.{nothing_reached};
+ghost use Rattle.script_story.specs.Story.{nothing_reached};
 ghost use Rattle.repo_top.specs.Reading.{LineIsBegun};
 ghost use Rattle.repo_top.specs.Carrying.{EndsIn, Finishes, IsScript, Known, LeavesWorld, Leaving, Ran, reached};
 

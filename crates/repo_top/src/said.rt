@@ -3,9 +3,9 @@ ghost use Rattle.std.specs.Option.{option_map};
 ghost use Rattle.script_lang.specs.Forms.{publisher_value, stated};
 ghost use Rattle.script_lang.specs.Checking.{are_known, are_members, has_label, is_mirror, labels_in};
 ghost use Rattle.bench_world.specs.EventValues.{event_value};
-ghost use Rattle.repo_top.specs.SaidEvents.{mirror_number, party_number, pattern_for, publisher_number, said_event};
-ghost use Rattle.repo_top.specs.SaidEvents.{said_of_commands, said_of_group, said_of_insertions, said_of_packets};
-ghost use Rattle.repo_top.specs.SaidEvents.{said_of_parts};
+ghost use Rattle.script_story.specs.SaidEvents.{mirror_number, party_number, pattern_for, publisher_number, said_event};
+ghost use Rattle.script_story.specs.SaidEvents.{said_of_commands, said_of_group, said_of_insertions, said_of_packets};
+ghost use Rattle.script_story.specs.SaidEvents.{said_of_parts};
 
 use bench_world::Event;
 use ndn_name::Name;

@@ -2,10 +2,10 @@ ghost use Rattle.std.specs.Prelude.{◌≡◌, ◌≤◌, ◌+◌, map, IfErr, I
 ghost use Rattle.std.specs.Option.{option_map};
 ghost use Rattle.bench_world.specs.Worlds.{world_of};
 ghost use Rattle.repo_io.specs.Outside.{HasRisen};
-ghost use Rattle.repo_top.specs.Mirrors.{mirror_as};
-ghost use Rattle.repo_top.specs.Judging.{given_by, says};
+ghost use Rattle.script_story.specs.Mirrors.{mirror_as};
+ghost use Rattle.script_story.specs.Judging.{given_by, says};
 ghost use Rattle.repo_top.specs.Progressing.{IsStop};
-ghost use Rattle.repo_top.specs.Story.{reached_behind, judged_next, nothing_reached};
+ghost use Rattle.script_story.specs.Story.{reached_behind, judged_next, nothing_reached};
 ghost use Rattle.repo_top.specs.Carrying.{Halts, IsScript, Stops, Took, reached, stop_status, stop_text};
 
 use crate::progress::Progress;

@@ -3,8 +3,8 @@ ghost use Rattle.std.specs.List.{All};
 ghost use Rattle.script_report.specs.Pieces.{Appends};
 ghost use Rattle.bench_world.specs.EventValues.{told_value};
 ghost use Rattle.bench_world.specs.Steps.{NamesAll};
-ghost use Rattle.repo_top.specs.ToldTexts.{listing_text, news_text, of_commands, of_group, of_insertions};
-ghost use Rattle.repo_top.specs.ToldTexts.{of_packets, of_parts, told_if, told_text};
+ghost use Rattle.script_story.specs.ToldTexts.{listing_text, news_text, of_commands, of_group, of_insertions};
+ghost use Rattle.script_story.specs.ToldTexts.{of_packets, of_parts, told_if, told_text};
 
 mod refusal_text;
 

@@ -2,12 +2,12 @@ ghost use Rattle.std.specs.Prelude.{◌≡◌, ◌≢◌, ◌↔◌, ◌⊎◌, 
 ghost use Rattle.std.specs.Option.{option_map};
 ghost use Rattle.bench_world.specs.Worlds.{world_of};
 ghost use Rattle.repo_io.specs.Statuses.{IsTold};
-ghost use Rattle.repo_top.specs.Answers.{status_of};
+ghost use Rattle.script_story.specs.Answers.{status_of};
 ghost use Rattle.repo_top.specs.Forms.{IsGenerated, IsInspected, InputIsRead, IsRun, asked_of, asked_story};
 ghost use Rattle.repo_top.specs.Generator.{gen_text};
 ghost use Rattle.repo_top.specs.Inspection.{inspect_story};
-ghost use Rattle.repo_top.specs.Judging.{given_by};
-ghost use Rattle.repo_top.specs.Mirrors.{mirror_as};
+ghost use Rattle.script_story.specs.Judging.{given_by};
+ghost use Rattle.script_story.specs.Mirrors.{mirror_as};
 ghost use Rattle.repo_io.specs.Outside.{GainsText, GainsFront, HasRisen};
 ghost use Rattle.repo_top.specs.Taken.{FallsShortNear, IsStoppedAt, IsTakenNear, lines_so_far, lines_taken, report_of};
 ghost use Rattle.repo_top.specs.Taken.{taken};

@@ -10,8 +10,8 @@ ghost use Rattle.script_lang.specs.Forms.{stated};
 ghost use Rattle.script_report.specs.Texts.{watch_text};
 ghost use Rattle.repo_watch.specs.Watching.{after_add, after_take, most_watchers, watch_of};
 ghost use Rattle.script_report.specs.declared.refusal.Refusal.TheVariants as refusal;
-ghost use Rattle.repo_top.specs.ToldTexts.{news_in, news_text};
-ghost use Rattle.repo_top.specs.Judging.{begun_world, says, told_at, told_by, watched, watched_by, watchers_of};
+ghost use Rattle.script_story.specs.ToldTexts.{news_in, news_text};
+ghost use Rattle.script_story.specs.Judging.{begun_world, says, told_at, told_by, watched, watched_by, watchers_of};
 ghost use Rattle.repo_top.specs.Progressing.{IsProgress, IsStop, IsStopWhere, LineIsChecked, MirrorsAreDeclared};
 ghost use Rattle.repo_top.specs.Progressing.{NamesAreDeclared, has_group, progress_state, standing_keys, steps};
 

@@ -1,7 +1,7 @@
 ghost use Rattle.std.specs.Prelude.{◌≡◌, length, map, string_bytes, IfOk};
 ghost use Rattle.bench_world.specs.Steps.{FaultNamesMember, HearNamesMember, SyncNamesMember};
-ghost use Rattle.repo_top.specs.RefusalTexts.{field_word, hear_refusal_text, packet_fault_text, part_refusal_text};
-ghost use Rattle.repo_top.specs.RefusalTexts.{sync_refusal_text, tlv_fault_text, vector_fault_text};
+ghost use Rattle.script_story.specs.RefusalTexts.{field_word, hear_refusal_text, packet_fault_text, part_refusal_text};
+ghost use Rattle.script_story.specs.RefusalTexts.{sync_refusal_text, tlv_fault_text, vector_fault_text};
 
 use ndn_name::{Field, PacketFault};
 use ndn_tlv::TlvFault;

@@ -1,5 +1,5 @@
 use Rattle.std.proofs.Common.{sym, subst, List, ℕ, arith}
-use Rattle.repo_top.specs.Judging.{given_by}
+use Rattle.script_story.specs.Judging.{given_by}
 use Rattle.repo_top.specs.Carrying.{Carried, EndsIn, Finishes, Known, Stops, Took, reached}
 use Rattle.repo_io.specs.Lines.{lines}
 use Rattle.repo_top.proofs.KnownRuns.{known_finished, known_line, known_read, known_stopped, known_unread}

@@ -1,5 +1,5 @@
 use Rattle.std.proofs.Common.{◌≤◌, ◌-◌}
-use Rattle.repo_top.specs.Judging.{given_by}
+use Rattle.script_story.specs.Judging.{given_by}
 use Rattle.repo_top.specs.Carrying.{Carried, IsScript, Known, reached}
 use Rattle.repo_top.proofs.running.run_lines.Given as goal
 

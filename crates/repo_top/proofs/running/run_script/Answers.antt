@@ -1,4 +1,4 @@
-use Rattle.repo_top.specs.Judging.{given_by}
+use Rattle.script_story.specs.Judging.{given_by}
 use Rattle.repo_top.specs.Carrying.{reached}
 use Rattle.repo_top.proofs.Ends.{ran_leaves}
 use Rattle.repo_top.proofs.running.run_script.Goals as goal

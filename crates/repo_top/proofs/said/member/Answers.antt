@@ -1,6 +1,6 @@
 use Rattle.std.proofs.Common.{◌∙◌, ap}
 use Rattle.std.specs.Prelude.{is_some}
-use Rattle.repo_top.proofs.Fitting.{place_of_known}
+use Rattle.script_story.proofs.Fitting.{place_of_known}
 use Rattle.repo_top.proofs.said.member.Goals as goal
 
 pub unwrap-requires : goal.unwrap-requires

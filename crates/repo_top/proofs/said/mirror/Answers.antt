@@ -1,6 +1,6 @@
 use Rattle.std.proofs.Common.{◌∙◌, ap}
 use Rattle.std.specs.Prelude.{is_some}
-use Rattle.repo_top.proofs.Fitting.{mirror_placed}
+use Rattle.script_story.proofs.Fitting.{mirror_placed}
 use Rattle.repo_top.proofs.said.mirror.Goals as goal
 
 pub unwrap-requires : goal.unwrap-requires

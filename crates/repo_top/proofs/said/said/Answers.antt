@@ -4,7 +4,7 @@ use Rattle.script_lang.specs.declared.line.Line.{Line}
 use Rattle.script_lang.specs.declared.line.Line.TheVariants as line
 use Rattle.script_lang.specs.Forms.{stated}
 use Rattle.script_lang.specs.Checking.{Declared}
-use Rattle.repo_top.specs.SaidEvents.{said_by, said_of_group}
+use Rattle.script_story.specs.SaidEvents.{said_by, said_of_group}
 use Rattle.repo_top.proofs.said.said.Goals as goal
 
 -- A line of none of these kinds states what it states as one of the kinds that follow.

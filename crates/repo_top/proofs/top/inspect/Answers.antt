@@ -1,9 +1,9 @@
 use Rattle.std.proofs.Common.{◌≡◌, ◌⊎◌, sym, ◌∙◌, subst}
 use Rattle.repo_io.specs.declared.status.Status.TheVariants.{NoMemory, WriteFault}
 use Rattle.repo_io.specs.Statuses.{IsTold}
-use Rattle.repo_top.specs.Answers.{status_of}
+use Rattle.script_story.specs.Answers.{status_of}
 use Rattle.repo_io.specs.Outside.{GainsText, GainsFront}
-use Rattle.repo_top.specs.Story.{Story}
+use Rattle.script_story.specs.Story.{Story}
 use Rattle.repo_top.specs.Inspection.{inspect_story}
 use Rattle.repo_top.proofs.InspectRuns.{by_story, told_ends, unfailing_ends, none_left}
 use Rattle.repo_top.proofs.top.inspect.Goals as goal

@@ -1,6 +1,6 @@
 use Rattle.std.proofs.Common.{◌≡◌, ◌∙◌, ℕ, List, sym, ap, subst}
 use Rattle.repo_io.specs.declared.status.Status.TheVariants.{WriteFault}
-use Rattle.repo_top.specs.Answers.{status_of}
+use Rattle.script_story.specs.Answers.{status_of}
 use Rattle.repo_top.specs.Inspection.{inspect_story}
 use Rattle.repo_io.specs.Outside.{GainsFront}
 use Rattle.repo_top.proofs.Inspections.{not_foreign}

@@ -3,7 +3,7 @@ use Rattle.std.specs.Prelude.{OnOk, IfErr}
 use Rattle.std.specs.Option.{option_map}
 use Rattle.script_lang.specs.Forms.{stated}
 use Rattle.bench_world.specs.EventValues.{event_value}
-use Rattle.repo_top.specs.Judging.{Verdict, given_by, says}
+use Rattle.script_story.specs.Judging.{Verdict, given_by, says}
 use Rattle.repo_top.specs.Progressing.{IsStop, progress_state}
 use Rattle.repo_top.proofs.Judgings.{acts, states_some}
 use Rattle.repo_top.proofs.progress.Progress.act.Goals as goal

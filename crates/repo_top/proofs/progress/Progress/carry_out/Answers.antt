@@ -3,8 +3,8 @@ use Rattle.std.specs.String.{string_bytes}
 use Rattle.repo_member.specs.Groups.{GroupKeys}
 use Rattle.bench_world.specs.EventValues.{event_value}
 use Rattle.bench_world.specs.Worlds.{world_of}
-use Rattle.repo_top.specs.Mirrors.{mirror_as}
-use Rattle.repo_top.specs.Judging.{acted, given_by}
+use Rattle.script_story.specs.Mirrors.{mirror_as}
+use Rattle.script_story.specs.Judging.{acted, given_by}
 use Rattle.repo_top.specs.Progressing.{IsStop, standing_keys, progress_state}
 use Rattle.repo_top.proofs.MirrorLines.{stands_behind}
 use Rattle.repo_top.proofs.Progressings.{as_many, carried_says, carried_stops, stops_so}

@@ -3,7 +3,7 @@ use Rattle.std.specs.Prelude.{OnOk, IfErr}
 use Rattle.std.specs.String.{string_bytes}
 use Rattle.script_lang.specs.Kinds.{Named, Number, Text}
 use Rattle.script_lang.specs.Forms.{publisher_value, stated}
-use Rattle.repo_top.specs.Judging.{Verdict, given_by, says}
+use Rattle.script_story.specs.Judging.{Verdict, given_by, says}
 use Rattle.repo_top.specs.Progressing.{IsStop, LineIsChecked, progress_state}
 use Rattle.repo_top.proofs.Progressings.{grouped, member_declared, client_declared, declared_says, event_acts, is_event}
 use Rattle.repo_top.proofs.WatchLines.{told_taken, watch_taken}

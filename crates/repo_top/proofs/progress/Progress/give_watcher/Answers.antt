@@ -1,7 +1,7 @@
 use Rattle.std.proofs.Common.{List, length, subst}
 use Rattle.repo_watch.specs.Watching.{Watching}
 use Rattle.script_report.specs.declared.refusal.Refusal.TheVariants as refusal
-use Rattle.repo_top.specs.Judging.{begun_world, watched, watchers_of}
+use Rattle.script_story.specs.Judging.{begun_world, watched, watchers_of}
 use Rattle.repo_top.specs.Progressing.{IsStop, IsStopWhere, progress_state}
 use Rattle.std.proofs.Common.{nat_le}
 use Rattle.repo_top.proofs.Progressings.{stops_so}

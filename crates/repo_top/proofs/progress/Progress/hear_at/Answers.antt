@@ -1,5 +1,5 @@
 use Rattle.bench_world.specs.Worlds.{world_of}
-use Rattle.repo_top.specs.Judging.{begun_world, mirror_heard}
+use Rattle.script_story.specs.Judging.{begun_world, mirror_heard}
 use Rattle.repo_top.specs.Progressing.{IsStop, progress_state}
 use Rattle.repo_top.proofs.Progressings.{stops_so}
 use Rattle.repo_top.proofs.MirrorLines.{heard_stops}

@@ -2,8 +2,8 @@ use Rattle.std.proofs.Common.{◌≡◌, ◌∙◌, ℕ, List, true, map, ap, sy
 use Rattle.std.specs.Prelude.{OnOk}
 use Rattle.std.specs.String.{string_bytes}
 use Rattle.script_lang.specs.Checking.{is_mirror}
-use Rattle.repo_top.specs.SaidEvents.{mirror_number}
-use Rattle.repo_top.specs.Judging.{Verdict, begun_world, given_by, says}
+use Rattle.script_story.specs.SaidEvents.{mirror_number}
+use Rattle.script_story.specs.Judging.{Verdict, begun_world, given_by, says}
 use Rattle.repo_top.specs.Progressing.{MirrorIsThere, progress_state}
 use Rattle.repo_top.proofs.MirrorLines.{fetched_checked, fetched_same}
 use Rattle.repo_top.proofs.progress.Progress.mirror_fetch.Goals as goal

@@ -1,6 +1,6 @@
 use Rattle.std.proofs.Common.{◌≡◌, ◌∙◌, ℕ, List, Some, None, sym, ap, subst}
 use Rattle.std.specs.Prelude.{OnOk, IfErr}
-use Rattle.repo_top.specs.Judging.{Verdict, given_by, judged, says}
+use Rattle.script_story.specs.Judging.{Verdict, given_by, judged, says}
 use Rattle.repo_top.specs.Progressing.{IsStop, progress_state}
 use Rattle.repo_top.specs.Stopping.{line_stop}
 use Rattle.repo_top.proofs.Judgings.{judged_fault, judged_read}

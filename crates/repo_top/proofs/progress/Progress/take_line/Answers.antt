@@ -1,7 +1,7 @@
 use Rattle.std.proofs.Common.{◌≡◌, sym, subst}
 use Rattle.std.specs.Prelude.{OnOk, IfErr}
 use Rattle.script_lang.specs.Forms.{stated}
-use Rattle.repo_top.specs.Judging.{Verdict, given_by, judged_line, says}
+use Rattle.script_story.specs.Judging.{Verdict, given_by, judged_line, says}
 use Rattle.repo_top.specs.Progressing.{IsStop, progress_state}
 use Rattle.repo_top.specs.Stopping.{check_stop}
 use Rattle.repo_top.proofs.Judgings.{refused_line}

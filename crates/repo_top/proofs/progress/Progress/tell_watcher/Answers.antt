@@ -2,7 +2,7 @@ use Rattle.std.proofs.Common.{◌∙◌, List, length, ap, sym, not, subst}
 use Rattle.std.specs.String.{string_bytes}
 use Rattle.repo_watch.specs.Watching.{Watching, watch_of}
 use Rattle.script_report.specs.declared.refusal.Refusal.TheVariants as refusal
-use Rattle.repo_top.specs.Judging.{begun_world, told_at, watchers_of}
+use Rattle.script_story.specs.Judging.{begun_world, told_at, watchers_of}
 use Rattle.repo_top.specs.Progressing.{IsStop, IsStopWhere, progress_state, standing_keys}
 use Rattle.std.specs.Prelude.{is_some}
 use Rattle.repo_member.specs.Groups.{GroupKeys}

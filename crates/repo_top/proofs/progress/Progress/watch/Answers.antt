@@ -2,8 +2,8 @@ use Rattle.std.proofs.Common.{◌≡◌, ◌∙◌, ◌<◌, ℕ, List, true, ma
 use Rattle.std.specs.Prelude.{OnOk, IfErr}
 use Rattle.std.specs.String.{string_bytes}
 use Rattle.script_lang.specs.Checking.{has_label}
-use Rattle.repo_top.specs.SaidEvents.{party_number}
-use Rattle.repo_top.specs.Judging.{Verdict, begun_world, says}
+use Rattle.script_story.specs.SaidEvents.{party_number}
+use Rattle.script_story.specs.Judging.{Verdict, begun_world, says}
 use Rattle.repo_top.specs.Progressing.{IsStop, progress_state}
 use Rattle.repo_top.proofs.WatchLines.{watch_checked, watched_same}
 use Rattle.repo_top.proofs.progress.Progress.watch.Goals as goal

@@ -1,8 +1,8 @@
 use Rattle.std.proofs.Common.{◌∙◌, ap, length, map, sym}
 use Rattle.repo_member.specs.Groups.{GroupKeys}
 use Rattle.repo_top.specs.declared.progress.Standing.{Standing}
-use Rattle.repo_top.specs.Mirrors.{mirror_begins}
-use Rattle.repo_top.specs.Judging.{mirrors_begin, with_member_too}
+use Rattle.script_story.specs.Mirrors.{mirror_begins}
+use Rattle.script_story.specs.Judging.{mirrors_begin, with_member_too}
 use Rattle.repo_top.specs.Progressing.{mirrors_in, standing_keys}
 use Rattle.repo_top.proofs.MirrorWorlds.{begin_again}
 use Rattle.repo_top.proofs.progress.Standing.add_member.Goals as goal

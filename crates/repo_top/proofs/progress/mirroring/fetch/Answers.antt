@@ -7,7 +7,7 @@ use Rattle.repo_mirror.specs.TrueMirrors.{IsTrueMirror}
 use Rattle.bench_world.specs.MirrorSteps.{mirror_at, no_mirror}
 use Rattle.bench_world.specs.MirrorSteps as steps
 use Rattle.bench_world.specs.Worlds.{GroupState, world_of}
-use Rattle.repo_top.specs.Mirrors.{Mirroring, asked_by, attempts_made, gets, mirror_as, mirror_fetches, mirror_of}
+use Rattle.script_story.specs.Mirrors.{Mirroring, asked_by, attempts_made, gets, mirror_as, mirror_fetches, mirror_of}
 use Rattle.repo_top.proofs.MirrorWorlds.{asked_as, at_as, fetched_as, gets_as, made_as, set_again, set_as}
 use Rattle.repo_top.proofs.progress.mirroring.fetch.Goals as goal
 

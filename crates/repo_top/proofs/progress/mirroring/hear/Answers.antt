@@ -3,7 +3,7 @@ use Rattle.group_model.specs.World.{sent_at}
 use Rattle.repo_mirror.specs.MirrorState.{MirrorState}
 use Rattle.bench_world.specs.MirrorSteps.{mirror_at, mirror_learns}
 use Rattle.bench_world.specs.Worlds.{GroupState, world_of}
-use Rattle.repo_top.specs.Mirrors.{mirror_as, mirror_hears, mirror_of}
+use Rattle.script_story.specs.Mirrors.{mirror_as, mirror_hears, mirror_of}
 use Rattle.repo_top.proofs.MirrorWorlds.{at_as, set_as}
 use Rattle.repo_top.proofs.progress.mirroring.hear.Goals as goal
 

@@ -1,8 +1,8 @@
 use Rattle.std.proofs.Common.{◌∙◌, ◌++◌, ℕ, List, ap, map, sym}
 use Rattle.std.specs.String.{string_bytes}
 use Rattle.bench_world.specs.Worlds.{world_of}
-use Rattle.repo_top.specs.Mirrors.{mirrored_entries}
-use Rattle.repo_top.specs.ToldTexts.{listing_text}
+use Rattle.script_story.specs.Mirrors.{mirrored_entries}
+use Rattle.script_story.specs.ToldTexts.{listing_text}
 use Rattle.repo_top.proofs.MirrorWorlds.{at_as}
 use Rattle.repo_top.proofs.progress.mirroring.list.Goals as goal
 

@@ -1,6 +1,6 @@
 use Rattle.bench_world.specs.MirrorSteps.{mirror_at}
 use Rattle.bench_world.specs.Worlds.{world_of}
-use Rattle.repo_top.specs.Mirrors.{mirror_settles}
+use Rattle.script_story.specs.Mirrors.{mirror_settles}
 use Rattle.repo_top.proofs.MirrorSettles.{settled_as}
 use Rattle.repo_top.proofs.MirrorWorlds.{all_as}
 use Rattle.repo_top.proofs.progress.mirroring.settle_mirrors.Goals as goal

@@ -4,7 +4,7 @@ use Rattle.repo_catalog.specs.declared.entry.Entry.{Entry}
 use Rattle.repo_watch.specs.Watching.{Watching, watch_of}
 use Rattle.group_model.specs.World.{catalogue_at}
 use Rattle.bench_world.specs.Worlds.{world_of}
-use Rattle.repo_top.specs.ToldTexts.{news_in, news_text}
+use Rattle.script_story.specs.ToldTexts.{news_in, news_text}
 use Rattle.repo_top.proofs.WatchLines.{all_there, copies_are, publishers_are, same_at}
 use Rattle.repo_top.proofs.progress.watching.tell_news.Goals as goal
 

@@ -1,6 +1,6 @@
 use Rattle.std.proofs.Common.{◌+◌, ◌<◌, subst, take, length, List, ℕ}
 use Rattle.repo_io.specs.Outside.{GainsText}
-use Rattle.repo_top.specs.Judging.{given_by}
+use Rattle.script_story.specs.Judging.{given_by}
 use Rattle.repo_top.specs.Carrying.{Halts, reached}
 use Rattle.repo_top.proofs.Stops.{stops_halted, stops_unwritten}
 use Rattle.repo_top.proofs.script.Script.carry_out.Goals as goal

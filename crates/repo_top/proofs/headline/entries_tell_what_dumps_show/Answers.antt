@@ -1,5 +1,0 @@
-use Rattle.repo_top.proofs.HeadlineChecks.{entries_tell_of_dumped}
-use Rattle.repo_top.proofs.headline.entries_tell_what_dumps_show.Goals as goal
-
-pub returns : goal.returns
-returns c = entries_tell_of_dumped

@@ -1,9 +1,0 @@
-use Rattle.repo_top.proofs.HeadlineCatalogues.{prints_catalogues}
-use Rattle.repo_top.proofs.HeadlineSettles.{prints_later}
-use Rattle.repo_top.proofs.headline.printed_catalogues_list_what_is_held.Goals as goal
-
-pub returns-clause-held : goal.returns-clause-held
-returns-clause-held c = prints_catalogues
-
-pub returns-clause-later : goal.returns-clause-later
-returns-clause-later c = prints_later

@@ -1,9 +1,0 @@
-use Rattle.repo_top.proofs.HeadlineNames.{reports_tell_of_members}
-use Rattle.repo_top.proofs.headline.printed_labels_are_declared.Goals as goal
-use Rattle.script_report.proofs.LabelLemmas.{members_have_labels}
-
-pub returns-clause-reports : goal.returns-clause-reports
-returns-clause-reports c = reports_tell_of_members
-
-pub returns-clause-labels : goal.returns-clause-labels
-returns-clause-labels c = members_have_labels

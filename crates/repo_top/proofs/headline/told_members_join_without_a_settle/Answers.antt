@@ -1,5 +1,0 @@
-use Rattle.repo_top.proofs.HeadlineListings.{told_members_join}
-use Rattle.repo_top.proofs.headline.told_members_join_without_a_settle.Goals as goal
-
-pub returns : goal.returns
-returns c = told_members_join

@@ -1,0 +1,260 @@
+-- Only deletions hide publications.
+use Rattle.std.proofs.Common.{◌≡◌, ◌∙◌, ℕ, zero, suc, ◌<◌, Bool, true, false, cond, not, List, [], ◌∷◌, length}
+use Rattle.std.proofs.Common.{get_or, set, map, Option, Some, None, Result, Ok, refl, sym, ap, subst, arith}
+use Rattle.std.specs.List.{list_all}
+use Rattle.std.specs.Option.{IfSome}
+use Rattle.std.proofs.lemmas.Bool.{not-true}
+use Rattle.std.proofs.lemmas.List.{length-set}
+use Rattle.repo_plan.specs.declared.part.Part.{Part}
+use Rattle.svs_sync.specs.declared.fired.Fired.{Fired}
+use Rattle.svs_sync.specs.declared.fired.Fired.TheVariants.{Early, Quiet, Send}
+use Rattle.repo_object.specs.Objects.Post.{Offers, Withdraws}
+use Rattle.repo_process.specs.Processes.{BlockState, closed, object_of}
+use Rattle.repo_process.specs.Processes.BlockState.{Unknown, Already, Waiting, Whole}
+use Rattle.repo_command.specs.declared.command.Command.{Command}
+use Rattle.repo_command.specs.declared.command.Command.TheVariants.{Insert, Check, Delete}
+use Rattle.group_model.specs.Member.{Member}
+use Rattle.group_model.specs.Changes.{member_starts}
+use Rattle.group_model.specs.Events.{SyncInterest, Came, Event}
+use Rattle.group_model.specs.Events.Came.{Nothing, Its, Another}
+use Rattle.group_model.specs.World.{Outside, World, member, no_member, sent_at}
+use Rattle.group_model.specs.World.{with_member as world_with}
+use Rattle.group_model.specs.Steps.{after_block, after_came, after_claiming, after_command, after_deliver, after_event}
+use Rattle.group_model.specs.Steps.{after_fire, after_hear, after_publish, block_at, came_as, came_from, can_start}
+use Rattle.group_model.specs.Steps.{claim_at, tells_too_much, timer_at, to_claim, with_process_at}
+use Rattle.group_model.specs.Laws.{NothingHidden}
+use Rattle.group_model.proofs.Settles.{member_settled}
+use Rattle.sorted_lists.specs.Range.{numbers_from}
+use Rattle.repo_member.specs.Groups.{GroupKeys}
+use Rattle.script_lang.specs.declared.line_fault.LineFault.{LineFault}
+use Rattle.script_lang.specs.declared.verb.Verb.{Verb}
+use Rattle.script_lang.specs.declared.verb.Verb.TheVariants as verb
+use Rattle.script_lang.specs.Kinds.{Value, Text, Number, Named, Octets}
+use Rattle.script_lang.specs.Forms.{Stated}
+use Rattle.script_lang.specs.Lines.{line_of}
+use Rattle.script_lang.specs.Checking.{Declared}
+use Rattle.script_lang.proofs.Conditions.{and_left, and_right}
+use Rattle.bench_world.specs.EventValues.{EventValue, group_event}
+use Rattle.script_story.specs.SaidEvents.{said_by, said_event}
+use Rattle.script_story.specs.Judging.{Given, State, found_world, outside_of}
+use Rattle.script_story.specs.Story.{Reached, nothing_reached}
+use Rattle.script_story.specs.Headline.{LinesAreTaken, HidesByDeletionAlone, deletes, deletes_nothing, group_at}
+use Rattle.script_story.proofs.HeadlineGroups.{IsSoundState, opened, sound_beginning, sound_line}
+use Rattle.script_story.proofs.LinesTaken.{LineTaken, taken_line}
+use Rattle.script_story.proofs.HeadlineEvents.{LineSteps, declares, line_steps, mirrors, steps, still, watches}
+
+-- ---- events
+
+-- Each member hides what it hid.
+abbrev HidesAsBefore : World → World → Type 0
+HidesAsBefore w new = (j : ℕ) → j < length w.members → (member new j).hidden ≡ (member w j).hidden
+
+hidden_set : (ms : List Member) (i : ℕ) (m : Member) → m.hidden ≡ (get_or ms i no_member).hidden → (j : ℕ)
+    → (get_or (set ms i m) j no_member).hidden ≡ (get_or ms j no_member).hidden
+hidden_set [] i m h j = refl
+hidden_set (x ∷ xs) zero m h zero = h
+hidden_set (x ∷ xs) zero m h (suc j) = refl
+hidden_set (x ∷ xs) (suc i) m h zero = refl
+hidden_set (x ∷ xs) (suc i) m h (suc j) = hidden_set xs i m h j
+
+-- one member changes, which hides what it hid
+one : (w new : World) (i : ℕ) (m : Member) → new.members ≡ set w.members i m → m.hidden ≡ (member w i).hidden
+    → HidesAsBefore w new
+one w new i m is h j inside =
+    ap (λ (ms : List Member). (get_or ms j no_member).hidden) is ∙ hidden_set w.members i m h j
+
+none_changes : (w new : World) → new.members ≡ w.members → HidesAsBefore w new
+none_changes w new is j inside = ap (λ (ms : List Member). (get_or ms j no_member).hidden) is
+
+claiming : (w : World) (j f : ℕ) (c : Option Part) → HidesAsBefore w (after_claiming w j f c)
+claiming w j f None = none_changes w w refl
+claiming w j f (Some t) = one w (after_claiming w j f (Some t)) j _ refl refl
+
+coming : (out : Outside) (w v : World) (j f : ℕ) (c : Option Part) (came : Came) → v.members ≡ w.members
+    → HidesAsBefore w (after_came out v j f c came)
+coming out w v j f None came is = none_changes w v is
+coming out w v j f (Some t) Nothing is = none_changes w v is
+coming out w v j f (Some t) Its is = λ i inside.
+    one v (after_came out v j f (Some t) Its) j _ refl refl i
+    (subst (λ (ms : List Member). i < length ms) (sym is) inside)
+    ∙ none_changes w v is i inside
+coming out w v j f (Some t) Another is = λ i inside.
+    one v (after_came out v j f (Some t) Another) j _ refl refl i
+    (subst (λ (ms : List Member). i < length ms) (sym is) inside)
+    ∙ none_changes w v is i inside
+
+firing : (out : Outside) (w : World) (j : ℕ) (f : Fired) → HidesAsBefore w (after_fire out w j f)
+firing out w j Early = none_changes w w refl
+firing out w j Quiet = one w (after_fire out w j Quiet) j _ refl refl
+firing out w j Send = one w (after_fire out w j Send) j _ refl refl
+
+delivering : (out : Outside) (w : World) (j : ℕ) (told : List ℕ) → HidesAsBefore w (after_deliver out w j told)
+delivering out w j told = one w (after_deliver out w j told) j _ refl refl
+
+hearing : (out : Outside) (w : World) (j : ℕ) (read : Option SyncInterest) → HidesAsBefore w (after_hear out w j read)
+hearing out w j None = none_changes w w refl
+hearing out w j (Some sync) = go (tells_too_much w j sync) where
+  go : (b : Bool) → HidesAsBefore w (cond b w (after_deliver out w j sync.vector))
+  go true = none_changes w w refl
+  go false = delivering out w j sync.vector
+
+-- A command that deletes nothing.
+abbrev IsNoDeletion : Command → Type 0
+IsNoDeletion (Insert name first last) = Unit {0}
+IsNoDeletion (Check process) = Unit {0}
+IsNoDeletion (Delete name) = ⊥
+
+commanding : (w v : World) (j : ℕ) (command : Command) → v.members ≡ w.members → IsNoDeletion command
+    → HidesAsBefore w (after_command v j command)
+commanding w v j (Insert name first last) is spares = go (can_start (member v j)) where
+  go : (b : Bool) → HidesAsBefore w (cond b (world_with v j (member_starts name first last (member v j))) v)
+  go true = λ i inside.
+      one v (world_with v j (member_starts name first last (member v j))) j _ refl refl i
+      (subst (λ (ms : List Member). i < length ms) (sym is) inside)
+      ∙ none_changes w v is i inside
+  go false = none_changes w v is
+commanding w v j (Check process) is spares = none_changes w v is
+commanding w v j (Delete name) is spares = absurd spares
+
+blocking : (out : Outside) (w : World) (j process : ℕ) (state : BlockState)
+    → HidesAsBefore w (after_block out w j process state)
+blocking out w j process Unknown = none_changes w w refl
+blocking out w j process Already = none_changes w w refl
+blocking out w j process (Waiting p) = one w (with_process_at w j process p) j _ refl refl
+blocking out w j process (Whole p) = λ i inside.
+    let v : World = with_process_at w j process (closed p) in
+    let kept : length v.members ≡ length w.members = length-set w.members j _ in
+    one v (after_publish out v j (Offers (object_of p))) j _ refl refl i (omega (arith, kept, inside))
+    ∙ one w v j _ refl refl i inside
+
+-- An event that no member's deletion comes with.
+abbrev pub IsNoDeletionEvent : Event → Type 0
+IsNoDeletionEvent (Event.Order j read) = ⊥
+IsNoDeletionEvent (Event.Issue j client command) = IsNoDeletion command
+IsNoDeletionEvent _ = Unit {0}
+
+pub hides_as_before : (out : Outside) (w : World) (e : Event) → IsNoDeletionEvent e
+    → HidesAsBefore w (after_event out w e)
+hides_as_before out w (Event.Publish j o) spares = one w (after_publish out w j (Offers o)) j _ refl refl
+hides_as_before out w (Event.Withdraw j seq) spares = one w (after_publish out w j (Withdraws seq)) j _ refl refl
+hides_as_before out w (Event.Deliver k j) spares = delivering out w j (sent_at w k).vector
+hides_as_before out w (Event.Sync k) spares = none_changes w w refl
+hides_as_before out w (Event.Advance ms) spares = none_changes w (after_event out w (Event.Advance ms)) refl
+hides_as_before out w (Event.Fire j) spares = firing out w j (timer_at w j)
+hides_as_before out w (Event.Restart j) spares = one w (after_event out w (Event.Restart j)) j _ refl refl
+hides_as_before out w (Event.Vector j) spares = none_changes w w refl
+hides_as_before out w (Event.Catalogue j) spares = none_changes w w refl
+hides_as_before out w (Event.Claim j f) spares = claiming w j f (to_claim w j)
+hides_as_before out w (Event.Lose j f) spares = one w (after_event out w (Event.Lose j f)) j _ refl refl
+hides_as_before out w (Event.Answer j f q) spares =
+    coming out w _ j f (claim_at w j f) (came_from out w q (claim_at w j f)) refl
+hides_as_before out w (Event.Fetch j tries loss) spares =
+    one w (after_event out w (Event.Fetch j tries loss)) j _ refl refl
+hides_as_before out w Event.Settle spares = λ i inside. ap (λ (m : Member). m.hidden) (member_settled out w i inside)
+hides_as_before out w (Event.Dump j t) spares = none_changes w w refl
+hides_as_before out w (Event.Hear j read) spares = hearing out w j read
+hides_as_before out w (Event.Ask j find) spares = none_changes w w refl
+hides_as_before out w (Event.Feed j f read) spares =
+    coming out w w j f (claim_at w j f) (came_as w read (claim_at w j f)) refl
+hides_as_before out w (Event.Order j read) spares = absurd spares
+hides_as_before out w (Event.Issue j client command) spares = commanding w _ j command refl spares
+hides_as_before out w (Event.Block j process index content) spares =
+    blocking out w j process (block_at w j process index content)
+hides_as_before out w Event.Summary spares = none_changes w w refl
+hides_as_before out w Event.Traffic spares = none_changes w w refl
+
+-- ---- what lines state
+
+undeleting : (g : GroupKeys) (form : Verb) (d : Declared) (values : List Value) → deletes form ≡ false
+    → IfSome (said_by form d values) (λ e. IsNoDeletionEvent (group_event g e))
+undeleting g verb.Delete d values only = cc
+undeleting g verb.Order d values only = cc
+undeleting g verb.Publish d (Text m ∷ Named name ∷ Number size ∷ Octets content ∷ []) only = tt
+undeleting g verb.Withdraw d (Text m ∷ Number s ∷ []) only = tt
+undeleting g verb.Deliver d (Number k ∷ Text m ∷ []) only = tt
+undeleting g verb.Sync d (Number k ∷ []) only = tt
+undeleting g verb.Advance d (Number ms ∷ []) only = tt
+undeleting g verb.Fire d (Text m ∷ []) only = tt
+undeleting g verb.Restart d (Text m ∷ []) only = tt
+undeleting g verb.Vector d (Text m ∷ []) only = tt
+undeleting g verb.Catalogue d (Text m ∷ []) only = tt
+undeleting g verb.Claim d (Text m ∷ Number f ∷ []) only = tt
+undeleting g verb.Lose d (Text m ∷ Number f ∷ []) only = tt
+undeleting g verb.Answer d (Text m ∷ Number f ∷ Text q ∷ []) only = tt
+undeleting g verb.Fetch d (Text m ∷ Number workers ∷ Number tries ∷ Number loss ∷ []) only = tt
+undeleting g verb.Settle d (Number workers ∷ []) only = tt
+undeleting g verb.Dump d (Text m ∷ Text p ∷ Number s ∷ Number x ∷ []) only = tt
+undeleting g verb.Hear d (Text m ∷ Octets octets ∷ []) only = tt
+undeleting g verb.Ask d (Text m ∷ Octets octets ∷ []) only = tt
+undeleting g verb.Feed d (Text m ∷ Number f ∷ Octets octets ∷ []) only = tt
+undeleting g verb.Insert d (Text m ∷ Text client ∷ Named name ∷ Number first ∷ Number last ∷ []) only = tt
+undeleting g verb.Block d (Text m ∷ Number process ∷ Number index ∷ Octets content ∷ []) only = tt
+undeleting g verb.Status d (Text m ∷ Text client ∷ Number process ∷ []) only = tt
+undeleting g verb.Summary d [] only = tt
+undeleting g verb.Traffic d [] only = tt
+undeleting g form d values only = tt
+
+undeleting_some : (g : GroupKeys) (o : Option EventValue) (e : EventValue) → o ≡ Some e
+    → IfSome o (λ v. IsNoDeletionEvent (group_event g v)) → IsNoDeletionEvent (group_event g e)
+undeleting_some g o e is h =
+    let P : Option EventValue → Type 0 = λ x. IfSome x (λ v. IsNoDeletionEvent (group_event g v)) in subst P is h
+
+-- ---- lines
+
+-- Members that have nothing hide nothing.
+opening_hides : (f : ℕ → Member) (xs : List ℕ) (j : ℕ) → ((x : ℕ) → (f x).hidden ≡ [])
+    → (get_or (map f xs) j no_member).hidden ≡ []
+opening_hides f [] j each = refl
+opening_hides f (x ∷ xs) zero each = each x
+opening_hides f (x ∷ xs) (suc j) each = opening_hides f xs j each
+
+stated_keeps : (r : Result (Option Stated) LineFault) (stated : Stated) → r ≡ Ok (Some stated)
+    → deletes_nothing r ≡ true → deletes stated.verb ≡ false
+stated_keeps r stated is keeps =
+    let spares : not (deletes stated.verb) ≡ true = subst (λ x. deletes_nothing x ≡ true) is keeps in
+    not-true (deletes stated.verb) spares
+
+line_hides : (given : Given) (s : State) (line : List ℕ) (new : State) → IsSoundState given s → IsSoundState given new
+    → LineSteps given s line new → deletes_nothing (line_of line) ≡ true → NothingHidden (found_world given s)
+    → NothingHidden (found_world given new)
+line_hides given s line new sound sound_new (still same) keeps nothing_hidden j inside =
+    subst (λ (x : State). NothingHidden (found_world given x)) (sym same) nothing_hidden j inside
+line_hides given s line new sound sound_new (declares early none) keeps nothing_hidden j inside =
+    ap (λ (w : World). (member w j).hidden) (opened given new (sound_new.begun none))
+    ∙ opening_hides _ (numbers_from 0 (length new.keys.members.names)) j (λ x. refl)
+line_hides given s line new sound sound_new (watches beside) keeps nothing_hidden j inside =
+    subst NothingHidden (sym beside.leaves.group) nothing_hidden j inside
+line_hides given s line new sound sound_new (mirrors leaves same) keeps nothing_hidden j inside =
+    subst NothingHidden (sym leaves.group) nothing_hidden j inside
+line_hides given s line new sound sound_new (steps stated d e read said step) keeps nothing_hidden j inside =
+    let w : World = found_world given s in
+    let count : length new.declared.members ≡ length s.declared.members = ap length step.members in
+    let before : j < length w.members = omega (arith, inside, count, sound.many, sound_new.many) in
+    let only : deletes stated.verb ≡ false = stated_keeps (line_of line) stated read keeps in
+    let spares : IsNoDeletionEvent (group_event s.keys e) =
+    undeleting_some s.keys (said_event d stated) e said (undeleting s.keys stated.verb d stated.values only) in
+    ap (λ (x : World). (member x j).hidden) step.group
+    ∙ hides_as_before (outside_of given s.keys) w (group_event s.keys e) spares j before
+    ∙ nothing_hidden j before
+
+lines_hide : (given : Given) (r : Reached) (lines reports : List (List ℕ)) (last : Reached)
+    → LinesAreTaken given r lines reports last → list_all (λ line. deletes_nothing (line_of line)) lines ≡ true
+    → IsSoundState given r.state → NothingHidden (group_at given r) → NothingHidden (group_at given last)
+lines_hide given r [] [] last taken keep sound nothing_hidden =
+    subst (λ (x : Reached). NothingHidden (group_at given x)) (sym taken) nothing_hidden
+lines_hide given r [] (report ∷ reports) last taken keep sound nothing_hidden = absurd taken
+lines_hide given r (line ∷ lines) [] last taken keep sound nothing_hidden = absurd taken
+lines_hide given r (line ∷ lines) (report ∷ reports) last taken keep sound nothing_hidden =
+    let next : Reached = taken.0 in
+    let here : LineTaken given r.state line report next.state = taken_line given r line report next taken.1 in
+    let sound_next : IsSoundState given next.state =
+    sound_line given r.state line report next.state here sound in
+    lines_hide given next lines reports last taken.2 (and_right (deletes_nothing (line_of line)) _ keep) sound_next
+    (line_hides given r.state line next.state sound sound_next
+    (line_steps given r.state line report next.state here sound) (and_left (deletes_nothing (line_of line)) _ keep)
+    nothing_hidden)
+
+pub hides_by_deletion_alone : HidesByDeletionAlone
+hides_by_deletion_alone given lines reports r taken keep =
+    lines_hide given nothing_reached lines reports r taken keep (sound_beginning given)
+    (λ j inside. absurd (omega arith))

@@ -1,0 +1,125 @@
+-- What `mcatalogue` lines print over whole stories.
+use Rattle.std.proofs.Common.{◌≡◌, ◌∙◌, ℕ, zero, suc, ◌<◌, true, List, [], ◌∷◌, ◌++◌, length, map, filter, Some, refl}
+use Rattle.std.proofs.Common.{sym, ap, subst, arith}
+use Rattle.std.specs.List.{list_all}
+use Rattle.std.proofs.lemmas.Bool.{and_from}
+use Rattle.std.proofs.lemmas.List.{length-map}
+use Rattle.script_lang.specs.declared.verb.Verb.TheVariants as verb
+use Rattle.script_lang.specs.Kinds.{Text, Number}
+use Rattle.script_lang.specs.Forms.{Stated, said}
+use Rattle.script_lang.specs.Lines.{line_of}
+use Rattle.script_lang.specs.Checking.{Declared, is_mirror, party_label}
+use Rattle.script_lang.proofs.Conditions.{and_left}
+use Rattle.script_lang.proofs.Parties.{mirror-tells}
+use Rattle.group_model.specs.Publications.{join_of}
+use Rattle.group_model.specs.World.{World, logs}
+use Rattle.group_model.specs.Steps.{after_event}
+use Rattle.group_model.specs.Laws.{NothingHidden}
+use Rattle.mirror_model.specs.Mirrors.{is_entry_accepted}
+use Rattle.bench_world.specs.EventValues.{EventValue, group_event}
+use Rattle.script_story.specs.Mirrors.{Mirroring, mirror_of, mirror_settles, mirrored_entries}
+use Rattle.script_story.specs.MirrorLaws.{ListsOfMirror, MirrorsAreListed, MirrorsListTheirJoin}
+use Rattle.script_story.specs.SaidEvents.{mirror_number}
+use Rattle.script_story.specs.ToldTexts.{listing_text}
+use Rattle.script_story.specs.Judging.{Given, State, acted_by, found_world, outside_of}
+use Rattle.script_story.specs.Story.{Reached, nothing_reached}
+use Rattle.script_story.specs.Headline.{LineIsTaken, LinesAreTaken, Says, deletes_nothing, group_at, labels_at}
+use Rattle.script_story.proofs.Fitting.{mirror_placed, mirror_within}
+use Rattle.script_story.proofs.HeadlineLines.{each_is_taken}
+use Rattle.script_story.proofs.HeadlineTaken.{says_report}
+use Rattle.script_story.proofs.LinesTaken.{IsActed, StatedTaken, acts_so, stated_taken, taken_line}
+use Rattle.script_story.proofs.HeadlineGroups.{IsSoundState, event_line, sound_from_start}
+use Rattle.script_story.proofs.HeadlineDeletions.{hides_by_deletion_alone}
+use Rattle.script_story.proofs.HeadlineShown.{all_both}
+use Rattle.script_story.proofs.MirrorJoins.{settled_joins}
+
+-- ---- one line
+
+pub mirrors_are_listed : MirrorsAreListed
+mirrors_are_listed given lines reports r taken label report new l =
+    let s : State = r.state in
+    let sound : IsSoundState given s = sound_from_start given lines reports r taken in
+    let stated : Stated = said verb.Mcatalogue (Text label ∷ []) in
+    let t : StatedTaken given s stated report new.state =
+    stated_taken given s l.line report new.state stated l.stated (taken_line given r l.line report new l.taken) in
+    let event = event_line s.declared t.d stated t.after in
+    let members : t.d.members ≡ s.declared.members = ap (λ (x : Declared). x.members) event.is in
+    let mirrors : t.d.mirrors ≡ s.declared.mirrors = ap (λ (x : Declared). x.mirrors) event.is in
+    let known : is_mirror label s.declared.mirrors ≡ true =
+    and_left (is_mirror label s.declared.mirrors) _ event.known in
+    let there = mirror_within label s.declared.mirrors known in
+    record {
+      number = mirror_number label s.declared.mirrors;
+      there = omega (arith, there, sound.mirrored);
+      named = mirror-tells label s.declared.mirrors (Some (mirror_number label s.declared.mirrors))
+          (sym (mirror_placed label s.declared.mirrors known));
+      text = says_report report _ new.state _ t.is
+          ∙ (λ i. listing_text (map party_label (members i)) label
+          (mirrored_entries (group_at given r) (mirror_of s.mirrors (mirror_number label (mirrors i)))));
+    }
+
+-- ---- behind a settle
+
+settled_at : (f : Mirroring → Mirroring) (mirrors : List Mirroring) (i : ℕ) → i < length mirrors
+    → mirror_of (map f mirrors) i ≡ f (mirror_of mirrors i)
+settled_at f [] i there = absurd (omega (arith, there))
+settled_at f (m ∷ mirrors) zero there = refl
+settled_at f (m ∷ mirrors) (suc i) there = settled_at f mirrors i (omega (arith, there))
+
+-- Behind a `settle` line each mirror has settled in the group that is reached.
+settles_mirrors : (given : Given) (r : Reached) (settle : List ℕ) (workers : ℕ) (report : List ℕ) (new : Reached)
+    → Says settle (said verb.Settle (Number workers ∷ [])) → LineIsTaken given r settle report new
+    → new.state.mirrors ≡ map (mirror_settles (group_at given new)) r.state.mirrors
+unfolding acted_by
+settles_mirrors given r settle workers report new stated taken =
+    let s : State = r.state in
+    let t =
+    stated_taken given s settle report new.state (said verb.Settle (Number workers ∷ [])) stated
+    (taken_line given r settle report new taken) in
+    let e : EventValue = EventValue.Settle workers in
+    let w : World = after_event (outside_of given s.keys) (found_world given s) (group_event s.keys e) in
+    let acted : IsActed given s t.d e report new.state = acts_so given s t.d e report new.state t.is in
+    let group : group_at given new ≡ w = ap (found_world given) acted.next in
+    ap (λ (x : State). x.mirrors) acted.next ∙ ap (λ (x : World). map (mirror_settles x) s.mirrors) (sym group)
+
+joined_at : (given : Given) (r here : Reached) (number : ℕ) → r.state.mirrors
+    ≡ map (mirror_settles (group_at given r)) here.state.mirrors → number < length r.state.mirrors
+    → IsSoundState given r.state → NothingHidden (group_at given r)
+    → mirrored_entries (group_at given r) (mirror_of r.state.mirrors number)
+    ≡ filter (is_entry_accepted (mirror_of r.state.mirrors number).pattern) (join_of (logs (group_at given r)))
+joined_at given r here number settled there sound clear =
+    let w : World = group_at given r in
+    let old : Mirroring = mirror_of here.state.mirrors number in
+    let many : length r.state.mirrors ≡ length here.state.mirrors =
+    ap (λ (ms : List Mirroring). length ms) settled ∙ length-map here.state.mirrors (mirror_settles w) in
+    let is : mirror_of r.state.mirrors number ≡ mirror_settles w old =
+    ap (λ (ms : List Mirroring). mirror_of ms number) settled
+    ∙ settled_at (mirror_settles w) here.state.mirrors number (omega (arith, there, many)) in
+    subst (λ (m : Mirroring). mirrored_entries w m ≡ filter (is_entry_accepted m.pattern) (join_of (logs w))) (sym is)
+    (settled_joins w old sound.sound clear)
+
+none_behind : (given : Given) (new r : Reached) (later : List (List ℕ)) → LinesAreTaken given new [] later r → r ≡ new
+none_behind given new r [] taken = taken
+none_behind given new r (report ∷ later) taken = absurd taken
+
+pub mirrors_list_their_join : MirrorsListTheirJoin
+mirrors_list_their_join given before settle workers reports r taken kept settles label report new l =
+    let lines : List (List ℕ) = before ++ settle ∷ [] in
+    let listed : ListsOfMirror r label report (mirrored_entries (group_at given r)) =
+    mirrors_are_listed given lines reports r taken label report new l in
+    let amid = each_is_taken given nothing_reached before settle [] reports r taken in
+    let same : r ≡ amid.new = none_behind given amid.new r amid.later amid.behind_it in
+    let settled : r.state.mirrors ≡ map (mirror_settles (group_at given r)) amid.here.state.mirrors =
+    subst (λ (x : Reached). x.state.mirrors ≡ map (mirror_settles (group_at given x)) amid.here.state.mirrors)
+    (sym same) (settles_mirrors given amid.here settle workers amid.report amid.new settles amid.it) in
+    let no_deletion : list_all (λ line. deletes_nothing (line_of line)) lines ≡ true =
+    all_both before (settle ∷ []) kept
+    (and_from (deletes_nothing (line_of settle)) true (ap deletes_nothing settles) refl) in
+    record {
+      number = listed.number;
+      there = listed.there;
+      named = listed.named;
+      text = listed.text ∙ ap (listing_text (labels_at r) label) (joined_at given r amid.here listed.number settled
+          listed.there (sound_from_start given lines reports r taken)
+          (hides_by_deletion_alone given lines reports r taken no_deletion));
+    }

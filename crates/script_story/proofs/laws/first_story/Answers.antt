@@ -1,0 +1,28 @@
+use Rattle.std.proofs.Common.{refl}
+use Rattle.std.specs.Fmt.{digits}
+use Rattle.hex.specs.Hex.{decode_pairs, encode_with}
+use Rattle.sha2.specs.Sha256.{compress, digest_bytes, first_words, hash_after, rounds, schedule, sha256}
+use Rattle.ndn_tlv.specs.Spelling.{number}
+use Rattle.ndn_name.specs.Names.{encoding}
+use Rattle.ndn_name.specs.UriText.{behind_word, component_of_text, components_of_texts, cut_at, name_of_text}
+use Rattle.ndn_name.specs.UriText.{octets_of_digits, unescaped}
+use Rattle.repo_object.specs.Publication.{segment_packets_from}
+use Rattle.repo_object.specs.Records.{digests_among}
+use Rattle.svs_vector.specs.Vectors.{covers, join, join_all}
+use Rattle.svs_sync.specs.KeptVector.{after_all_kept, after_kept}
+use Rattle.svs_sync.specs.Suppression.{after_sync_event, after_sync_events}
+use Rattle.script_lang.specs.Kinds.{content_of, filled_of, hex_of, label_of, uri_of, numeral_of}
+use Rattle.script_lang.specs.Lines.{verb_named, values_of}
+use Rattle.script_report.specs.Texts.{entries_text, line, labelled_numbers, summary_text}
+use Rattle.repo_io.specs.Lines.{lines}
+use Rattle.script_story.specs.Judging.{acted, acted_by, judged, judged_line, line_taken}
+use Rattle.script_story.specs.Story.{story_from}
+use Rattle.script_story.proofs.laws.first_story.Goals as goal
+
+pub returns : goal.returns
+unfolding decode_pairs encode_with digits number encoding behind_word component_of_text components_of_texts cut_at
+    name_of_text octets_of_digits unescaped covers join join_all after_all_kept after_kept after_sync_event
+    after_sync_events content_of filled_of hex_of label_of uri_of numeral_of verb_named values_of entries_text line
+    labelled_numbers summary_text lines acted acted_by line_taken judged_line judged story_from sha256 digest_bytes
+    hash_after compress rounds schedule first_words segment_packets_from digests_among
+returns c = λ given. record { text_is = refl; ending_is = refl }

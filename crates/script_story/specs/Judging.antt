@@ -1,0 +1,319 @@
+-- What a line comes to, behind those before it.
+use Rattle.std.specs.Prelude.{◌≡◌, ◌≢◌, ◌↔◌, ℕ, ◌+◌, Bool, List, [], ◌∷◌, ◌++◌, map, length, slice_index_or}
+use Rattle.std.specs.Prelude.{slice_set, Option, Some, None, is_some, Result, Ok, Err, unwrap_or, nat_le}
+use Rattle.std.specs.Prelude.{if◌then◌else◌}
+use Rattle.script_lang.specs.declared.verb.Verb.{Verb}
+use Rattle.script_lang.specs.declared.verb.Verb.TheVariants as verb
+use Rattle.script_lang.specs.declared.line_fault.LineFault.{LineFault}
+use Rattle.script_lang.specs.declared.line_fault.LineFault.TheVariants as line_fault
+use Rattle.script_lang.specs.declared.check_fault.CheckFault.{CheckFault}
+use Rattle.script_lang.specs.declared.check_fault.CheckFault.TheVariants as check_fault
+use Rattle.ndn_name.specs.Names.{Component}
+use Rattle.script_lang.specs.Kinds.{Value, Text, Number, Named, Octets}
+use Rattle.script_lang.specs.Forms.{Stated}
+use Rattle.script_lang.specs.Lines.{line_of}
+use Rattle.script_lang.specs.Checking.{Declared, nothing_declared, after_line, party_label}
+use Rattle.script_report.specs.Texts.{mdeliver_text, mfetch_text, watch_text}
+use Rattle.repo_watch.specs.declared.pattern.Pattern.{Pattern}
+use Rattle.repo_watch.specs.Watching.{Watching, most_watchers, after_add, after_take, watch_of}
+use Rattle.group_model.specs.World.{World, Outside, catalogue_at, opening_world, sent_at}
+use Rattle.group_model.specs.Steps.{after_event}
+use Rattle.group_model.specs.Refusals as group
+use Rattle.repo_member.specs.Groups.{GroupKeys, no_nodes, with_node}
+use Rattle.bench_world.specs.Worlds.{drawing}
+use Rattle.bench_world.specs.Serving.{outside}
+use Rattle.bench_world.specs.EventValues.{EventValue, group_event, telling}
+use Rattle.script_report.specs.declared.refusal.Refusal.{Refusal}
+use Rattle.script_report.specs.declared.refusal.Refusal.TheVariants as refusal
+use Rattle.script_report.specs.Labels.{label_at}
+use Rattle.script_story.specs.Mirrors.{Mirroring, asked_by, attempts_made, gets, mirror_begins, mirror_fetches}
+use Rattle.script_story.specs.Mirrors.{mirror_hears, mirror_of, mirror_settles, mirrored_entries}
+use Rattle.script_story.specs.SaidEvents.{mirror_number, party_number, pattern_for, publisher_number, said_event}
+use Rattle.script_story.specs.ToldTexts.{listing_text, news_in, news_text, told_text}
+
+-- What no line says: the draws, and which attempts the network passes.
+pub record Given : Type 0 where
+  pub draw : ℕ → ℕ → ℕ
+  pub passes : ℕ → ℕ → ℕ → ℕ → ℕ → ℕ → Bool
+
+abbrev pub given_by : (ℕ → ℕ → ℕ) → (ℕ → ℕ → ℕ → ℕ → ℕ → ℕ → Bool) → Given
+given_by draw passes = record { draw = draw; passes = passes }
+
+-- What the lines so far came to: what they declared, the names and keys of the group, the group itself once there was
+-- an event, the watchers of each member, and the mirrors. No event of the group changes watchers, and a settle alone
+-- changes mirrors.
+pub record State : Type 0 where
+  pub declared : Declared
+  pub keys : GroupKeys
+  pub world : Option World
+  pub watchers : List (List Watching)
+  pub mirrors : List Mirroring
+
+abbrev pub no_group : GroupKeys
+no_group = record { name = []; members = no_nodes; clients = no_nodes }
+
+abbrev pub opening_state : State
+opening_state = record { declared = nothing_declared; keys = no_group; world = None; watchers = []; mirrors = [] }
+
+-- What a line comes to: it is refused; it brings what no member made; or it has a report, and others may follow. What
+-- is left is that no row here is for it: there is no such line.
+pub data Verdict : Type 0 where
+  refused : Refusal → Verdict
+  foreign : Verdict
+  says : (report : List ℕ) (next : State) → Verdict
+  unjudged : Verdict
+
+-- ---- events
+
+abbrev pub outside_of : Given → GroupKeys → Outside
+outside_of given keys = outside keys given.draw given.passes
+
+-- The world that an event finds: the members have nothing before the first.
+abbrev pub begun_world : (ℕ → ℕ → ℕ) → State → World
+begun_world draw s = unwrap_or s.world (opening_world (drawing draw) (length s.keys.members.names))
+
+abbrev pub found_world : Given → State → World
+found_world given s = begun_world given.draw s
+
+abbrev pub event_refused : group.Refusal → Verdict
+event_refused group.Refusal.NoSuchPacket = refused refusal.NoSuchPacket
+event_refused group.Refusal.FetcherBusy = refused refusal.FetcherBusy
+event_refused group.Refusal.FetcherIdle = refused refusal.FetcherIdle
+event_refused group.Refusal.NoSuchNumber = refused refusal.NoSuchNumber
+event_refused group.Refusal.NumbersSpent = refused refusal.NumbersSpent
+event_refused group.Refusal.Foreign = foreign
+
+-- Behind a settle each mirror gains what members hold. No other event changes them.
+abbrev pub mirrors_behind : World → EventValue → List Mirroring → List Mirroring
+mirrors_behind w (EventValue.Settle workers) mirrors = map (mirror_settles w) mirrors
+mirrors_behind w e mirrors = mirrors
+
+-- An event that is taken is a step of the group, and its report is what is told of it.
+abbrev pub stepped : Outside → State → Declared → World → EventValue → Option group.Refusal → Verdict
+stepped out s d w e (Some why) = event_refused why
+stepped out s d w e None = says (told_text (map party_label d.members) (telling s.keys out w e)) (record {
+  declared = d;
+  keys = s.keys;
+  world = Some (after_event out w (group_event s.keys e));
+  watchers = s.watchers;
+  mirrors = mirrors_behind (after_event out w (group_event s.keys e)) e s.mirrors;
+})
+
+-- The event is carried out where the lines declare so much.
+unfoldable pub acted : Given → State → Declared → EventValue → Verdict
+acted given s d e = stepped (outside_of given s.keys) s d (found_world given s) e
+    (group.refusal (outside_of given s.keys) (found_world given s) (group_event s.keys e))
+
+-- ---- watchers
+
+-- The watchers of a member.
+abbrev pub watchers_of : List (List Watching) → ℕ → List Watching
+watchers_of all m = slice_index_or all m []
+
+abbrev pub watchers_at : State → ℕ → List Watching
+watchers_at s m = watchers_of s.watchers m
+
+-- A member has these watchers from now on. The line is an event, and so there is a world behind it.
+abbrev pub with_watchers : World → State → Declared → ℕ → List Watching → State
+with_watchers w s d m watchers = record {
+  declared = d;
+  keys = s.keys;
+  world = Some w;
+  watchers = slice_set s.watchers m watchers;
+  mirrors = s.mirrors;
+}
+
+-- A member gets one watcher more, which counts as told what the member lists. The 17th is refused.
+abbrev pub watched : World → State → Declared → ℕ → Pattern → Verdict
+watched w s d m pattern =
+    if nat_le most_watchers (length (watchers_at s m)) then refused refusal.Limit
+    else says (watch_text (label_at (map party_label d.members) m) (length (watchers_at s m) + 1))
+    (with_watchers w s d m (after_add pattern (catalogue_at w m) (watchers_at s m)))
+
+-- The watcher of a number is told what the member lists that it asks for and was not told. There has to be one.
+abbrev pub told_at : World → State → Declared → ℕ → ℕ → Verdict
+told_at w s d m number =
+    if is_some (watch_of number (watchers_at s m))
+    then says (news_text (map party_label d.members) m number
+    (news_in (watch_of number (watchers_at s m)) (catalogue_at w m)))
+    (with_watchers w s d m (after_take number (catalogue_at w m) (watchers_at s m)))
+    else refused refusal.NoSuchWatch
+
+abbrev pub watched_by : World → State → Declared → List Value → Verdict
+watched_by w s d (Text m ∷ publisher ∷ Named prefix ∷ []) =
+    watched w s d (party_number m d.members) (pattern_for (publisher_number d publisher) prefix)
+watched_by w s d _ = unjudged
+
+abbrev pub told_by : World → State → Declared → List Value → Verdict
+told_by w s d (Text m ∷ Number number ∷ []) = told_at w s d (party_number m d.members) number
+told_by w s d _ = unjudged
+
+-- ---- mirrors
+
+-- Mirrors are so from now on. The line is an event, and so there is a world behind it.
+abbrev pub with_mirrors : World → State → Declared → List Mirroring → State
+with_mirrors w s d mirrors =
+    record { declared = d; keys = s.keys; world = Some w; watchers = s.watchers; mirrors = mirrors }
+
+abbrev pub with_mirror : World → State → Declared → ℕ → Mirroring → State
+with_mirror w s d i m = with_mirrors w s d (slice_set s.mirrors i m)
+
+-- A mirror hears the sync Interest of a number, if it was sent.
+abbrev pub heard_if : Option group.Refusal → World → State → Declared → ℕ → ℕ → List ℕ → Verdict
+heard_if (Some why) w s d k i label = event_refused why
+heard_if None w s d k i label = says (mdeliver_text k label)
+    (with_mirror w s d i (mirror_hears (sent_at w k).vector (mirror_of s.mirrors i)))
+
+abbrev pub mirror_heard : World → State → Declared → ℕ → ℕ → List ℕ → Verdict
+mirror_heard w s d k i label = heard_if (group.unless_sent w k) w s d k i label
+
+-- A mirror fetches of members what it wants.
+abbrev pub mirror_fetched : Given → World → State → Declared → ℕ → List ℕ → (tries loss : ℕ) → Verdict
+mirror_fetched given w s d i label tries loss = says
+    (mfetch_text label (length (asked_by w (mirror_of s.mirrors i)))
+    (length (gets given.passes w i tries loss (mirror_of s.mirrors i)))
+    (attempts_made given.passes w i tries loss (mirror_of s.mirrors i)))
+    (with_mirror w s d i (mirror_fetches given.passes w i tries loss (mirror_of s.mirrors i)))
+
+-- A mirror's catalogue is listed.
+abbrev pub mirror_listed : World → State → Declared → ℕ → List ℕ → Verdict
+mirror_listed w s d i label = says
+    (listing_text (map party_label d.members) label (mirrored_entries w (mirror_of s.mirrors i)))
+    (with_mirrors w s d s.mirrors)
+
+abbrev pub heard_by : World → State → Declared → List Value → Verdict
+heard_by w s d (Number k ∷ Text l ∷ []) = mirror_heard w s d k (mirror_number l d.mirrors) l
+heard_by w s d _ = unjudged
+
+abbrev pub fetched_by : Given → World → State → Declared → List Value → Verdict
+fetched_by given w s d (Text l ∷ Number workers ∷ Number tries ∷ Number loss ∷ []) =
+    mirror_fetched given w s d (mirror_number l d.mirrors) l tries loss
+fetched_by given w s d _ = unjudged
+
+abbrev pub listed_by : World → State → Declared → List Value → Verdict
+listed_by w s d (Text l ∷ []) = mirror_listed w s d (mirror_number l d.mirrors) l
+listed_by w s d _ = unjudged
+
+-- ---- lines
+
+-- A group of this name that nobody is in.
+abbrev pub group_named : List Component → GroupKeys
+group_named name = record { name = name; members = no_nodes; clients = no_nodes }
+
+-- One member more, or one client more.
+abbrev pub with_member_too : List Component → List ℕ → GroupKeys → GroupKeys
+with_member_too node key keys = record keys { members = with_node node key keys.members }
+
+abbrev pub with_client_too : List Component → List ℕ → GroupKeys → GroupKeys
+with_client_too node key keys = record keys { clients = with_node node key keys.clients }
+
+abbrev pub with_group : State → Declared → List Value → Verdict
+with_group s d (Named name ∷ []) =
+    says [] (record {
+      declared = d;
+      keys = group_named name;
+      world = s.world;
+      watchers = s.watchers;
+      mirrors = s.mirrors;
+    })
+with_group s d _ = unjudged
+
+-- The mirrors so far, in a group of these members, before anything has happened.
+abbrev pub mirrors_begin : GroupKeys → List Mirroring → List Mirroring
+mirrors_begin keys mirrors = map (λ m. mirror_begins (length keys.members.names) m.pattern) mirrors
+
+abbrev pub declaring_member : State → Declared → List Value → Verdict
+declaring_member s d (Text label ∷ Named node ∷ Octets key ∷ []) = says [] (record {
+  declared = d;
+  keys = with_member_too node key s.keys;
+  world = s.world;
+  watchers = s.watchers ++ [] ∷ [];
+  mirrors = mirrors_begin (with_member_too node key s.keys) s.mirrors;
+})
+declaring_member s d _ = unjudged
+
+abbrev pub with_client : State → Declared → List Value → Verdict
+with_client s d (Text label ∷ Named node ∷ Octets key ∷ []) =
+    says [] (record {
+      declared = d;
+      keys = with_client_too node key s.keys;
+      world = s.world;
+      watchers = s.watchers;
+      mirrors = s.mirrors;
+    })
+with_client s d _ = unjudged
+
+abbrev pub declaring_mirror : State → Declared → List Value → Verdict
+declaring_mirror s d (Text label ∷ publisher ∷ Named prefix ∷ []) = says [] (record {
+  declared = d;
+  keys = s.keys;
+  world = s.world;
+  watchers = s.watchers;
+  mirrors = s.mirrors
+      ++ mirror_begins (length s.keys.members.names) (pattern_for (publisher_number d publisher) prefix) ∷ [];
+})
+declaring_mirror s d _ = unjudged
+
+abbrev pub acted_if : Given → State → Declared → Option EventValue → Verdict
+acted_if given s d (Some e) = acted given s d e
+acted_if given s d None = unjudged
+
+unfoldable pub acted_by : Given → State → Declared → Stated → Verdict
+acted_by given s d line = acted_if given s d (said_event d line)
+
+-- What a line does that nothing before it refuses.
+abbrev pub taken_by : Verb → Given → State → Declared → Stated → Verdict
+taken_by verb.Group given s d line = with_group s d line.values
+taken_by verb.Member given s d line = declaring_member s d line.values
+taken_by verb.Client given s d line = with_client s d line.values
+taken_by verb.Mirror given s d line = declaring_mirror s d line.values
+taken_by verb.Watch given s d line = watched_by (found_world given s) s d line.values
+taken_by verb.Told given s d line = told_by (found_world given s) s d line.values
+taken_by verb.Mdeliver given s d line = heard_by (found_world given s) s d line.values
+taken_by verb.Mfetch given s d line = fetched_by given (found_world given s) s d line.values
+taken_by verb.Mcatalogue given s d line = listed_by (found_world given s) s d line.values
+taken_by _ given s d line = acted_by given s d line
+
+unfoldable pub line_taken : Given → State → Declared → Stated → Verdict
+line_taken given s d line = taken_by line.verb given s d line
+
+abbrev pub check_refused : CheckFault → Verdict
+check_refused check_fault.NoGroup = refused refusal.NoGroup
+check_refused check_fault.Late = refused refusal.Late
+check_refused check_fault.UnknownLabel = refused refusal.UnknownLabel
+check_refused check_fault.Duplicate = refused refusal.Duplicate
+check_refused check_fault.Limit = refused refusal.Limit
+check_refused check_fault.TooLarge = refused refusal.TooLarge
+check_refused check_fault.NoMemory = unjudged
+
+abbrev pub checked : Given → State → Stated → Result Declared CheckFault → Verdict
+checked given s line (Ok d) = line_taken given s d line
+checked given s line (Err fault) = check_refused fault
+
+-- What a line comes to that octets are.
+unfoldable pub judged_line : Given → State → Stated → Verdict
+judged_line given s line = checked given s line (after_line s.declared line)
+
+-- What octets are that no line is: the order of the tests is that of reading, then of what was declared, then of
+-- the group.
+abbrev pub read : Given → State → Result (Option Stated) LineFault → Verdict
+read given s (Ok (Some line)) = judged_line given s line
+read given s (Ok None) = says [] s
+read given s (Err line_fault.Syntax) = refused refusal.Syntax
+read given s (Err line_fault.Limit) = refused refusal.Limit
+read given s (Err line_fault.NoMemory) = unjudged
+
+-- What the octets of a line come to, its line feed among them.
+unfoldable pub judged : Given → State → List ℕ → Verdict
+judged given s octets = read given s (line_of octets)
+
+-- ---- what is promised
+
+-- No line is left unjudged.
+abbrev pub EachLineIsJudged : Type 0
+EachLineIsJudged = (given : Given) (s : State) (octets : List ℕ) → judged given s octets ≢ unjudged
+
+-- Syntax is told of a line exactly where the grammar refuses it.
+abbrev pub SyntaxIsOfTheGrammar : Type 0
+SyntaxIsOfTheGrammar = (given : Given) (s : State) (octets : List ℕ)
+    → (judged given s octets ≡ refused refusal.Syntax) ↔ (line_of octets ≡ Err line_fault.Syntax)

@@ -1,0 +1,16 @@
+pub mod RefusalTexts
+pub mod ToldTexts
+pub mod SaidEvents
+pub mod Mirrors
+pub mod Judging
+pub mod Story
+pub mod Answers
+pub mod Headline
+pub mod ToldMembers
+pub mod Listings
+pub mod ListedDigests
+pub mod HeldPackets
+pub mod ShownCatalogues
+pub mod Workers
+pub mod Watchers
+pub mod MirrorLaws

@@ -1,0 +1,47 @@
+-- What `mcatalogue` lines print, over whole stories.
+use Rattle.std.specs.Prelude.{ℕ, ◌≡◌, ◌<◌, true, List, [], ◌∷◌, ◌++◌, length, filter, slice_get, Some}
+use Rattle.std.specs.List.{list_all}
+use Rattle.script_lang.specs.declared.verb.Verb.TheVariants as verb
+use Rattle.script_lang.specs.Kinds.{Text, Number}
+use Rattle.script_lang.specs.Forms.{said}
+use Rattle.script_lang.specs.Lines.{line_of}
+use Rattle.repo_catalog.specs.declared.entry.Entry.{Entry}
+use Rattle.group_model.specs.Publications.{join_of}
+use Rattle.group_model.specs.World.{logs}
+use Rattle.mirror_model.specs.Mirrors.{is_entry_accepted}
+use Rattle.script_story.specs.Mirrors.{Mirroring, mirror_of, mirrored_entries}
+use Rattle.script_story.specs.ToldTexts.{listing_text}
+use Rattle.script_story.specs.Judging.{Given}
+use Rattle.script_story.specs.Story.{Reached}
+use Rattle.script_story.specs.Headline.{AreTakenFirst, LineIsTaken, Says, deletes_nothing, group_at, labels_at}
+
+-- An `mcatalogue` line of this label that is taken.
+pub record IsMirrorLine (given : Given) (r : Reached) (label report : List ℕ) (new : Reached) : Type 0 where
+  pub line : List ℕ
+  pub stated : Says line (said verb.Mcatalogue (Text label ∷ []))
+  pub taken : LineIsTaken given r line report new
+
+-- The report lists these entries, which depend on the mirror with this label.
+pub record ListsOfMirror (r : Reached) (label report : List ℕ) (entries : Mirroring → List Entry) : Type 0 where
+  pub number : ℕ
+  pub there : number < length r.state.mirrors
+  pub named : slice_get r.state.declared.mirrors number ≡ Some label
+  pub text : report ≡ listing_text (labels_at r) label (entries (mirror_of r.state.mirrors number))
+
+-- An `mcatalogue` line prints exactly the objects that the mirror's pattern is for and of which it holds every part,
+-- and no withdrawal.
+abbrev pub MirrorsAreListed : Type 0
+MirrorsAreListed = (given : Given) (lines reports : List (List ℕ)) (r : Reached) → AreTakenFirst given lines reports r
+    → (label report : List ℕ) (new : Reached) → IsMirrorLine given r label report new
+    → ListsOfMirror r label report (mirrored_entries (group_at given r))
+
+-- Right behind a `settle` line, where no line can have deleted anything, these are just the objects of the join of all
+-- publications that the mirror's pattern is for.
+abbrev pub MirrorsListTheirJoin : Type 0
+MirrorsListTheirJoin = (given : Given) (before : List (List ℕ)) (settle : List ℕ) (workers : ℕ)
+    (reports : List (List ℕ)) (r : Reached) → AreTakenFirst given (before ++ settle ∷ []) reports r
+    → list_all (λ line. deletes_nothing (line_of line)) before ≡ true
+    → Says settle (said verb.Settle (Number workers ∷ []))
+    → (label report : List ℕ) (new : Reached) → IsMirrorLine given r label report new
+    → ListsOfMirror r label report
+    (λ (m : Mirroring). filter (is_entry_accepted m.pattern) (join_of (logs (group_at given r))))

@@ -1,0 +1,129 @@
+ghost use Rattle.std.specs.Prelude.{ℕ, List};
+ghost use Rattle.script_story.specs.Headline.{BeginsWithReports, EachIsTaken, HidesByDeletionAlone, IsToldBy};
+ghost use Rattle.script_story.specs.Headline.{PrintsCatalogues, PrintsLater, ReachSoundGroups, SettlesJoin};
+ghost use Rattle.script_story.specs.Headline.{TellingChangesNothing};
+ghost use Rattle.script_story.specs.HeldPackets.{EntriesTellOfDumped, MembersHoldChecked};
+ghost use Rattle.script_story.specs.Judging.{Given};
+ghost use Rattle.script_report.specs.Labels.{MembersHaveLabels};
+ghost use Rattle.repo_io.specs.Lines.{lines};
+ghost use Rattle.script_story.specs.Listings.{ListedStay, SettledListWhatIsHeld, SettledListWhatIsLeft};
+ghost use Rattle.script_story.specs.Listings.{ToldMembersJoin};
+ghost use Rattle.script_story.specs.ShownCatalogues.{CatalogueLinesShow, SettleLinesShow};
+ghost use Rattle.script_story.specs.Story.{nothing_reached, story_of};
+ghost use Rattle.script_story.specs.ToldMembers.{ReportsTellOfMembers};
+ghost use Rattle.script_story.specs.MirrorLaws.{MirrorsAreListed, MirrorsListTheirJoin};
+ghost use Rattle.script_story.specs.Watchers.{SettledAreTold, WatchersAreToldAll, WatchersAreToldOnce};
+ghost use Rattle.script_story.specs.Workers.{WorkersMakeNoDifference};
+
+/// The story of an input is told by its lines: the first of them are taken one after the other, their reports are its
+/// text, and the next line, if there is one, is refused or foreign. Each line that is taken has its report at its
+/// place. However the script goes on behind lines that are taken, its story begins with their reports.
+pub fn stories_are_their_lines()
+    ensures told { (given : Given) (input : List ℕ)
+        → IsToldBy given nothing_reached (lines input) (story_of given input) }
+    ensures each { EachIsTaken }
+    ensures begins { BeginsWithReports }
+{}
+
+/// Behind any lines that are taken the group is sound, its members are those that the lines declared, no two under one
+/// label, and what they published is within the limits of publications. Lines that only tell of the group, and those of
+/// watchers, leave it as it is.
+pub fn lines_reach_sound_groups()
+    ensures sound { ReachSoundGroups }
+    ensures unchanged { TellingChangesNothing }
+{}
+
+/// In every story a printed catalogue lists exactly the objects that the member published or wholly holds, undeleted
+/// and not known withdrawn, each once under its publisher and number, in order, with what it tells of the object. Until
+/// a line changes something the same is printed.
+pub fn printed_catalogues_list_what_is_held()
+    ensures held { PrintsCatalogues }
+    ensures later { PrintsLater }
+{}
+
+/// In every story each number of a member that a report is made of is that of a member that a line declared, whose
+/// label is printed.
+pub fn printed_labels_are_declared()
+    ensures reports { ReportsTellOfMembers }
+    ensures labels { MembersHaveLabels }
+{}
+
+/// Right after a `settle` line, where nothing is deleted, every member's catalogue is the join of all publications,
+/// less what was withdrawn, and `catalogue` lines print that until a line changes something. Nothing is deleted where
+/// no line was taken that can delete.
+pub fn a_settle_line_joins()
+    ensures joins { SettlesJoin }
+    ensures undeleted { HidesByDeletionAlone }
+{}
+
+/// Right after a `settle` line, whatever was deleted, each member lists exactly the objects of which the members held
+/// every part between them before it, that it hasn't deleted and of which it holds no withdrawal. These are the objects
+/// of the join of all publications that were held so and that it hasn't deleted.
+pub fn settled_catalogues_list_what_was_held()
+    ensures held { SettledListWhatIsHeld }
+    ensures left { SettledListWhatIsLeft }
+{}
+
+/// In every story what a member lists it lists from then on, with the same object, until it deletes it or holds the
+/// record of a withdrawal of it.
+pub fn listed_objects_stay_listed()
+    ensures { ListedStay }
+{}
+
+/// Where lines deliver to each member, for each other that published, a sync Interest that tells of its last
+/// publication, and in the end nothing is wanted or deleted, every member's catalogue is the join of all publications,
+/// and is printed so, without any `settle` line.
+pub fn told_members_join_without_a_settle()
+    ensures { ToldMembersJoin }
+{}
+
+/// In every story the packet of each part that a member holds passes for the want of that part: by its name, its
+/// publisher's key and signature, and for every part but a record its digest, which stands at its place in the
+/// publication's record or in the index packet that lists it.
+pub fn held_parts_passed_their_checks()
+    ensures { MembersHoldChecked }
+{}
+
+/// In every story each entry of a catalogue tells what the dumped segments of its publication have: their contents,
+/// joined, have the entry's number of octets, and their SHA-256 is its digest. Behind the record, which is part 0, come
+/// the index packets, one for each 200 segments where there are more than 200, and then the segments.
+pub fn entries_tell_what_dumps_show()
+    ensures { EntriesTellOfDumped }
+{}
+
+/// Where the story of an input is done and one of its lines says `catalogue` and a label, the text is the reports of
+/// the lines before it, then the entries of exactly the objects that the member published or wholly fetched and
+/// checked, undeleted and not known withdrawn, then the rest. Right after a `settle` line, where nothing was deleted,
+/// these are all objects that were published and not withdrawn.
+pub fn catalogue_lines_show_what_is_held()
+    ensures held { CatalogueLinesShow }
+    ensures settled { SettleLinesShow }
+{}
+
+/// In every story no two `told` lines of a watcher tell of one publication, whatever lines stand between them: also
+/// restarts, deletions and withdrawals.
+pub fn watchers_are_told_once()
+    ensures { WatchersAreToldOnce }
+{}
+
+/// In every story a `told` line leaves nothing untold of what the member lists and the watcher asks for, and it stays
+/// told. Right after a `settle` line, where no line was taken that can delete, that is everything that the watcher asks
+/// for in the join of all publications, less what was withdrawn.
+pub fn watchers_are_told_all()
+    ensures all { WatchersAreToldAll }
+    ensures settled { SettledAreTold }
+{}
+
+/// Two inputs that are read as the same lines, but for how many workers their `fetch`, `mfetch` and `settle` lines ask
+/// for, have the same story, where neither has more octets than a script may have.
+pub fn workers_make_no_difference()
+    ensures { WorkersMakeNoDifference }
+{}
+
+/// An `mcatalogue` line prints exactly the objects that the mirror's pattern is for, of which it holds every part and
+/// no withdrawal. Right behind a `settle` line, where no line was taken that can delete, that is what its pattern is
+/// for of the join of all publications.
+pub fn mirrors_list_what_they_ask_for()
+    ensures listed { MirrorsAreListed }
+    ensures joined { MirrorsListTheirJoin }
+{}
