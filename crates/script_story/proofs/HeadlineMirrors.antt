@@ -1,13 +1,10 @@
 -- What `mcatalogue` lines print over whole stories.
 use Rattle.std.proofs.Common.{◌≡◌, ◌∙◌, ℕ, zero, suc, ◌<◌, true, List, [], ◌∷◌, ◌++◌, length, map, filter, Some, refl}
 use Rattle.std.proofs.Common.{sym, ap, subst, arith}
-use Rattle.std.specs.List.{list_all}
-use Rattle.std.proofs.lemmas.Bool.{and_from}
 use Rattle.std.proofs.lemmas.List.{length-map}
 use Rattle.script_lang.specs.declared.verb.Verb.TheVariants as verb
 use Rattle.script_lang.specs.Kinds.{Text, Number}
 use Rattle.script_lang.specs.Forms.{Stated, said}
-use Rattle.script_lang.specs.Lines.{line_of}
 use Rattle.script_lang.specs.Checking.{Declared, is_mirror, party_label}
 use Rattle.script_lang.proofs.Conditions.{and_left}
 use Rattle.script_lang.proofs.Parties.{mirror-tells}
@@ -23,14 +20,16 @@ use Rattle.script_story.specs.SaidEvents.{mirror_number}
 use Rattle.script_story.specs.ToldTexts.{listing_text}
 use Rattle.script_story.specs.Judging.{Given, State, acted_by, found_world, outside_of}
 use Rattle.script_story.specs.Story.{Reached, nothing_reached}
-use Rattle.script_story.specs.Headline.{LineIsTaken, LinesAreTaken, Says, deletes_nothing, group_at, labels_at}
+use Rattle.script_story.specs.Headline.{IsSameGroup, LineIsTaken, Says, group_at, labels_at}
 use Rattle.script_story.proofs.Fitting.{mirror_placed, mirror_within}
 use Rattle.script_story.proofs.HeadlineLines.{each_is_taken}
 use Rattle.script_story.proofs.HeadlineTaken.{says_report}
 use Rattle.script_story.proofs.LinesTaken.{IsActed, StatedTaken, acts_so, stated_taken, taken_line}
 use Rattle.script_story.proofs.HeadlineGroups.{IsSoundState, event_line, sound_from_start}
 use Rattle.script_story.proofs.HeadlineDeletions.{hides_by_deletion_alone}
-use Rattle.script_story.proofs.HeadlineShown.{all_both}
+use Rattle.script_story.proofs.HeadlineSettles.{lines_tell}
+use Rattle.script_story.proofs.HeadlineShown.{none_deletes}
+use Rattle.script_story.proofs.MirrorsKept.{all_tell, lines_keep}
 use Rattle.script_story.proofs.MirrorJoins.{settled_joins}
 
 -- ---- one line
@@ -98,28 +97,25 @@ joined_at given r here number settled there sound clear =
     subst (λ (m : Mirroring). mirrored_entries w m ≡ filter (is_entry_accepted m.pattern) (join_of (logs w))) (sym is)
     (settled_joins w old sound.sound clear)
 
-none_behind : (given : Given) (new r : Reached) (later : List (List ℕ)) → LinesAreTaken given new [] later r → r ≡ new
-none_behind given new r [] taken = taken
-none_behind given new r (report ∷ later) taken = absurd taken
-
 pub mirrors_list_their_join : MirrorsListTheirJoin
-mirrors_list_their_join given before settle workers reports r taken kept settles label report new l =
-    let lines : List (List ℕ) = before ++ settle ∷ [] in
+mirrors_list_their_join given before settle workers between reports r taken kept settles shows label report new l =
+    let lines : List (List ℕ) = before ++ settle ∷ between in
     let listed : ListsOfMirror r label report (mirrored_entries (group_at given r)) =
     mirrors_are_listed given lines reports r taken label report new l in
-    let amid = each_is_taken given nothing_reached before settle [] reports r taken in
-    let same : r ≡ amid.new = none_behind given amid.new r amid.later amid.behind_it in
+    let amid = each_is_taken given nothing_reached before settle between reports r taken in
+    let tells = all_tell between shows in
+    let same : IsSameGroup given amid.new r =
+    lines_tell given amid.new between amid.later r amid.behind_it tells in
     let settled : r.state.mirrors ≡ map (mirror_settles (group_at given r)) amid.here.state.mirrors =
-    subst (λ (x : Reached). x.state.mirrors ≡ map (mirror_settles (group_at given x)) amid.here.state.mirrors)
-    (sym same) (settles_mirrors given amid.here settle workers amid.report amid.new settles amid.it) in
-    let no_deletion : list_all (λ line. deletes_nothing (line_of line)) lines ≡ true =
-    all_both before (settle ∷ []) kept
-    (and_from (deletes_nothing (line_of settle)) true (ap deletes_nothing settles) refl) in
+    lines_keep given amid.new between amid.later r amid.behind_it shows
+    ∙ settles_mirrors given amid.here settle workers amid.report amid.new settles amid.it
+    ∙ ap (λ (w : World). map (mirror_settles w) amid.here.state.mirrors) (sym same.group) in
     record {
       number = listed.number;
       there = listed.there;
       named = listed.named;
       text = listed.text ∙ ap (listing_text (labels_at r) label) (joined_at given r amid.here listed.number settled
           listed.there (sound_from_start given lines reports r taken)
-          (hides_by_deletion_alone given lines reports r taken no_deletion));
+          (hides_by_deletion_alone given lines reports r taken
+          (none_deletes before settle workers between kept settles tells)));
     }

@@ -20,5 +20,6 @@ pub mod HeadlineChecks
 pub mod HeadlineShown
 pub mod HeadlineWatchers
 pub mod MirrorJoins
+pub mod MirrorsKept
 pub mod HeadlineMirrors
 pub mod WorkerLaws

@@ -1,9 +1,12 @@
 -- What `mcatalogue` lines print, over whole stories.
-use Rattle.std.specs.Prelude.{ℕ, ◌≡◌, ◌<◌, true, List, [], ◌∷◌, ◌++◌, length, filter, slice_get, Some}
+use Rattle.std.specs.Prelude.{ℕ, ◌≡◌, ◌<◌, Bool, true, false, List, [], ◌∷◌, ◌++◌, length, filter, slice_get, Option}
+use Rattle.std.specs.Prelude.{Some, None, Result, Ok, Err}
 use Rattle.std.specs.List.{list_all}
+use Rattle.script_lang.specs.declared.line_fault.LineFault.{LineFault}
+use Rattle.script_lang.specs.declared.verb.Verb.{Verb}
 use Rattle.script_lang.specs.declared.verb.Verb.TheVariants as verb
 use Rattle.script_lang.specs.Kinds.{Text, Number}
-use Rattle.script_lang.specs.Forms.{said}
+use Rattle.script_lang.specs.Forms.{Stated, said}
 use Rattle.script_lang.specs.Lines.{line_of}
 use Rattle.repo_catalog.specs.declared.entry.Entry.{Entry}
 use Rattle.group_model.specs.Publications.{join_of}
@@ -14,6 +17,7 @@ use Rattle.script_story.specs.ToldTexts.{listing_text}
 use Rattle.script_story.specs.Judging.{Given}
 use Rattle.script_story.specs.Story.{Reached}
 use Rattle.script_story.specs.Headline.{AreTakenFirst, LineIsTaken, Says, deletes_nothing, group_at, labels_at}
+use Rattle.script_story.specs.Headline.{only_tells}
 
 -- An `mcatalogue` line of this label that is taken.
 pub record IsMirrorLine (given : Given) (r : Reached) (label report : List ℕ) (new : Reached) : Type 0 where
@@ -35,13 +39,26 @@ MirrorsAreListed = (given : Given) (lines reports : List (List ℕ)) (r : Reache
     → (label report : List ℕ) (new : Reached) → IsMirrorLine given r label report new
     → ListsOfMirror r label report (mirrored_entries (group_at given r))
 
--- Right behind a `settle` line, where no line can have deleted anything, these are just the objects of the join of all
--- publications that the mirror's pattern is for.
+-- These forms change nothing of the group, and nothing of its mirrors.
+abbrev pub only_shows : Verb → Bool
+only_shows verb.Mdeliver = false
+only_shows verb.Mfetch = false
+only_shows form = only_tells form
+
+-- So does a line that states nothing.
+abbrev pub shows_alone : Result (Option Stated) LineFault → Bool
+shows_alone (Ok None) = true
+shows_alone (Ok (Some stated)) = only_shows stated.verb
+shows_alone (Err fault) = false
+
+-- Behind a `settle` line, where no line before it can have deleted anything and the lines between change nothing of
+-- group and mirrors, these are just the objects of the join of all publications that the mirror's pattern is for.
 abbrev pub MirrorsListTheirJoin : Type 0
 MirrorsListTheirJoin = (given : Given) (before : List (List ℕ)) (settle : List ℕ) (workers : ℕ)
-    (reports : List (List ℕ)) (r : Reached) → AreTakenFirst given (before ++ settle ∷ []) reports r
+    (between reports : List (List ℕ)) (r : Reached) → AreTakenFirst given (before ++ settle ∷ between) reports r
     → list_all (λ line. deletes_nothing (line_of line)) before ≡ true
     → Says settle (said verb.Settle (Number workers ∷ []))
+    → list_all (λ line. shows_alone (line_of line)) between ≡ true
     → (label report : List ℕ) (new : Reached) → IsMirrorLine given r label report new
     → ListsOfMirror r label report
     (λ (m : Mirroring). filter (is_entry_accepted m.pattern) (join_of (logs (group_at given r))))

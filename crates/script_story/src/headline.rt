@@ -27,7 +27,7 @@ pub fn stories_are_their_lines()
 
 /// Behind any lines that are taken the group is sound, its members are those that the lines declared, no two under one
 /// label, and what they published is within the limits of publications. Lines that only tell of the group, and those of
-/// watchers, leave it as it is.
+/// watchers and of mirrors, leave it as it is.
 pub fn lines_reach_sound_groups()
     ensures sound { ReachSoundGroups }
     ensures unchanged { TellingChangesNothing }
@@ -121,8 +121,8 @@ pub fn workers_make_no_difference()
 {}
 
 /// An `mcatalogue` line prints exactly the objects that the mirror's pattern is for, of which it holds every part and
-/// no withdrawal. Right behind a `settle` line, where no line was taken that can delete, that is what its pattern is
-/// for of the join of all publications.
+/// no withdrawal. Behind a `settle` line, where no line was taken that can delete and those between change nothing of
+/// group and mirrors, that is what its pattern is for of the join of all publications.
 pub fn mirrors_list_what_they_ask_for()
     ensures listed { MirrorsAreListed }
     ensures joined { MirrorsListTheirJoin }
