@@ -8,7 +8,7 @@ use std::alloc::AllocError;
 ///
 /// `m` and `q` are numbers of members, `f` is a fetcher's, from 1 to 16, and `k` that of a packet that was sent, from
 /// 1.
-#[derive(Debug, Drop)]
+#[derive(Drop)]
 pub enum Event {
     /// A member publishes the content in segments of `size` octets.
     Publish {
@@ -141,7 +141,7 @@ pub enum Event {
 }
 
 /// What is told of an event.
-#[derive(Debug, Drop)]
+#[derive(Drop)]
 pub enum Happened {
     Publish {
         m: u32,
