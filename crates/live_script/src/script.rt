@@ -1,5 +1,5 @@
 ghost use Rattle.std.specs.Prelude.{◌≡◌, ◌<◌, ◌+◌, ◌∷◌, ◌++◌, ℕ, List, [], true, false, IfErr, IfNone, IfOk, IfSome};
-ghost use Rattle.std.specs.Prelude.{OnOk};
+ghost use Rattle.std.specs.Prelude.{None, OnOk, Some};
 ghost use Rattle.std.specs.Prelude.{length, map, string_bytes};
 ghost use Rattle.script_lang.specs.declared.verb.Verb.TheVariants as verb;
 ghost use Rattle.script_lang.specs.Forms.{said, stated};
@@ -27,11 +27,7 @@ use std::marker::Model;
 #[derive(Drop)]
 pub struct Script {
     alloc: Global,
-    words: Words,
-    // The labels of the members, and the objects of each.
-    labels: Vec<String>,
-    lists: Vec<Vec<Object>>,
-    group: Option<Group>,
+    draft: Draft,
     totals: Totals,
     // How many lines were taken, and how many octets they have.
     lines: u32,
@@ -49,17 +45,17 @@ impl Model for Script {
     ghost view = { λ s. record {
       lines = s.lines;
       octets = s.octets;
-      declared = s.words;
-      keys = group_keys s.group;
-      lists = map (λ l. l.items) s.lists.items;
+      declared = s.draft.words;
+      keys = group_keys s.draft.group;
+      lists = map (λ l. l.items) s.draft.lists.items;
     } };
 
-    ghost invariant = { λ s. IsKept (map string_bytes s.labels.items) s.group (totals_view s.totals) (record {
+    ghost invariant = { λ s. IsKept (map string_bytes s.draft.labels.items) s.draft.group (totals_view s.totals) (record {
       lines = s.lines;
       octets = s.octets;
-      declared = s.words;
-      keys = group_keys s.group;
-      lists = map (λ l. l.items) s.lists.items;
+      declared = s.draft.words;
+      keys = group_keys s.draft.group;
+      lists = map (λ l. l.items) s.draft.lists.items;
     }) };
 }
 
@@ -70,10 +66,12 @@ impl Script {
     {
         Script {
             alloc,
-            words: Words::new(alloc),
-            labels: Vec::new(alloc),
-            lists: Vec::new(alloc),
-            group: None,
+            draft: Draft {
+                words: Words::new(alloc),
+                labels: Vec::new(alloc),
+                lists: Vec::new(alloc),
+                group: None,
+            },
             totals: Totals::none(),
             lines: 0,
             octets: 0,
@@ -152,9 +150,9 @@ impl Script {
         ensures stopped { IfErr result (λ stop. (octets : List ℕ)
             → IsStop (judged_line self octets (stated line.now)) stop) }
     {
-        self.words.check(line)?;
+        self.draft.words.check(line)?;
         name.is_sound();
-        self.group = Some(Group::new(self.alloc, name)?);
+        self.draft.group = Some(Group::new(self.alloc, name)?);
         Ok(self)
     }
 
@@ -174,13 +172,18 @@ impl Script {
         ensures stopped { IfErr result (λ stop. (octets : List ℕ)
             → IsStop (judged_line self octets (stated line.now)) stop) }
     {
-        let Some(group) = &mut self.group else {
+        let Some(group) = &mut self.draft.group else {
             return Err(Stop::Refused(Refusal::NoGroup));
         };
-        self.words.check(line)?;
+        self.draft.words.check(line)?;
         node.is_sound();
         add_member(group, node, key)?;
-        add_list(self.alloc, &mut self.labels, &mut self.lists, label)?;
+        add_list(
+            self.alloc,
+            &mut self.draft.labels,
+            &mut self.draft.lists,
+            label,
+        )?;
         Ok(self)
     }
 
@@ -202,15 +205,15 @@ impl Script {
         ensures stopped { IfErr result (λ stop. (octets : List ℕ)
             → IsStop (judged_line self octets (stated line.now)) stop) }
     {
-        self.words.check(line)?;
+        self.draft.words.check(line)?;
         let object = object_of(self.alloc, name, size, content)?;
         let Some(totals) = self.totals.with(content.len(), object.contents().len()) else {
             return Err(Stop::Refused(Refusal::TooLarge));
         };
-        let Some(member) = self.words.member(m) else {
+        let Some(member) = self.draft.words.member(m) else {
             unreachable!()
         };
-        add_object(&mut self.lists, member as usize, object)?;
+        add_object(&mut self.draft.lists, member as usize, object)?;
         self.totals = totals;
         Ok(self)
     }
@@ -220,16 +223,51 @@ impl Script {
         ensures some { IfSome result (Gives self) }
         ensures none { IfNone result (GivesNobody self) }
     {
-        let Script {
+        let Script { draft, .. } = self;
+        let Some(members) = draft.into_members() else {
+            return None;
+        };
+        members.group.is_sound();
+        Some(members)
+    }
+}
+
+// The group as the lines so far make it. Where a line is refused it is dropped by one call, which is proved once, and
+// not field by field at each `?`.
+struct Draft {
+    words: Words,
+    // The labels of the members, and the objects of each.
+    labels: Vec<String>,
+    lists: Vec<Vec<Object>>,
+    group: Option<Group>,
+}
+
+impl Drop for Draft {
+    fn drop(self) {
+        let Draft {
+            words: _,
+            labels: _,
+            lists: _,
+            group: _,
+        } = self;
+    }
+}
+
+impl Draft {
+    fn into_members(self) -> Option<Members>
+        ensures some { IfSome result (λ members. (self.group ≡ Some members.group) × (self.labels ≡ members.labels)
+            × (self.lists ≡ members.lists)) }
+        ensures none { IfNone result (self.group ≡ None) }
+    {
+        let Draft {
             labels,
             lists,
             group,
-            ..
+            words: _,
         } = self;
         let Some(group) = group else {
             return None;
         };
-        group.is_sound();
         Some(Members {
             group,
             labels,

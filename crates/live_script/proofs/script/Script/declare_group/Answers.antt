@@ -17,10 +17,10 @@ new-requires c =
 
 pub invariant_of-self : goal.invariant_of-self
 invariant_of-self c =
-    let words = c.self.inside.words in
+    let words = c.self.inside.draft.words in
     let declares = group_declares words c.check.new.self c.args.name.now
     (subst (λ (s : Stated). after_line words s ≡ Ok c.check.new.self) c.requires.is c.in_ok-check.ensures.ok) in
-    rw c.in_ok-new.ensures (group_kept _ c.self.inside.group _ _ c.check.new.self c.args.name.now refl
+    rw c.in_ok-new.ensures (group_kept _ c.self.inside.draft.group _ _ c.check.new.self c.args.name.now refl
     c.self.invariant declares.0 declares.1)
 
 pub returns-clause-taken : goal.returns-clause-taken

@@ -37,7 +37,7 @@ add_member-requires-clause-key c =
 
 pub add_member-requires-clause-apart : goal.add_member-requires-clause-apart
 add_member-requires-clause-apart c =
-    let words = c.self.inside.words in
+    let words = c.self.inside.draft.words in
     let declares = member_declares words c.check.new.self c.args.label.now c.args.node.now c.args.key.now
     (subst (λ (s : Stated). after_line words s ≡ Ok c.check.new.self) c.requires.is c.in_ok-check.ensures.ok) in
     is_free words c.in-Some.group c.args.label.now c.args.node.now
@@ -47,7 +47,7 @@ add_member-requires-clause-apart c =
 
 pub add_member-requires-clause-few : goal.add_member-requires-clause-few
 add_member-requires-clause-few c =
-    let words = c.self.inside.words in
+    let words = c.self.inside.draft.words in
     let declares = member_declares words c.check.new.self c.args.label.now c.args.node.now c.args.key.now
     (subst (λ (s : Stated). after_line words s ≡ Ok c.check.new.self) c.requires.is c.in_ok-check.ensures.ok) in
     subst (λ n. n < 16) (sym (length-map words.members party_node)
@@ -74,18 +74,18 @@ returns-in_err-add_list-clause-stopped c =
 
 pub invariant_of-self : goal.invariant_of-self
 invariant_of-self c =
-    let words = c.self.inside.words in
+    let words = c.self.inside.draft.words in
     let declares = member_declares words c.check.new.self c.args.label.now c.args.node.now c.args.key.now
     (subst (λ (s : Stated). after_line words s ≡ Ok c.check.new.self) c.requires.is c.in_ok-check.ensures.ok) in
     let group : c.add_member.new.group ≡ with_member_too c.args.node.now c.args.key.now c.in-Some.group =
     c.in_ok-add_member.ensures.ok in
-    let kept = subst (λ (o : Option GroupKeys). IsKept (map string_bytes c.self.inside.labels.items) o
+    let kept = subst (λ (o : Option GroupKeys). IsKept (map string_bytes c.self.inside.draft.labels.items) o
     (totals_view c.self.inside.totals) (record {
       lines = c.self.inside.lines;
       octets = c.self.inside.octets;
       declared = words;
-      keys = group_keys c.self.inside.group;
-      lists = map (λ l. l.items) c.self.inside.lists.items;
+      keys = group_keys c.self.inside.draft.group;
+      lists = map (λ l. l.items) c.self.inside.draft.lists.items;
     })) c.in-Some.is c.self.invariant in
     rw (c.in_ok-add_list.ensures.labels, c.in_ok-add_list.ensures.lists, group)
     (member_kept _ c.in-Some.group _ _ c.check.new.self c.args.label.now c.args.node.now c.args.key.now

@@ -50,7 +50,7 @@ with-requires-clause-segments c = c.contents.ensures.few
 
 pub returns-in_default-clause-stopped : goal.returns-in_default-clause-stopped
 returns-in_default-clause-stopped c =
-    let words = c.self.inside.words in
+    let words = c.self.inside.draft.words in
     let d = c.check.new.self in
     let is = publication (stated c.args.line.now) c.args.m.now c.args.name.now c.args.size c.args.content.now
     c.requires.line c.requires.is in
@@ -58,7 +58,7 @@ returns-in_default-clause-stopped c =
     (subst (λ (s : Stated). after_line words s ≡ Ok d) c.requires.is c.in_ok-check.ensures.ok) in
     let count = sym (length-map c.contents.result.now (λ l. l.items))
     ∙ ap length (c.contents.ensures.same ∙ ap (λ (o : NamedContents). o.contents) c.in_ok-object.ensures.is) in
-    let few = is_few_as c.args.m.now c.args.name.now c.args.size c.args.content.now _ c.self.inside.group
+    let few = is_few_as c.args.m.now c.args.name.now c.args.size c.args.content.now _ c.self.inside.draft.group
     (totals_view c.self.inside.totals) _ d c.self.invariant declares is.some in
     publish_refused c.args.m.now c.args.name.now c.args.size c.args.content.now _ c.args.self (stated c.args.line.now) d
     c.self.view_is c.requires.is c.in_ok-check.ensures.ok
@@ -68,7 +68,7 @@ returns-in_default-clause-stopped c =
 
 pub unreachable-requires : goal.unreachable-requires
 unreachable-requires c =
-    let words = c.self.inside.words in
+    let words = c.self.inside.draft.words in
     let d = c.check.new.self in
     let declares = publish_declares c.args.m.now c.args.name.now c.args.size c.args.content.now words d
     (subst (λ (s : Stated). after_line words s ≡ Ok d) c.requires.is c.in_ok-check.ensures.ok) in
@@ -80,9 +80,9 @@ unreachable-unreachable c = absurd c.unreachable.type_inv
 
 pub add_object-requires : goal.add_object-requires
 add_object-requires c =
-    let words = c.self.inside.words in
+    let words = c.self.inside.draft.words in
     let d = c.check.new.self in
-    let view = map (λ l. l.items) c.self.inside.lists.items in
+    let view = map (λ l. l.items) c.self.inside.draft.lists.items in
     let totals = totals_view c.self.inside.totals in
     let is = publication (stated c.args.line.now) c.args.m.now c.args.name.now c.args.size c.args.content.now
     c.requires.line c.requires.is in
@@ -93,9 +93,9 @@ add_object-requires c =
     same_number c.member.result _ _ c.in-Some-member.is
     (c.member.ensures.value ∙ place_of_known c.args.m.now d.members known) in
     let wide : member_number c.args.m.now d.members < length view =
-    inside c.args.m.now c.args.name.now c.args.size c.args.content.now _ c.self.inside.group totals _ d
+    inside c.args.m.now c.args.name.now c.args.size c.args.content.now _ c.self.inside.draft.group totals _ d
     c.self.invariant declares is.some in
-    omega (arith, place, wide, length-map c.self.inside.lists.items (λ l. l.items))
+    omega (arith, place, wide, length-map c.self.inside.draft.lists.items (λ l. l.items))
 
 pub returns-in_err-add_object-clause-taken : goal.returns-in_err-add_object-clause-taken
 returns-in_err-add_object-clause-taken c =
@@ -108,9 +108,9 @@ returns-in_err-add_object-clause-stopped c =
 
 pub invariant_of-self : goal.invariant_of-self
 invariant_of-self c =
-    let words = c.self.inside.words in
+    let words = c.self.inside.draft.words in
     let d = c.check.new.self in
-    let view = map (λ l. l.items) c.self.inside.lists.items in
+    let view = map (λ l. l.items) c.self.inside.draft.lists.items in
     let totals = totals_view c.self.inside.totals in
     let is = publication (stated c.args.line.now) c.args.m.now c.args.name.now c.args.size c.args.content.now
     c.requires.line c.requires.is in
@@ -135,15 +135,15 @@ invariant_of-self c =
     let lists = gained
     ∙ ap (λ n. with_object n c.in_ok-object.object view) place
     ∙ ap (λ o. with_object (member_number c.args.m.now d.members) o view) object in
-    rw (lists, made) (publish_kept c.args.m.now c.args.name.now c.args.size c.args.content.now _ c.self.inside.group
+    rw (lists, made) (publish_kept c.args.m.now c.args.name.now c.args.size c.args.content.now _ c.self.inside.draft.group
     totals _ d c.self.invariant declares is.some (subst IsObject object c.in_ok-object.ensures.object)
     (subst (λ (t : TotalsView). are_few t ≡ true) made few))
 
 pub returns-clause-taken : goal.returns-clause-taken
 returns-clause-taken c =
-    let words = c.self.inside.words in
+    let words = c.self.inside.draft.words in
     let d = c.check.new.self in
-    let view = map (λ l. l.items) c.self.inside.lists.items in
+    let view = map (λ l. l.items) c.self.inside.draft.lists.items in
     let totals = totals_view c.self.inside.totals in
     let is = publication (stated c.args.line.now) c.args.m.now c.args.name.now c.args.size c.args.content.now
     c.requires.line c.requires.is in
@@ -168,7 +168,7 @@ returns-clause-taken c =
     let lists = gained
     ∙ ap (λ n. with_object n c.in_ok-object.object view) place
     ∙ ap (λ o. with_object (member_number c.args.m.now d.members) o view) object in
-    let fits = is_few_as c.args.m.now c.args.name.now c.args.size c.args.content.now _ c.self.inside.group totals _ d
+    let fits = is_few_as c.args.m.now c.args.name.now c.args.size c.args.content.now _ c.self.inside.draft.group totals _ d
     c.self.invariant declares is.some
     ∙ subst (λ (t : TotalsView). are_few t ≡ true) made few in
     publish_taken c.args.m.now c.args.name.now c.args.size c.args.content.now _ c.args.self (stated c.args.line.now) d
