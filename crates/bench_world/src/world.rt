@@ -27,7 +27,6 @@ use std::marker::Model;
 /// All members of a group and its mirrors, with what was sent between members, the moment, and what was counted.
 ///
 /// A step that is refused has changed nothing, want of memory included, but for that of a settle.
-#[derive(Drop)]
 pub struct World {
     alloc: Global,
     group: Group,
@@ -41,6 +40,26 @@ pub struct World {
     octets: u64,
     steps: u32,
     mirrors: Vec<Mirror>,
+}
+
+// A world is dropped by one call, which is proved once, and not field by field wherever one is left.
+impl Drop for World {
+    fn drop(self) {
+        let World {
+            alloc: _,
+            group: _,
+            members: _,
+            sent: _,
+            moment: _,
+            issued: _,
+            delivered: _,
+            attempts: _,
+            parts: _,
+            octets: _,
+            steps: _,
+            mirrors: _,
+        } = self;
+    }
 }
 
 // A world is seen as what its members are by themselves, and what was sent. What the group makes of that is `world_of`
