@@ -37,12 +37,20 @@ use std::mem;
 use std::thread::Threads;
 
 // Members and clients are declared behind the group, and events follow.
-#[derive(Drop)]
 pub(crate) enum Standing {
     Opening,
     // With what the mirrors ask for.
     Declaring(Group, Vec<Pattern>),
     Acting(World),
+}
+
+// It is dropped by one call, which is proved once, and not by its parts wherever another takes its place.
+impl Drop for Standing {
+    fn drop(self) {
+        match self {
+            Standing::Opening | Standing::Declaring(_, _) | Standing::Acting(_) => {}
+        }
+    }
 }
 
 // What the lines so far came to.
@@ -329,10 +337,7 @@ impl Progress {
         ensures mirrors { IfSome result (λ world. map mirror_as world.mirrors ≡ (progress_state self).mirrors) }
     {
         let Progress { standing, .. } = self;
-        match standing {
-            Standing::Acting(world) => Some(world),
-            _ => None,
-        }
+        standing.into_world()
     }
 }
 
@@ -425,6 +430,17 @@ impl Standing {
             Standing::Opening => unreachable!(),
             Standing::Declaring(group, patterns) => begin_world(alloc, group, patterns, draws),
             Standing::Acting(world) => Ok(world),
+        }
+    }
+
+    fn into_world(self) -> Option<World>
+        ensures world { option_map world_of result ≡ world_in self }
+        ensures keys { IfSome result (λ world. world.keys ≡ standing_keys self) }
+        ensures mirrors { IfSome result (λ world. map mirror_as world.mirrors ≡ mirrors_in self) }
+    {
+        match self {
+            Standing::Opening | Standing::Declaring(_, _) => None,
+            Standing::Acting(world) => Some(world),
         }
     }
 }
