@@ -50,13 +50,14 @@ impl Model for Script {
       lists = map (λ l. l.items) s.draft.lists.items;
     } };
 
-    ghost invariant = { λ s. IsKept (map string_bytes s.draft.labels.items) s.draft.group (totals_view s.totals) (record {
-      lines = s.lines;
-      octets = s.octets;
-      declared = s.draft.words;
-      keys = group_keys s.draft.group;
-      lists = map (λ l. l.items) s.draft.lists.items;
-    }) };
+    ghost invariant = { λ s. IsKept (map string_bytes s.draft.labels.items) s.draft.group
+        (totals_view s.totals) (record {
+          lines = s.lines;
+          octets = s.octets;
+          declared = s.draft.words;
+          keys = group_keys s.draft.group;
+          lists = map (λ l. l.items) s.draft.lists.items;
+        }) };
 }
 
 impl Script {

@@ -135,8 +135,9 @@ invariant_of-self c =
     let lists = gained
     ∙ ap (λ n. with_object n c.in_ok-object.object view) place
     ∙ ap (λ o. with_object (member_number c.args.m.now d.members) o view) object in
-    rw (lists, made) (publish_kept c.args.m.now c.args.name.now c.args.size c.args.content.now _ c.self.inside.draft.group
-    totals _ d c.self.invariant declares is.some (subst IsObject object c.in_ok-object.ensures.object)
+    rw (lists, made) (publish_kept c.args.m.now c.args.name.now c.args.size c.args.content.now _
+    c.self.inside.draft.group totals _ d c.self.invariant declares is.some
+    (subst IsObject object c.in_ok-object.ensures.object)
     (subst (λ (t : TotalsView). are_few t ≡ true) made few))
 
 pub returns-clause-taken : goal.returns-clause-taken
@@ -168,8 +169,8 @@ returns-clause-taken c =
     let lists = gained
     ∙ ap (λ n. with_object n c.in_ok-object.object view) place
     ∙ ap (λ o. with_object (member_number c.args.m.now d.members) o view) object in
-    let fits = is_few_as c.args.m.now c.args.name.now c.args.size c.args.content.now _ c.self.inside.draft.group totals _ d
-    c.self.invariant declares is.some
+    let fits = is_few_as c.args.m.now c.args.name.now c.args.size c.args.content.now _ c.self.inside.draft.group totals
+    _ d c.self.invariant declares is.some
     ∙ subst (λ (t : TotalsView). are_few t ≡ true) made few in
     publish_taken c.args.m.now c.args.name.now c.args.size c.args.content.now _ c.args.self (stated c.args.line.now) d
     (map (λ l. l.items) c.add_object.new.lists.items) c.self.view_is c.requires.is c.in_ok-check.ensures.ok lists
