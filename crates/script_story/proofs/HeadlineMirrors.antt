@@ -26,9 +26,7 @@ use Rattle.script_story.proofs.HeadlineLines.{each_is_taken}
 use Rattle.script_story.proofs.HeadlineTaken.{says_report}
 use Rattle.script_story.proofs.LinesTaken.{IsActed, StatedTaken, acts_so, stated_taken, taken_line}
 use Rattle.script_story.proofs.HeadlineGroups.{IsSoundState, event_line, sound_from_start}
-use Rattle.script_story.proofs.HeadlineDeletions.{hides_by_deletion_alone}
 use Rattle.script_story.proofs.HeadlineSettles.{lines_tell}
-use Rattle.script_story.proofs.HeadlineShown.{none_deletes}
 use Rattle.script_story.proofs.MirrorsKept.{all_tell, lines_keep}
 use Rattle.script_story.proofs.MirrorJoins.{settled_joins}
 
@@ -98,14 +96,13 @@ joined_at given r here number settled there sound clear =
     (settled_joins w old sound.sound clear)
 
 pub mirrors_list_their_join : MirrorsListTheirJoin
-mirrors_list_their_join given before settle workers between reports r taken kept settles shows label report new l =
+mirrors_list_their_join given before settle workers between reports r taken clear settles shows label report new l =
     let lines : List (List ℕ) = before ++ settle ∷ between in
     let listed : ListsOfMirror r label report (mirrored_entries (group_at given r)) =
     mirrors_are_listed given lines reports r taken label report new l in
     let amid = each_is_taken given nothing_reached before settle between reports r taken in
-    let tells = all_tell between shows in
     let same : IsSameGroup given amid.new r =
-    lines_tell given amid.new between amid.later r amid.behind_it tells in
+    lines_tell given amid.new between amid.later r amid.behind_it (all_tell between shows) in
     let settled : r.state.mirrors ≡ map (mirror_settles (group_at given r)) amid.here.state.mirrors =
     lines_keep given amid.new between amid.later r amid.behind_it shows
     ∙ settles_mirrors given amid.here settle workers amid.report amid.new settles amid.it
@@ -115,7 +112,5 @@ mirrors_list_their_join given before settle workers between reports r taken kept
       there = listed.there;
       named = listed.named;
       text = listed.text ∙ ap (listing_text (labels_at r) label) (joined_at given r amid.here listed.number settled
-          listed.there (sound_from_start given lines reports r taken)
-          (hides_by_deletion_alone given lines reports r taken
-          (none_deletes before settle workers between kept settles tells)));
+          listed.there (sound_from_start given lines reports r taken) clear);
     }

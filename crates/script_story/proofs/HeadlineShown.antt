@@ -117,16 +117,6 @@ settle_spares : (settle : List ℕ) (workers : ℕ) → Says settle (said verb.S
     → deletes_nothing (line_of settle) ≡ true
 settle_spares settle workers stated = ap deletes_nothing stated
 
--- None of these lines deletes.
-pub none_deletes : (before : List (List ℕ)) (settle : List ℕ) (workers : ℕ) (between : List (List ℕ))
-    → list_all (λ l. deletes_nothing (line_of l)) before ≡ true → Says settle (said verb.Settle (Number workers ∷ []))
-    → list_all (λ l. changes_nothing (line_of l)) between ≡ true
-    → list_all (λ l. deletes_nothing (line_of l)) (before ++ settle ∷ between) ≡ true
-none_deletes before settle workers between kept settles between_tells =
-    all_both before (settle ∷ between) kept
-    (and_from (deletes_nothing (line_of settle)) _ (settle_spares settle workers settles)
-    (all_spare between between_tells))
-
 -- Right after a `settle` line, where nothing can have been deleted, the catalogues are joined.
 pub joined_behind : (given : Given) (before : List (List ℕ)) (settle : List ℕ) (workers : ℕ)
     (between reports : List (List ℕ)) (r : Reached) → AreTakenFirst given (before ++ settle ∷ between) reports r
@@ -136,10 +126,13 @@ joined_behind given before settle workers between reports r taken kept settles b
     let amid = each_is_taken given nothing_reached before settle between reports r taken in
     let tells : IsSameGroup given amid.new r =
     lines_tell given amid.new between amid.later r amid.behind_it between_tells in
+    let no_deletion : list_all (λ l. deletes_nothing (line_of l)) (before ++ settle ∷ between) ≡ true =
+    all_both before (settle ∷ between) kept
+    (and_from (deletes_nothing (line_of settle)) _ (settle_spares settle workers settles)
+    (all_spare between between_tells)) in
     let hidden : NothingHidden (group_at given amid.new) =
     subst NothingHidden tells.group
-    (hides_by_deletion_alone given (before ++ settle ∷ between) reports r taken
-    (none_deletes before settle workers between kept settles between_tells)) in
+    (hides_by_deletion_alone given (before ++ settle ∷ between) reports r taken no_deletion) in
     let joined : IsJoined given amid.new =
     settles_join given before amid.told amid.here amid.before_it amid.report amid.new
     (record { line = settle; workers = workers; stated = settles; taken = amid.it }) hidden in

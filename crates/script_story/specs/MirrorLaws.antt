@@ -10,14 +10,14 @@ use Rattle.script_lang.specs.Forms.{Stated, said}
 use Rattle.script_lang.specs.Lines.{line_of}
 use Rattle.repo_catalog.specs.declared.entry.Entry.{Entry}
 use Rattle.group_model.specs.Publications.{join_of}
+use Rattle.group_model.specs.Laws.{NothingHidden}
 use Rattle.group_model.specs.World.{logs}
 use Rattle.mirror_model.specs.Mirrors.{is_entry_accepted}
 use Rattle.script_story.specs.Mirrors.{Mirroring, mirror_of, mirrored_entries}
 use Rattle.script_story.specs.ToldTexts.{listing_text}
 use Rattle.script_story.specs.Judging.{Given}
 use Rattle.script_story.specs.Story.{Reached}
-use Rattle.script_story.specs.Headline.{AreTakenFirst, LineIsTaken, Says, deletes_nothing, group_at, labels_at}
-use Rattle.script_story.specs.Headline.{only_tells}
+use Rattle.script_story.specs.Headline.{AreTakenFirst, LineIsTaken, Says, group_at, labels_at, only_tells}
 
 -- An `mcatalogue` line of this label that is taken.
 pub record IsMirrorLine (given : Given) (r : Reached) (label report : List ℕ) (new : Reached) : Type 0 where
@@ -51,13 +51,12 @@ shows_alone (Ok None) = true
 shows_alone (Ok (Some stated)) = only_shows stated.verb
 shows_alone (Err fault) = false
 
--- Behind a `settle` line, where no line before it can have deleted anything and the lines between change nothing of
--- group and mirrors, these are just the objects of the join of all publications that the mirror's pattern is for.
+-- Behind a `settle` line, where nothing is hidden and the lines between change nothing of group and mirrors, these are
+-- just the objects of the join of all publications that the mirror's pattern is for.
 abbrev pub MirrorsListTheirJoin : Type 0
 MirrorsListTheirJoin = (given : Given) (before : List (List ℕ)) (settle : List ℕ) (workers : ℕ)
     (between reports : List (List ℕ)) (r : Reached) → AreTakenFirst given (before ++ settle ∷ between) reports r
-    → list_all (λ line. deletes_nothing (line_of line)) before ≡ true
-    → Says settle (said verb.Settle (Number workers ∷ []))
+    → NothingHidden (group_at given r) → Says settle (said verb.Settle (Number workers ∷ []))
     → list_all (λ line. shows_alone (line_of line)) between ≡ true
     → (label report : List ℕ) (new : Reached) → IsMirrorLine given r label report new
     → ListsOfMirror r label report

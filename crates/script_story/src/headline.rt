@@ -121,8 +121,9 @@ pub fn workers_make_no_difference()
 {}
 
 /// An `mcatalogue` line prints exactly the objects that the mirror's pattern is for, of which it holds every part and
-/// no withdrawal. Behind a `settle` line, where no line was taken that can delete and those between change nothing of
-/// group and mirrors, that is what its pattern is for of the join of all publications.
+/// no withdrawal. Behind a `settle` line, where nothing is hidden and the lines between change nothing of group and
+/// mirrors, that is what its pattern is for of the join of all publications. Nothing is hidden where no line was taken
+/// that can delete: [`a_settle_line_joins`].
 pub fn mirrors_list_what_they_ask_for()
     ensures listed { MirrorsAreListed }
     ensures joined { MirrorsListTheirJoin }
