@@ -18,7 +18,6 @@ struct Packet {
 ///
 /// Each has its sender, the vector that it tells of, and its octets. It is found by number and by sender and vector, in
 /// a time that doesn't grow with the list.
-#[derive(Drop)]
 pub struct Sent {
     packets: Vec<Packet>,
     // Each vector that was told of, once.
@@ -26,6 +25,18 @@ pub struct Sent {
     // Who told of which, by the vector's number.
     told: IndexSet<(u32, usize)>,
     spare: usize,
+}
+
+// What was sent is dropped by one call, which is proved once, and not field by field wherever one is left.
+impl Drop for Sent {
+    fn drop(self) {
+        let Sent {
+            packets: _,
+            vectors: _,
+            told: _,
+            spare: _,
+        } = self;
+    }
 }
 
 // What was sent is seen as a list, beside the number of packets that there is room for.

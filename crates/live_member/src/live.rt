@@ -33,7 +33,6 @@ pub enum NextTold<L: Lists> {
 /// A member with a journal of at most `M` entries. Time stands still at 0, and every draw is the member's one value.
 ///
 /// Each call that changes something writes exactly its own entry; one that wants memory has changed nothing.
-#[derive(Drop)]
 pub struct Live<L: Lists, const M: u32> {
     number: u32,
     draw: u32,
@@ -41,6 +40,20 @@ pub struct Live<L: Lists, const M: u32> {
     journal: Vec<LiveEntry>,
     coming: VecDeque<Object>,
     of: PhantomData<L>,
+}
+
+// A member with its journal is dropped by one call, which is proved once, and not field by field wherever one is left.
+impl<L: Lists, const M: u32> Drop for Live<L, M> {
+    fn drop(self) {
+        let Live {
+            number: _,
+            draw: _,
+            member: _,
+            journal: _,
+            coming: _,
+            of: _,
+        } = self;
+    }
 }
 
 impl<L: Lists, const M: u32> Model for Live<L, M> {

@@ -26,7 +26,7 @@ const FEW: usize = 4;
 
 /// The objects that a member lists, in order of publisher and number, at most one for each pair of them, and room for
 /// more.
-#[derive(Debug, Drop)]
+#[derive(Debug)]
 pub struct Catalogue {
     entries: EntryRow,
     // Empty. Entries are set aside here while others take their places.
@@ -34,6 +34,19 @@ pub struct Catalogue {
     names: NameIndex,
     sums: Sums,
     spare: usize,
+}
+
+// A catalogue is dropped by one call, which is proved once, and not field by field wherever one is left.
+impl Drop for Catalogue {
+    fn drop(self) {
+        let Catalogue {
+            entries: _,
+            aside: _,
+            names: _,
+            sums: _,
+            spare: _,
+        } = self;
+    }
 }
 
 // A catalogue is seen as the list of its entries, beside the number of entries that there is room for.

@@ -33,7 +33,6 @@ pub use whole::Whole;
 ///
 /// A call that is refused has changed nothing, want of memory included. Room is made first, by `reserve`; a call that
 /// uses it takes no memory.
-#[derive(Drop)]
 pub struct Holdings {
     plan: Plan,
     store: Store,
@@ -45,6 +44,21 @@ pub struct Holdings {
     gone: Vec<(u32, u16)>,
     // There is room for so many more parts, each of which may be held and be tried, and for as many entries.
     spare: usize,
+}
+
+// What is held is dropped by one call, which is proved once, and not field by field wherever one is left.
+impl Drop for Holdings {
+    fn drop(self) {
+        let Holdings {
+            plan: _,
+            store: _,
+            notes: _,
+            catalogue: _,
+            fresh: _,
+            gone: _,
+            spare: _,
+        } = self;
+    }
 }
 
 impl Model for Holdings {

@@ -34,7 +34,6 @@ pub use syncing::Fire;
 /// sixteen fetchers, its suppression machine, its catalogue and its insertion processes.
 ///
 /// A call that is refused has changed nothing, want of memory included.
-#[derive(Drop)]
 pub struct Member {
     number: u32,
     log: Vec<Post>,
@@ -42,6 +41,20 @@ pub struct Member {
     machine: Machine,
     held: Holdings,
     processes: Processes,
+}
+
+// A member is dropped by one call, which is proved once, and not field by field wherever one is left.
+impl Drop for Member {
+    fn drop(self) {
+        let Member {
+            number: _,
+            log: _,
+            vector: _,
+            machine: _,
+            held: _,
+            processes: _,
+        } = self;
+    }
 }
 
 // A member is seen as what it has. Its plan's held parts and its catalogue follow from the packets that it stores.

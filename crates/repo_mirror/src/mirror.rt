@@ -24,11 +24,21 @@ use svs_vector::{Roster, Vector};
 /// is wanted any more. The records of withdrawals are kept, since they take objects out of the catalogue.
 ///
 /// A call that is refused has changed nothing, want of memory included.
-#[derive(Drop)]
 pub struct Mirror {
     pattern: Pattern,
     vector: Vector,
     held: Holdings,
+}
+
+// A mirror is dropped by one call, which is proved once, and not field by field wherever one is left.
+impl Drop for Mirror {
+    fn drop(self) {
+        let Mirror {
+            pattern: _,
+            vector: _,
+            held: _,
+        } = self;
+    }
 }
 
 // A mirror is seen as what it has. What it wants and what it lists follow from that.

@@ -26,10 +26,20 @@ pub const CONTENT_LIMIT: usize = 8_000;
 ///
 /// Its name has 1 to 400 octets of value and no component that is a digest, and it has at most 20,000 contents of 1 to
 /// 8,000 octets.
-#[derive(Debug, Drop)]
+#[derive(Debug)]
 pub struct Object {
     name: Name,
     contents: Vec<Vec<u8>>,
+}
+
+// An object is dropped by one call, which is proved once, and not field by field wherever one is left.
+impl Drop for Object {
+    fn drop(self) {
+        let Object {
+            name: _,
+            contents: _,
+        } = self;
+    }
 }
 
 // An object is seen as its name and the list of its contents.

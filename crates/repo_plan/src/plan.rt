@@ -22,7 +22,7 @@ use std::marker::Model;
 /// A part is wanted where its publication's number is known, it is a record or is counted by the held record and listed
 /// by a part that is held, it is not held, and its publication is not hidden. Sixteen fetchers, numbered from 1, claim
 /// wanted parts, each at most one.
-#[derive(Debug, Drop)]
+#[derive(Debug)]
 pub struct Plan {
     known: Vec<u16>,
     // By publisher, the numbers of the publications of which no part is wanted any more. A search passes them run by
@@ -36,6 +36,21 @@ pub struct Plan {
     attempts: HashMap<Part, u32>,
     // There is room for so many more in each of the four.
     spare: usize,
+}
+
+// A plan is dropped by one call, which is proved once, and not field by field wherever one is left.
+impl Drop for Plan {
+    fn drop(self) {
+        let Plan {
+            known: _,
+            done: _,
+            held: _,
+            shapes: _,
+            claims: _,
+            attempts: _,
+            spare: _,
+        } = self;
+    }
 }
 
 impl Model for Plan {

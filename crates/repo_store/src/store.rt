@@ -26,10 +26,19 @@ use std::marker::Model;
 /// A part, and a packet that is asked for by its full name, is found at once. What is put waits for
 /// `order_names` before it is found by its name, or by a front of that, without a walk over all
 /// that waits.
-#[derive(Drop)]
 pub struct Store {
     kept: Kept,
     names: Names,
+}
+
+// A store is dropped by one call, which is proved once, and not field by field wherever one is left.
+impl Drop for Store {
+    fn drop(self) {
+        let Store {
+            kept: _,
+            names: _,
+        } = self;
+    }
 }
 
 // A store is seen as the list of its parts and their packets, beside the number of packets that
