@@ -20,3 +20,4 @@ pub mod VisibleTexts
 pub mod Appends
 pub mod PlainTexts
 pub mod SizeLemmas
+pub mod OnlyMemory

@@ -1,4 +1,7 @@
+ghost use Rattle.std.specs.Prelude.{◌≡◌};
+
 use ndn_tlv::{FieldFault, TlvFault};
+use std::alloc::AllocError;
 use thiserror::Error;
 
 /// The fields of Interest and Data packets that a fault may name (NDN Packet Format 0.3).
@@ -77,4 +80,13 @@ pub enum PacketWriteFault {
     TooLong { octets: usize },
     #[error("out of memory")]
     NoMemory,
+}
+
+impl PacketWriteFault {
+    /// Want of memory, which is all that a packet within its limit can meet.
+    pub fn only_memory(self) -> AllocError
+        requires { self ≡ PacketWriteFault.NoMemory }
+    {
+        AllocError
+    }
 }

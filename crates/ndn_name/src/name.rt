@@ -53,10 +53,19 @@ impl Name {
         ensures refused { IfErr result
             (λ fault. (fault ≡ NameFault.NameTooLong) ⊎ (fault ≡ NameFault.NoMemory)) }
     {
-        let octets = view.octets();
-        if octets.len() > NAME_LIMIT {
+        if view.octets().len() > NAME_LIMIT {
             return Err(NameFault::NameTooLong);
         }
+        Ok(Name::from_short(alloc, view)?)
+    }
+
+    /// The name of a view that is within the limit, with octets of its own.
+    pub fn from_short(alloc: Global, view: &NameView<'_>) -> Result<Name, AllocError>
+        requires { length (encoding view.now) ≤ NAME_LIMIT }
+        ensures same { IfOk result (λ name. name ≡ view.now) }
+        ensures valid { IfOk result IsName }
+    {
+        let octets = view.octets();
         Ok(Name {
             octets: Vec::from_slice(alloc, octets)?,
             len: view.len(),

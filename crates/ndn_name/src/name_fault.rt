@@ -1,3 +1,5 @@
+ghost use Rattle.std.specs.Prelude.{◌≡◌};
+
 use ndn_tlv::TlvFault;
 use std::alloc::{AllocError, AllocFailed};
 use thiserror::Error;
@@ -24,6 +26,15 @@ pub enum NameFault {
     BadUri { place: usize },
     #[error("out of memory")]
     NoMemory,
+}
+
+impl NameFault {
+    /// Want of memory, which is all that a name within its limit can meet.
+    pub fn only_memory(self) -> AllocError
+        requires { self ≡ NameFault.NoMemory }
+    {
+        AllocError
+    }
 }
 
 impl From<TlvFault> for NameFault {

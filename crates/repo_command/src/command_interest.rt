@@ -37,14 +37,7 @@ pub fn make_command(
 {
     let name = command_name(node, verb_of(command))?;
     let parameters = write_parameters(alloc, command)?;
-    write_signed(alloc, &name, &parameters, key_name, key).map_err(only_memory)
-}
-
-// Want of memory, which is all that a packet within its limit can meet.
-fn only_memory(fault: PacketWriteFault) -> AllocError
-    requires { fault ≡ PacketWriteFault.NoMemory }
-{
-    AllocError
+    write_signed(alloc, &name, &parameters, key_name, key).map_err(PacketWriteFault::only_memory)
 }
 
 fn verb_of(command: &Command) -> Verb

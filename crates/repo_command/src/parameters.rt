@@ -1,5 +1,5 @@
 ghost use Rattle.std.specs.Prelude.{◌≡◌, ◌+◌, ◌^◌, ◌<◌, ◌≤◌, ◌⊎◌, length, IsOk, IfOk, MatchResult, Ok, Err};
-ghost use Rattle.ndn_name.specs.Names.{IsName, encoding};
+ghost use Rattle.ndn_name.specs.Names.{encoding};
 ghost use Rattle.ndn_tlv.specs.Elements.{item, elements};
 ghost use Rattle.repo_command.specs.Commands.{CommandIsSpelled};
 ghost use Rattle.repo_command.specs.Parameters.{parameters, with_parameter, parameters_in, parameters_of};
@@ -10,7 +10,7 @@ use crate::command::Command;
 use crate::command_refusal::CommandRefusal;
 use crate::element_types::{END_BLOCK_ID, PROCESS_ID, REPO_COMMAND_PARAMETER, START_BLOCK_ID};
 use crate::verb::Verb;
-use ndn_name::{Name, NameFault, NameView};
+use ndn_name::{Name, NameView};
 use ndn_tlv::{Element, FieldReader, Place, Reader, read_number, types};
 use repo_object::{OBJECT_NAME_LIMIT, is_object_name};
 use std::alloc::Global;
@@ -124,7 +124,7 @@ impl<'p> Parameters<'p> {
             Verb::Insert => {
                 let name = object_name(self.name)?;
                 let (first, last) = range(self.first, self.last)?;
-                let name = owned_name(alloc, &name)?;
+                let name = Name::from_short(alloc, &name)?;
                 Ok(Command::Insert { name, first, last })
             }
             Verb::Check => match self.process {
@@ -133,7 +133,7 @@ impl<'p> Parameters<'p> {
             },
             Verb::Delete => {
                 let name = object_name(self.name)?;
-                let name = owned_name(alloc, &name)?;
+                let name = Name::from_short(alloc, &name)?;
                 Ok(Command::Delete { name })
             }
         }
@@ -186,23 +186,5 @@ fn range(first: Option<u64>, last: Option<u64>) -> Result<(u64, u64), CommandRef
             Ok((first, last))
         }
         _ => Err(CommandRefusal::BadParameter),
-    }
-}
-
-// The name of a view, with octets of its own.
-fn owned_name(alloc: Global, view: &NameView<'_>) -> Result<Name, CommandRefusal>
-    requires { length (encoding view.now) ≤ OBJECT_NAME_LIMIT }
-    ensures same { MatchResult result
-        (λ name. name ≡ view.now)
-        (λ refusal. refusal ≡ CommandRefusal.NoMemory) }
-    ensures valid { IfOk result IsName }
-{
-    match Name::from_view(alloc, view) {
-        Ok(name) => {
-            name.is_sound();
-            Ok(name)
-        }
-        Err(NameFault::NameTooLong) => unreachable!(),
-        Err(_) => Err(CommandRefusal::NoMemory),
     }
 }

@@ -47,15 +47,8 @@ pub(crate) fn command_name(node: &Name, verb: Verb) -> Result<Name, AllocError>
 {
     let mut name = node.clone()?;
     name.push(types::GENERIC_NAME_COMPONENT, verb.text())
-        .map_err(only_memory)?;
+        .map_err(NameFault::only_memory)?;
     Ok(name)
-}
-
-// Want of memory, which is all that a name within the limit can meet.
-fn only_memory(fault: NameFault) -> AllocError
-    requires { fault ≡ NameFault.NoMemory }
-{
-    AllocError
 }
 
 // The verb of a command for the node that has this name.

@@ -1,15 +1,13 @@
 // What records tell of their publications, and packets that come.
-ghost use Rattle.std.specs.Prelude.{◌≡◌, ◌≤◌, Some, length, option_map, IsOk, IsSome, IfSome, IfOk, List};
+ghost use Rattle.std.specs.Prelude.{◌≡◌, Some, option_map, IsOk, IsSome, IfSome, IfOk, List};
 ghost use Rattle.sha2.specs.Sha256.{sha256};
-ghost use Rattle.ndn_name.specs.Names.{encoding};
 ghost use Rattle.ndn_data.specs.Data.{data_of};
-ghost use Rattle.repo_object.specs.Limits.{object_name_limit};
 ghost use Rattle.repo_object.specs.Verdict.{said_in};
 ghost use Rattle.repo_holdings.specs.Records.{Packet};
 ghost use Rattle.repo_holdings.specs.StoredParents.{lists_at, ListsAsMany};
 ghost use Rattle.repo_holdings.specs.Gaining.{told_of, told_in, shape_told, IsArrival};
 
-use ndn_name::{Name, NameFault, NameView};
+use ndn_name::Name;
 use repo_object::{Digested, RecordView};
 use repo_plan::{Part, Shape};
 use std::alloc::{AllocError, Global};
@@ -32,7 +30,7 @@ impl Told {
         match RecordView::in_packet(packet) {
             RecordView::Lists(listing) => Ok(Told::Object {
                 shape: listing.shape(),
-                name: owned_name(alloc, listing.name())?,
+                name: Name::from_short(alloc, listing.name())?,
             }),
             RecordView::Withdraws { seq } => Ok(Told::Withdrawal { seq }),
         }
@@ -80,17 +78,5 @@ impl Arrival {
             None
         };
         Ok(Arrival { packet, told })
-    }
-}
-
-// A name with octets of its own.
-fn owned_name(alloc: Global, view: &NameView<'_>) -> Result<Name, AllocError>
-    requires { length (encoding view.now) ≤ object_name_limit }
-    ensures { IfOk result (λ name. name ≡ view.now) }
-{
-    match Name::from_view(alloc, view) {
-        Ok(name) => Ok(name),
-        Err(NameFault::NameTooLong) => unreachable!(),
-        Err(_) => Err(AllocError),
     }
 }

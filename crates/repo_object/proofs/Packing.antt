@@ -1,7 +1,7 @@
 -- Packets, and what they list, written one after another.
 use Rattle.std.proofs.Common.{◌≡◌, ℕ, ◌+◌, ◌-◌, ◌*◌, ◌<◌, ◌≤◌, zero, suc, cond, List, [], ◌∷◌, ◌++◌, length, map}
 use Rattle.std.proofs.Common.{take, drop}
-use Rattle.std.proofs.Common.{append_assoc, get_or, Vec, Global, Some, None, option_map, Result, Err, refl, sym, ap}
+use Rattle.std.proofs.Common.{append_assoc, get_or, Vec, Global, Some, None, option_map, refl, sym, ap}
 use Rattle.std.proofs.Common.{subst, ◌∙◌, inl, inr, arith}
 use Rattle.std.specs.List.{All, slice_get}
 use Rattle.std.proofs.lemmas.List.{append-nil, at_drop_more, at_drop_all, length-map, length-take, get_or-map, take-map}
@@ -12,8 +12,6 @@ use Rattle.std.proofs.lemmas.Option.{slice_get-map}
 use Rattle.sha2.specs.Sha256.{sha256}
 use Rattle.sorted_lists.specs.Range.{numbers_from}
 use Rattle.sorted_lists.proofs.Ranges.{length-numbers}
-use Rattle.ndn_name.specs.declared.fault.PacketWriteFault.{PacketWriteFault}
-use Rattle.ndn_name.specs.declared.fault.PacketWriteFault.TheVariants.{TooLong, NoMemory}
 use Rattle.ndn_name.specs.Names.{Component}
 use Rattle.ndn_name.proofs.ComputedValues.{option_map_some}
 use Rattle.ndn_data.specs.WrittenData.{written_data}
@@ -30,13 +28,6 @@ use Rattle.repo_object.proofs.Places.{slice_get-front, slice_get-behind, numbers
 
 abbrev pub items : Vec ℕ Global → List ℕ
 items v = v.items
-
--- what is left of the refusals of a packet that is within the limit
-pub only_memory_of_packet : {A : Type 0} (r : Result A PacketWriteFault) (len : ℕ)
-    → ((n : ℕ) → r ≡ Err (TooLong n) → 8800 < len) → len ≤ 8800
-    → (e : PacketWriteFault) → r ≡ Err e → e ≡ NoMemory
-only_memory_of_packet r len long short (TooLong n) is = absurd (omega (arith, long n is))
-only_memory_of_packet r len long short NoMemory is = refl
 
 pub content_is : (contents : List (Vec ℕ Global)) (i : ℕ) (content : Vec ℕ Global) → i < length contents
     → content ≡ get_or contents i content → get_or (map items contents) i content.items ≡ content.items

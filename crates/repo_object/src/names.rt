@@ -3,9 +3,9 @@ ghost use Rattle.ndn_name.specs.Names.{encoding};
 ghost use Rattle.repo_object.specs.Limits.{node_name_limit};
 ghost use Rattle.repo_object.specs.Objects.{key_name, record_name, segment_name};
 
-use ndn_name::{NAME_LIMIT, Name, NameFault, NameView};
+use ndn_name::{NAME_LIMIT, Name, NameFault};
 use ndn_tlv::{Reader, types};
-use std::alloc::{AllocError, Global};
+use std::alloc::AllocError;
 
 /// How many octets of value the name of a node or a group may have.
 pub const NODE_NAME_LIMIT: usize = 200;
@@ -17,7 +17,7 @@ pub fn key_name(node: &Name) -> Result<Name, AllocError>
 {
     let mut name = node.clone()?;
     name.push(types::GENERIC_NAME_COMPONENT, b"KEY")
-        .map_err(only_memory)?;
+        .map_err(NameFault::only_memory)?;
     Ok(name)
 }
 
@@ -30,7 +30,7 @@ pub(crate) fn record_name(node: &Name, group: &Name, seq: u16) -> Result<Name, A
     let mut name = node.clone()?;
     append(&mut name, group)?;
     name.push_number(types::SEQUENCE_NUM_NAME_COMPONENT, u64::from(seq))
-        .map_err(only_memory)?;
+        .map_err(NameFault::only_memory)?;
     Ok(name)
 }
 
@@ -40,16 +40,8 @@ pub(crate) fn segment_name(mut name: Name, i: u16) -> Result<Name, AllocError>
     ensures { IfOk result (λ numbered. numbered ≡ segment_name name i) }
 {
     name.push_number(types::SEGMENT_NAME_COMPONENT, u64::from(i))
-        .map_err(only_memory)?;
+        .map_err(NameFault::only_memory)?;
     Ok(name)
-}
-
-// The name of a view, with octets of its own.
-pub(crate) fn owned_name(alloc: Global, view: &NameView<'_>) -> Result<Name, AllocError>
-    requires { length (encoding view.now) ≤ NAME_LIMIT }
-    ensures { IfOk result (λ name. name ≡ view.now) }
-{
-    Name::from_view(alloc, view).map_err(only_memory)
 }
 
 // Appends the components of another name.
@@ -60,14 +52,7 @@ fn append(name: &mut Name, more: &Name) -> Result<(), AllocError>
     let mut components = Reader::new(more.octets(), 0);
     while let Ok(Some(component)) = components.next() {
         name.push(component.typ as u16, component.value)
-            .map_err(only_memory)?;
+            .map_err(NameFault::only_memory)?;
     }
     Ok(())
-}
-
-// Want of memory, which is all that a name within the limit can meet.
-fn only_memory(fault: NameFault) -> AllocError
-    requires { fault ≡ NameFault.NoMemory }
-{
-    AllocError
 }

@@ -385,12 +385,5 @@ fn write_packet(
     ensures { IfOk result
         (λ packet. packet.items ≡ written_data name.now last content.now key_name.now key.now) }
 {
-    write_signed(alloc, name, last, content, key_name, key).map_err(only_memory)
-}
-
-// Want of memory, which is all that a packet within its limit can meet.
-fn only_memory(fault: PacketWriteFault) -> AllocError
-    requires { fault ≡ PacketWriteFault.NoMemory }
-{
-    AllocError
+    write_signed(alloc, name, last, content, key_name, key).map_err(PacketWriteFault::only_memory)
 }

@@ -6,7 +6,6 @@ ghost use Rattle.repo_object.specs.Said.{owned_record, IsOfItsKind};
 
 use crate::digests_view::DigestsView;
 use crate::listing_view::ListingView;
-use crate::names::owned_name;
 use crate::record_fault::RecordFault;
 use crate::record_view::RecordView;
 use ndn_name::Name;
@@ -99,7 +98,7 @@ fn owned(alloc: Global, listing: &ListingView<'_>) -> Result<Record, AllocError>
 {
     let shape = listing.shape();
     let digests = listing.digests().to_vec(alloc)?;
-    let name = owned_name(alloc, listing.name())?;
+    let name = Name::from_short(alloc, listing.name())?;
     if shape.index == 0 {
         return Ok(Record::Lists(Listing { name, digests }));
     }

@@ -44,11 +44,7 @@ pub fn make_sync(
 {
     let name = sync_name(alloc, group)?;
     let parameters = vector.write(alloc, roster)?;
-    match write_signed(alloc, &name, &parameters, key_name, key) {
-        Ok(octets) => Ok(octets),
-        Err(PacketWriteFault::TooLong { .. }) => unreachable!(),
-        Err(PacketWriteFault::NoMemory) => Err(AllocError),
-    }
+    write_signed(alloc, &name, &parameters, key_name, key).map_err(PacketWriteFault::only_memory)
 }
 
 // The name of the group's sync Interests, without the parameters digest.
@@ -57,11 +53,9 @@ fn sync_name(alloc: Global, group: &Name) -> Result<Name, AllocError>
     ensures { IfOk result (λ name. name ≡ sync_name group.now) }
 {
     let mut name = group.clone()?;
-    match name.push(types::VERSION_NAME_COMPONENT, &[VERSION]) {
-        Ok(()) => Ok(name),
-        Err(NameFault::NameTooLong) => unreachable!(),
-        Err(_) => Err(AllocError),
-    }
+    name.push(types::VERSION_NAME_COMPONENT, &[VERSION])
+        .map_err(NameFault::only_memory)?;
+    Ok(name)
 }
 
 /// Checks the octets of a sync Interest of the group, and gives the number of the key in the ring

@@ -173,10 +173,7 @@ fn client_key_name(alloc: Global, g: &Group, client: u32) -> Result<Name, AllocE
     let Ok(view) = NameView::read(g.clients().name(client), 0) else {
         unreachable!()
     };
-    match Name::from_view(alloc, &view) {
-        Ok(name) => Ok(name),
-        Err(_) => Err(AllocError),
-    }
+    Name::from_short(alloc, &view)
 }
 
 // The Interest of a client's command for a member.

@@ -19,7 +19,7 @@ use super::Member;
 use crate::group::Group;
 use ndn_data::write_signed;
 use ndn_interest::InterestView;
-use ndn_name::{Name, NameFault, NameView, PacketWriteFault};
+use ndn_name::{Name, NameView, PacketWriteFault};
 use repo_command::status_codes::{ACCEPTED, DONE, IN_PROGRESS, MALFORMED, NOT_FOUND};
 use repo_command::{Answer, Command, CommandRefusal, check_command, write_answer};
 use repo_object::key_name;
@@ -248,19 +248,13 @@ impl Member {
             return Ok(None);
         }
         let alloc = *self.log.allocator();
-        let name = match Name::from_view(alloc, name) {
-            Ok(name) => name,
-            Err(NameFault::NameTooLong) => unreachable!(),
-            Err(_) => return Err(AllocError),
-        };
+        let name = Name::from_short(alloc, name)?;
         let content = write_answer(alloc, answer)?;
         g.is_sound();
         let key_name = key_name(g.roster().name(self.number))?;
         let key = g.members().key(self.number);
-        match write_signed(alloc, &name, None, &content, &key_name, key) {
-            Ok(packet) => Ok(Some(packet)),
-            Err(PacketWriteFault::TooLong { .. }) => unreachable!(),
-            Err(PacketWriteFault::NoMemory) => Err(AllocError),
-        }
+        let packet = write_signed(alloc, &name, None, &content, &key_name, key)
+            .map_err(PacketWriteFault::only_memory)?;
+        Ok(Some(packet))
     }
 }

@@ -1,6 +1,6 @@
 use Rattle.std.proofs.Common.{length, ap, ◌∙◌, arith}
 use Rattle.ndn_interest.specs.WrittenInterest.{written_interest}
-use Rattle.repo_object.proofs.Packing.{only_memory_of_packet}
+use Rattle.ndn_name.proofs.OnlyMemory.{only_memory_of_packet}
 use Rattle.repo_command.specs.Verbs.{verb_of, command_name}
 use Rattle.repo_command.proofs.LengthLemmas.{command-size}
 use Rattle.repo_command.proofs.command_interest.make_command.Goals as goal

@@ -1,6 +1,6 @@
 use Rattle.std.proofs.Common.{◌∷◌, [], ◌++◌, length, ap, arith}
 use Rattle.ndn_name.specs.Names.{encoding}
-use Rattle.repo_object.proofs.Sizes.{only_memory_of_name}
+use Rattle.ndn_name.proofs.OnlyMemory.{only_memory_of_name}
 use Rattle.repo_command.proofs.LengthLemmas.{command_name-size}
 use Rattle.repo_command.proofs.verb.command_name.Goals as goal
 

@@ -4,7 +4,8 @@ use Rattle.ndn_tlv.specs.Listing.{Listing}
 use Rattle.ndn_tlv.specs.Elements.{Item}
 use Rattle.ndn_name.specs.Names.{Component}
 use Rattle.ndn_name.proofs.Encodings.{pairs}
-use Rattle.repo_object.proofs.Sizes.{only_memory_of_name, appended-size}
+use Rattle.ndn_name.proofs.OnlyMemory.{only_memory_of_name}
+use Rattle.repo_object.proofs.Sizes.{appended-size}
 use Rattle.repo_object.proofs.NameLemmas.{reads_name, front-size}
 use Rattle.repo_object.proofs.names.append.Goals as goal
 

@@ -1,6 +1,7 @@
 use Rattle.std.proofs.Common.{◌++◌, ◌∷◌, [], length, ap, arith}
 use Rattle.ndn_name.specs.Names.{encoding}
-use Rattle.repo_object.proofs.Sizes.{only_memory_of_name, pushed-size}
+use Rattle.ndn_name.proofs.OnlyMemory.{only_memory_of_name}
+use Rattle.repo_object.proofs.Sizes.{pushed-size}
 use Rattle.repo_object.proofs.names.key_name.Goals as goal
 
 pub map_err-requires : goal.map_err-requires

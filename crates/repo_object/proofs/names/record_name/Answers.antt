@@ -1,7 +1,8 @@
 use Rattle.std.proofs.Common.{◌++◌, length, ap, ◌∙◌, arith}
 use Rattle.ndn_tlv.specs.NumberField.{number_field}
 use Rattle.ndn_name.specs.Names.{encoding}
-use Rattle.repo_object.proofs.Sizes.{only_memory_of_name, pushed-size, appended-size, number_field-two}
+use Rattle.ndn_name.proofs.OnlyMemory.{only_memory_of_name}
+use Rattle.repo_object.proofs.Sizes.{pushed-size, appended-size, number_field-two}
 use Rattle.repo_object.proofs.names.record_name.Goals as goal
 
 pub map_err-requires : goal.map_err-requires

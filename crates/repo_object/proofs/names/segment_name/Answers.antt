@@ -1,6 +1,7 @@
 use Rattle.std.proofs.Common.{arith}
 use Rattle.ndn_tlv.specs.NumberField.{number_field}
-use Rattle.repo_object.proofs.Sizes.{only_memory_of_name, pushed-size, number_field-two}
+use Rattle.ndn_name.proofs.OnlyMemory.{only_memory_of_name}
+use Rattle.repo_object.proofs.Sizes.{pushed-size, number_field-two}
 use Rattle.repo_object.proofs.names.segment_name.Goals as goal
 
 pub map_err-requires : goal.map_err-requires

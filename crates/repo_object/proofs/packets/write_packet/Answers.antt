@@ -1,6 +1,6 @@
 use Rattle.std.proofs.Common.{length}
 use Rattle.ndn_data.specs.WrittenData.{written_data}
-use Rattle.repo_object.proofs.Packing.{only_memory_of_packet}
+use Rattle.ndn_name.proofs.OnlyMemory.{only_memory_of_packet}
 use Rattle.repo_object.proofs.packets.write_packet.Goals as goal
 
 pub map_err-requires : goal.map_err-requires
