@@ -64,7 +64,7 @@ module _ (g : GroupKeys) (logs : Logs) where
 
     go : (o : Option Part) (k : Came) (x : StepFault) → answered g logs o k ≡ Err x
         → IsFaultOf (if_idle_or_foreign o k) x
-    go None k x h = let same : x ≡ fault.Refused 7 = cc in as_told Refusal.FetcherIdle x (fault.Refused 7) same refl
+    go None k x h = let same : x ≡ fault.FetcherIdle = cc in as_told Refusal.FetcherIdle x fault.FetcherIdle same refl
     go (Some t) Nothing x h = absurd cc
     go (Some t) Its x h = absurd cc
     go (Some t) Another x h = let same : x ≡ fault.Foreign = cc in as_told Refusal.Foreign x fault.Foreign same refl

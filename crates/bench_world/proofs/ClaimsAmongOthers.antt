@@ -119,8 +119,8 @@ module _ (g : GroupKeys) (logs : Logs) (f m : ℕ) (ms : List Alone) (can : CanG
   -- It isn't refused for want of a claim.
   pub busy_so : {T : Type 0} (k : Came) (r : Result T StepFault)
       → IfErr r (λ fault. (fault ≡ StepFault.NoMemory) ⊎ (answered g logs (Some want.part) k ≡ Err fault))
-      → (r ≡ Err (StepFault.Refused 7) → claim_in ms m f ≡ None)
-      × (claim_in ms m f ≡ None → r ≡ Err (StepFault.Refused 7))
+      → (r ≡ Err StepFault.FetcherIdle → claim_in ms m f ≡ None)
+      × (claim_in ms m f ≡ None → r ≡ Err StepFault.FetcherIdle)
   busy_so k r h = (
     λ e. absurd
         (go k (subst
@@ -131,7 +131,7 @@ module _ (g : GroupKeys) (logs : Logs) (f m : ℕ) (ms : List Alone) (can : CanG
     claims e = cc
 
     go : (k : Came)
-        → (StepFault.Refused 7 ≡ StepFault.NoMemory) ⊎ (answered g logs (Some want.part) k ≡ Err (StepFault.Refused 7))
+        → (StepFault.FetcherIdle ≡ StepFault.NoMemory) ⊎ (answered g logs (Some want.part) k ≡ Err StepFault.FetcherIdle)
         → ⊥
     go k (inl memory) = cc
     go Nothing (inr e) = cc

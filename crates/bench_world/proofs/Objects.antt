@@ -134,10 +134,10 @@ module _ (s : GroupState) (is : IsTrueState s) (m : ℕ) (there : m < length s.m
         → IsFaultOf (refusal (drawing draw) (world_of s) (Event.Withdraw m seq)) (withdraw_fault e)
     withdraw_refused draw r withdrawing.NoMemory is_err none spent = tt
     withdraw_refused draw r (withdrawing.NoSuchNumber n) is_err none spent =
-        subst (λ (o : Option Refusal). IsFaultOf o (fault.Refused 14))
+        subst (λ (o : Option Refusal). IsFaultOf o fault.NoSuchNumber)
         (sym (by_object false ((none n).0 is_err).1 draw)) refl
     withdraw_refused draw r (withdrawing.NumbersSpent log) is_err none spent =
-        subst (λ (o : Option Refusal). IsFaultOf o (fault.Refused 8))
+        subst (λ (o : Option Refusal). IsFaultOf o fault.NumbersSpent)
         (sym (by_object true ((spent log).0 is_err).0 draw ∙ spent_so ((spent log).0 is_err).2)) refl
 
     -- One that is taken finds a number.

@@ -56,12 +56,12 @@ NamesClient n (EventValue.Delete m client name) = client < n
 NamesClient n _ = Unit {0}
 
 abbrev pub fault_of : Refusal → StepFault
-fault_of Refusal.NoSuchPacket = fault.Refused 5
-fault_of Refusal.FetcherBusy = fault.Refused 6
-fault_of Refusal.FetcherIdle = fault.Refused 7
+fault_of Refusal.NoSuchPacket = fault.NoSuchPacket
+fault_of Refusal.FetcherBusy = fault.FetcherBusy
+fault_of Refusal.FetcherIdle = fault.FetcherIdle
 fault_of Refusal.Foreign = fault.Foreign
-fault_of Refusal.NumbersSpent = fault.Refused 8
-fault_of Refusal.NoSuchNumber = fault.Refused 14
+fault_of Refusal.NumbersSpent = fault.NumbersSpent
+fault_of Refusal.NoSuchNumber = fault.NoSuchNumber
 
 -- Memory was wanting, or the event is refused so.
 abbrev pub IsFaultOf : Option Refusal → StepFault → Type 0

@@ -6,6 +6,6 @@ use Rattle.bench_world.specs.declared.event.StepFault.TheVariants as fault
 
 -- What is told of it, by why its member refuses it.
 abbrev pub withdraw_fault : WithdrawRefusal → StepFault
-withdraw_fault (NoSuchNumber seq) = fault.Refused 14
-withdraw_fault (NumbersSpent log) = fault.Refused 8
+withdraw_fault (NoSuchNumber seq) = fault.NoSuchNumber
+withdraw_fault (NumbersSpent log) = fault.NumbersSpent
 withdraw_fault NoMemory = fault.NoMemory

@@ -16,7 +16,7 @@ ghost use Rattle.bench_world.specs.Answering.{answered, claim_in, came_in, came_
 ghost use Rattle.bench_world.specs.Answering.{accepts_claimed, after_claimed};
 
 use crate::event::StepFault;
-use crate::others::Others;
+use crate::others::{Others, put_back};
 use repo_member::{Group, Member, WantFault};
 use repo_object::{PartRefusal, Want, check_part};
 use repo_plan::Part;
@@ -55,12 +55,12 @@ fn want_for(alloc: Global, g: &Group, member: &Member, f: u8) -> Result<Want, St
     requires { CanWant g.now logs f member.now }
     ensures claim { IfOk result (λ want. claim_of (alone_plan member.now) f ≡ Some want.part) }
     ensures want { IfOk result (λ want. want ≡ true_want g.now logs want.part) }
-    ensures idle { (result ≡ Err (StepFault.Refused 7)) ↔ (claim_of (alone_plan member.now) f ≡ None) }
-    ensures refused { IfErr result (λ fault. (fault ≡ StepFault.NoMemory) ⊎ (fault ≡ StepFault.Refused 7)) }
+    ensures idle { (result ≡ Err StepFault.FetcherIdle) ↔ (claim_of (alone_plan member.now) f ≡ None) }
+    ensures refused { IfErr result (λ fault. (fault ≡ StepFault.NoMemory) ⊎ (fault ≡ StepFault.FetcherIdle)) }
 {
     match member.want(alloc, g, f) {
         Ok(want) => Ok(want),
-        Err(WantFault::FetcherIdle) => Err(StepFault::Refused { number: 7 }),
+        Err(WantFault::FetcherIdle) => Err(StepFault::FetcherIdle),
         Err(WantFault::NoMemory) => Err(StepFault::NoMemory),
     }
 }
@@ -192,7 +192,7 @@ pub(crate) fn answer(
     ensures members { OnOk result (members.new.items ≡ slice_set members.old.items m
         (after_claimed g.now logs f (claim_in members.old.items m f)
         (came_in g.now logs members.old.items q (claim_in members.old.items m f)) (alone_at members.old.items m))) }
-    ensures idle { (result ≡ Err (StepFault.Refused 7)) ↔ (claim_in members.old.items m f ≡ None) }
+    ensures idle { (result ≡ Err StepFault.FetcherIdle) ↔ (claim_in members.old.items m f ≡ None) }
     ensures refused { IfErr result (λ fault. (fault ≡ StepFault.NoMemory)
         ⊎ (answered g.now logs (claim_in members.old.items m f)
         (came_in g.now logs members.old.items q (claim_in members.old.items m f)) ≡ Err fault)) }
@@ -206,10 +206,7 @@ pub(crate) fn answer(
     };
     let publisher = others.publisher(want.part());
     let kept = answer_from(alloc, g, publisher, others.get(q), &mut asker, f, &want);
-    // There is room where the member stood.
-    let Ok(()) = members.insert(m as usize, asker) else {
-        unreachable!()
-    };
+    put_back(members, m, asker);
     kept
 }
 
@@ -231,7 +228,7 @@ pub(crate) fn feed(
     ensures members { OnOk result (members.new.items ≡ slice_set members.old.items m
         (after_claimed g.now logs f (claim_in members.old.items m f)
         (came_for g.now logs octets.now (claim_in members.old.items m f)) (alone_at members.old.items m))) }
-    ensures idle { (result ≡ Err (StepFault.Refused 7)) ↔ (claim_in members.old.items m f ≡ None) }
+    ensures idle { (result ≡ Err StepFault.FetcherIdle) ↔ (claim_in members.old.items m f ≡ None) }
     ensures refused { IfErr result (λ fault. (fault ≡ StepFault.NoMemory)
         ⊎ (answered g.now logs (claim_in members.old.items m f)
         (came_for g.now logs octets.now (claim_in members.old.items m f)) ≡ Err fault)) }
@@ -245,9 +242,6 @@ pub(crate) fn feed(
     };
     let publisher = others.publisher(want.part());
     let fed = accept(g, publisher, &mut asker, f, &want, octets);
-    // There is room where the member stood.
-    let Ok(()) = members.insert(m as usize, asker) else {
-        unreachable!()
-    };
+    put_back(members, m, asker);
     fed
 }

@@ -331,9 +331,16 @@ pub enum Happened {
 /// Why an event was not carried out.
 #[derive(Clone, Copy, Debug, PartialEq, Eq)]
 pub enum StepFault {
-    /// The number tells why: 5 no such packet was sent, 6 the fetcher claims a part, 7 it claims none, 8 the member's
-    /// numbers are spent, 14 it has no object of that number, or one that is withdrawn.
-    Refused { number: u32 },
+    /// No such packet was sent.
+    NoSuchPacket,
+    /// The fetcher claims a part.
+    FetcherBusy,
+    /// The fetcher claims no part.
+    FetcherIdle,
+    /// The member's numbers are spent.
+    NumbersSpent,
+    /// The member has no object of that number, or one that is withdrawn.
+    NoSuchNumber,
     /// Octets pass their checks, and nobody of the group made them.
     Foreign,
     NoMemory,

@@ -11,6 +11,7 @@ ghost use Rattle.bench_world.specs.Worlds.{AreTrueMembers, MembersAreNumbered};
 
 use crate::fetch::{FetchCounts, fetch};
 use crate::lending::MemberLink;
+use crate::others::put_back;
 use bench_net::Net;
 use repo_member::{Group, Member};
 use std::alloc::{AllocError, Global};
@@ -52,9 +53,6 @@ pub(crate) fn fetch_at<N: Net + Sync, R: Threads + Sync>(
         loss: Some(loss),
     };
     let fetched = fetch(rt, alloc, g, &link, workers, tries, &mut member);
-    // There is room where the member stood.
-    let Ok(()) = members.insert(j as usize, member) else {
-        unreachable!()
-    };
+    put_back(members, j, member);
     fetched
 }

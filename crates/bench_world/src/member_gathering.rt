@@ -13,6 +13,7 @@ ghost use Rattle.bench_world.specs.Worlds.{AllCountsStay, AreTrueMembers, Member
 
 use crate::gather::gather;
 use crate::lending::MemberLink;
+use crate::others::put_back;
 use bench_net::Net;
 use repo_member::{Group, Kept, Member};
 use std::alloc::{AllocError, Global};
@@ -48,10 +49,7 @@ fn gather_at<N: Net + Sync, R: Threads + Sync>(
         loss: None,
     };
     let kept = gather(rt, alloc, g, &link, workers, &mut member);
-    // There is room where the member stood.
-    let Ok(()) = members.insert(j as usize, member) else {
-        unreachable!()
-    };
+    put_back(members, j, member);
     kept
 }
 

@@ -9,6 +9,7 @@ ghost use Rattle.bench_world.specs.MirrorSteps.{mirror_at, mirror_fetched, mirro
 use crate::fetch::fetch_of_all;
 use crate::holder::Filtering;
 use crate::lending::MemberLink;
+use crate::others::put_back;
 use bench_net::Net;
 use repo_member::{Group, Member};
 use repo_mirror::Mirror;
@@ -52,9 +53,6 @@ pub(crate) fn fetch_for<N: Net + Sync, R: Threads + Sync>(
     };
     let fetched = fetch_of_all(rt, alloc, g, &link, workers, tries, &mut asking);
     let Filtering { mirror, .. } = asking;
-    // There is room where the mirror stood.
-    let Ok(()) = mirrors.insert(i as usize, mirror) else {
-        unreachable!()
-    };
+    put_back(mirrors, i, mirror);
     fetched
 }

@@ -10,6 +10,7 @@ ghost use Rattle.bench_world.specs.Worlds.{logs_around, only_members};
 use crate::gather::gather_of_all;
 use crate::holder::Filtering;
 use crate::lending::MemberLink;
+use crate::others::put_back;
 use bench_net::OpenNet;
 use repo_member::{Group, Member};
 use repo_mirror::Mirror;
@@ -53,10 +54,7 @@ fn gather_for<R: Threads + Sync>(
     };
     let came = gather_of_all(rt, alloc, g, &link, workers, &mut asking);
     let Filtering { mirror, .. } = asking;
-    // There is room where the mirror stood.
-    let Ok(()) = mirrors.insert(i as usize, mirror) else {
-        unreachable!()
-    };
+    put_back(mirrors, i, mirror);
     came
 }
 

@@ -1,5 +1,6 @@
 // A member of a group that is taken out for a while, and the others.
-ghost use Rattle.std.specs.Prelude.{◌≡◌, ◌≢◌, ◌<◌, ◌+◌, length, option_map};
+ghost use Rattle.std.specs.Prelude.{◌≡◌, ◌≢◌, ◌<◌, ◌≤◌, ◌+◌, length, option_map, vec_len, vec_capacity};
+ghost use Rattle.std.specs.List.{insert};
 ghost use Rattle.bench_world.specs.Worlds.{alone_at};
 ghost use Rattle.bench_world.specs.Others.{place_among_others, other_at};
 
@@ -48,4 +49,15 @@ impl<'a> Others<'a> {
             number as usize - 1
         }
     }
+}
+
+// Puts a member or a mirror back where it was taken out, so that there is room.
+pub(crate) fn put_back<T: Drop>(row: &mut Vec<T>, place: u32, item: T)
+    requires place { place ≤ vec_len row.old }
+    requires room { vec_len row.old < vec_capacity row.old }
+    ensures { row.new.items ≡ insert row.old.items place item }
+{
+    let Ok(()) = row.insert(place as usize, item) else {
+        unreachable!()
+    };
 }

@@ -105,7 +105,7 @@ fn tell(rt: &impl Abort, world: &mut World, i: u32, k: u32)
     ensures steps { world.new.steps ≡ world.old.steps }
 {
     assert!(rt; world.mirror_deliver(i, k) == Ok(()));
-    assert!(rt; world.mirror_deliver(i, 4) == Err(StepFault::Refused { number: 5 }));
+    assert!(rt; world.mirror_deliver(i, 4) == Err(StepFault::NoSuchPacket));
 }
 
 // A fetch by two workers, who try each part once, comes to these counts.

@@ -28,7 +28,7 @@ fn makes_two_steps(rt: &(impl Threads + Abort + Sync), world: &mut World, draws:
     // Nothing was sent, so this is refused and counts for no step.
     let unsent = Event::Deliver { k: 1, m: 0 };
     match world.step(rt, &unsent, &net, draws) {
-        Err(fault) => assert!(rt; fault == StepFault::Refused { number: 5 }),
+        Err(fault) => assert!(rt; fault == StepFault::NoSuchPacket),
         Ok(_) => panic!(rt; "nothing was sent"),
     }
     assert_eq!(rt; world.steps(), 1);

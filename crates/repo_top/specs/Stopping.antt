@@ -1,6 +1,4 @@
 -- Why a line is not taken, by the faults of what it calls for.
-use Rattle.std.specs.Prelude.{ℕ, Option, Some, None, ◌==◌, if◌then◌else◌}
-use Rattle.std.specs.Option.{option_map}
 use Rattle.script_lang.specs.declared.line_fault.LineFault.{LineFault}
 use Rattle.script_lang.specs.declared.line_fault.LineFault.TheVariants as line_fault
 use Rattle.script_lang.specs.declared.check_fault.CheckFault.{CheckFault}
@@ -38,14 +36,11 @@ abbrev pub take_stop : TakeFault → Stop
 take_stop take_fault.NoSuchWatch = Refused refusal.NoSuchWatch
 take_stop take_fault.NoMemory = NoMemory
 
--- The refusal of an event that has this number. There are five.
-abbrev pub step_refusal : ℕ → Option Refusal
-step_refusal number =
-    if number == 5 then Some refusal.NoSuchPacket else if number == 6 then Some refusal.FetcherBusy
-    else if number == 7 then Some refusal.FetcherIdle else if number == 8 then Some refusal.NumbersSpent
-    else if number == 14 then Some refusal.NoSuchNumber else None
-
-abbrev pub step_stop : StepFault → Option Stop
-step_stop (step_fault.Refused number) = option_map (λ why. Refused why) (step_refusal number)
-step_stop step_fault.Foreign = Some Foreign
-step_stop step_fault.NoMemory = Some NoMemory
+abbrev pub step_stop : StepFault → Stop
+step_stop step_fault.NoSuchPacket = Refused refusal.NoSuchPacket
+step_stop step_fault.FetcherBusy = Refused refusal.FetcherBusy
+step_stop step_fault.FetcherIdle = Refused refusal.FetcherIdle
+step_stop step_fault.NumbersSpent = Refused refusal.NumbersSpent
+step_stop step_fault.NoSuchNumber = Refused refusal.NoSuchNumber
+step_stop step_fault.Foreign = Foreign
+step_stop step_fault.NoMemory = NoMemory

@@ -24,7 +24,7 @@ mod watching;
 
 use crate::progress::mirroring::{begin_world, settle_behind};
 use crate::said::said;
-use crate::stop::{Stop, step_stop};
+use crate::stop::Stop;
 use crate::telling::put_happened;
 use bench_net::{Draws, Net};
 use bench_world::{Event, World};
@@ -475,10 +475,7 @@ fn step<N: Net + Sync, D: Draws, R: Threads + Sync>(
     ensures stopped { IfErr result (IsStopOf (refusal (outside world.old.keys (D.draw draws.now) (N.passes net.now))
         (world_of world.old) (group_event world.old.keys (event_value event.now)))) }
 {
-    let happened = match world.step(rt, event, net, draws) {
-        Ok(happened) => happened,
-        Err(fault) => return Err(step_stop(fault)),
-    };
+    let happened = world.step(rt, event, net, draws)?;
     put_happened(report, labels, &happened)?;
     settle_behind(rt, world, event)
 }

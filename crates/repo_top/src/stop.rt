@@ -1,6 +1,3 @@
-ghost use Rattle.std.specs.Prelude.{◌≡◌, Some, IsSome};
-ghost use Rattle.repo_top.specs.Stopping.{step_stop};
-
 use bench_world::StepFault;
 use repo_watch::{TakeFault, WatchFault};
 use script_lang::{CheckFault, LineFault};
@@ -100,19 +97,21 @@ impl From<TakeFault> for Stop {
     }
 }
 
-// A step is refused for one of five reasons, which it tells by their numbers.
-pub(crate) fn step_stop(fault: StepFault) -> Stop
-    requires { IsSome (step_stop fault) }
-    ensures { step_stop fault ≡ Some result }
-{
-    match fault {
-        StepFault::Refused { number: 5 } => Stop::Refused(Refusal::NoSuchPacket),
-        StepFault::Refused { number: 6 } => Stop::Refused(Refusal::FetcherBusy),
-        StepFault::Refused { number: 7 } => Stop::Refused(Refusal::FetcherIdle),
-        StepFault::Refused { number: 8 } => Stop::Refused(Refusal::NumbersSpent),
-        StepFault::Refused { number: 14 } => Stop::Refused(Refusal::NoSuchNumber),
-        StepFault::Refused { .. } => unreachable!(),
-        StepFault::Foreign => Stop::Foreign,
-        StepFault::NoMemory => Stop::NoMemory,
+impl From<StepFault> for Stop {
+    ghost use Rattle.std.specs.Prelude.{◌≡◌};
+    ghost use Rattle.repo_top.specs.Stopping.{step_stop};
+
+    ghost from_gives = { λ fault stop. stop ≡ step_stop fault };
+
+    fn from(fault: StepFault) -> Stop {
+        match fault {
+            StepFault::NoSuchPacket => Stop::Refused(Refusal::NoSuchPacket),
+            StepFault::FetcherBusy => Stop::Refused(Refusal::FetcherBusy),
+            StepFault::FetcherIdle => Stop::Refused(Refusal::FetcherIdle),
+            StepFault::NumbersSpent => Stop::Refused(Refusal::NumbersSpent),
+            StepFault::NoSuchNumber => Stop::Refused(Refusal::NoSuchNumber),
+            StepFault::Foreign => Stop::Foreign,
+            StepFault::NoMemory => Stop::NoMemory,
+        }
     }
 }

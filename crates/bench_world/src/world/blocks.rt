@@ -36,7 +36,7 @@ impl World {
         let blocked = match member.block(&self.group, process, index, content, self.moment, draw) {
             Ok(blocked) => blocked,
             Err(PublishRefusal::NumbersSpent { .. }) => {
-                return Err(StepFault::Refused { number: 8 });
+                return Err(StepFault::NumbersSpent);
             }
             Err(PublishRefusal::NoMemory) => return Err(StepFault::NoMemory),
         };

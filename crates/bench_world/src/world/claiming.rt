@@ -20,7 +20,7 @@ impl World {
     {
         let member = &mut self.members[m as usize];
         let Ok(claim) = member.claim(f as u8) else {
-            return Err(StepFault::Refused { number: 6 });
+            return Err(StepFault::FetcherBusy);
         };
         self.steps += 1;
         Ok(claimed(m, u64::from(f), claim))
@@ -35,7 +35,7 @@ impl World {
     {
         let member = &mut self.members[m as usize];
         let Ok(part) = member.lose(f as u8) else {
-            return Err(StepFault::Refused { number: 7 });
+            return Err(StepFault::FetcherIdle);
         };
         self.steps += 1;
         Ok(Happened::Lose {

@@ -71,13 +71,13 @@ impl World {
           mirrors = slice_set self.old.mirrors i
               (mirror_learns (sent_at (world_of self.old) k).vector (mirror_at self.old.mirrors i));
         }) }
-        ensures unsent { (result ≡ Err (StepFault.Refused 5))
+        ensures unsent { (result ≡ Err StepFault.NoSuchPacket)
             ↔ (unless_sent (world_of self.old) k ≡ Some NoSuchPacket) }
-        ensures refused { IfErr result (λ fault. (fault ≡ StepFault.NoMemory) ⊎ (fault ≡ StepFault.Refused 5)) }
+        ensures refused { IfErr result (λ fault. (fault ≡ StepFault.NoMemory) ⊎ (fault ≡ StepFault.NoSuchPacket)) }
         ensures err { OnErr result (self.new ≡ self.old) }
     {
         let Some(numbers) = self.sent.vector(k) else {
-            return Err(StepFault::Refused { number: 5 });
+            return Err(StepFault::NoSuchPacket);
         };
         let told = vector_of(self.alloc, numbers)?;
         let mirror = &mut self.mirrors[i as usize];

@@ -50,7 +50,7 @@ impl World {
                 segments,
                 sync: u64::from(sync),
             }),
-            Err(PublishRefusal::NumbersSpent { .. }) => Err(StepFault::Refused { number: 8 }),
+            Err(PublishRefusal::NumbersSpent { .. }) => Err(StepFault::NumbersSpent),
             Err(PublishRefusal::NoMemory) => Err(StepFault::NoMemory),
         }
     }
@@ -135,8 +135,8 @@ fn fault_of(refusal: WithdrawRefusal) -> StepFault
     ensures { result ≡ withdraw_fault refusal }
 {
     match refusal {
-        WithdrawRefusal::NoSuchNumber { .. } => StepFault::Refused { number: 14 },
-        WithdrawRefusal::NumbersSpent { .. } => StepFault::Refused { number: 8 },
+        WithdrawRefusal::NoSuchNumber { .. } => StepFault::NoSuchNumber,
+        WithdrawRefusal::NumbersSpent { .. } => StepFault::NumbersSpent,
         WithdrawRefusal::NoMemory => StepFault::NoMemory,
     }
 }

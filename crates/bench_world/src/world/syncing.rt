@@ -25,7 +25,7 @@ impl World {
         ensures { IsStep (drawing (D.draw draws.now)) (EventValue.Deliver k m) self.old result self.new }
     {
         let Some(numbers) = self.sent.vector(k) else {
-            return Err(StepFault::Refused { number: 5 });
+            return Err(StepFault::NoSuchPacket);
         };
         let told = vector_of(self.alloc, numbers)?;
         let member = &mut self.members[m as usize];
@@ -45,7 +45,7 @@ impl World {
         ensures { IsStep (drawing (λ _ _. 0)) (EventValue.Sync k) self.old result self.new }
     {
         let Some(octets) = self.sent.octets(k) else {
-            return Err(StepFault::Refused { number: 5 });
+            return Err(StepFault::NoSuchPacket);
         };
         let octets = octets.to_vec(self.alloc)?;
         self.steps += 1;

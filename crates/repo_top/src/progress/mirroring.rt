@@ -23,7 +23,7 @@ ghost use Rattle.repo_top.specs.Progressing.{standing_keys, steps};
 use super::{Progress, Standing};
 use crate::accepting::accepts;
 use crate::said::{mirror, pattern};
-use crate::stop::{Stop, step_stop};
+use crate::stop::Stop;
 use crate::telling::put_mirrored;
 use bench_net::{Draws, Net};
 use bench_world::{Event, MirrorFault, World};
@@ -271,10 +271,8 @@ fn hear(world: &mut World, i: u32, k: u32, report: &mut Vec<u8>, label: &str) ->
     ensures report { OnOk result (report.new.items ≡ mdeliver_text k label.now) }
     ensures stopped { IfErr result (IsStopOf (unless_sent (world_of world.old) k)) }
 {
-    match world.mirror_deliver(i, k) {
-        Ok(()) => Ok(put_mdeliver(report, u64::from(k), label)?),
-        Err(fault) => Err(step_stop(fault)),
-    }
+    world.mirror_deliver(i, k)?;
+    Ok(put_mdeliver(report, u64::from(k), label)?)
 }
 
 // A mirror fetches of members.

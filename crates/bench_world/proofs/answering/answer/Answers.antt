@@ -80,8 +80,8 @@ returns g c =
           c.answer_from-kept.ensures.kept;
       members =
           members_so c.args.g.now g.logs c.args.f c.args.m ms r c.in_ok-want.want claim _ _ came
-          c.remove-asker.new.self.items c.insert.new.self.items old new asker c.remove-asker.ensures.items
-          c.in-Ok.ensures.items answer c.answer_from-kept.ensures.asker;
+          c.remove-asker.new.self.items c.put_back.new.row.items old new asker c.remove-asker.ensures.items
+          c.put_back.ensures answer c.answer_from-kept.ensures.asker;
       idle =
           busy_so c.args.g.now g.logs c.args.f c.args.m ms r c.in_ok-want.want claim _ answer
           c.answer_from-kept.ensures.refused;
@@ -90,6 +90,6 @@ returns g c =
           c.answer_from-kept.ensures.refused;
       err =
           still_so c.args.g.now g.logs c.args.f c.args.m ms r c.in_ok-want.want claim _ _ came
-          c.remove-asker.new.self.items c.insert.new.self.items old new asker c.remove-asker.ensures.items
-          c.in-Ok.ensures.items answer c.answer_from-kept.ensures.err;
+          c.remove-asker.new.self.items c.put_back.new.row.items old new asker c.remove-asker.ensures.items
+          c.put_back.ensures answer c.answer_from-kept.ensures.err;
     }

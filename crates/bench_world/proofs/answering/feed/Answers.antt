@@ -79,13 +79,13 @@ returns g c =
           c.accept-fed.ensures.kept;
       members =
           members_so c.args.g.now g.logs c.args.f c.args.m ms r c.in_ok-want.want claim _ _ came
-          c.remove-asker.new.self.items c.insert.new.self.items old new asker c.remove-asker.ensures.items
-          c.in-Ok.ensures.items answer c.accept-fed.ensures.asker;
+          c.remove-asker.new.self.items c.put_back.new.row.items old new asker c.remove-asker.ensures.items
+          c.put_back.ensures answer c.accept-fed.ensures.asker;
       idle = busy_so c.args.g.now g.logs c.args.f c.args.m ms r c.in_ok-want.want claim _ answer foreign;
       refused =
           refused_so c.args.g.now g.logs c.args.f c.args.m ms r c.in_ok-want.want claim _ _ came answer foreign;
       err =
           still_so c.args.g.now g.logs c.args.f c.args.m ms r c.in_ok-want.want claim _ _ came
-          c.remove-asker.new.self.items c.insert.new.self.items old new asker c.remove-asker.ensures.items
-          c.in-Ok.ensures.items answer c.accept-fed.ensures.err;
+          c.remove-asker.new.self.items c.put_back.new.row.items old new asker c.remove-asker.ensures.items
+          c.put_back.ensures answer c.accept-fed.ensures.err;
     }

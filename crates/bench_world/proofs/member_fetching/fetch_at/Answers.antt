@@ -42,8 +42,8 @@ returns g c =
     let done =
     fetched_at (g.N.Net.passes c.args.net.now) (λ _ _. 0) c.args.g.now g.begun can.logs.are c.args.members.now.items
     can.begun can.numbers can.truly c.args.j can.there c.args.tries c.args.loss c.remove-member.new.self.items
-    c.as_slice.result.now c.insert.new.self.items c.remove-member.result c.fetch-fetched.new.holder
-    c.remove-member.ensures.value c.remove-member.ensures.items c.as_slice.ensures.value c.in-Ok.ensures.items in
+    c.as_slice.result.now c.put_back.new.row.items c.remove-member.result c.fetch-fetched.new.holder
+    c.remove-member.ensures.value c.remove-member.ensures.items c.as_slice.ensures.value c.put_back.ensures in
     record {
       members = on_ok_weaker r done.after c.fetch-fetched.ensures.new;
       planned = IfOk-weaker r _ _ (λ _ planned. planned ∙ done.planned) c.fetch-fetched.ensures.planned;

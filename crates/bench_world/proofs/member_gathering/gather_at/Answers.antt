@@ -15,9 +15,9 @@ use Rattle.bench_world.proofs.member_gathering.gather_at.Goals as goal
 pub returns-clause-others : goal.returns-clause-others
 returns-clause-others g c =
     let can = condition c.requires in
-    put_changed nobody c.args.members.now.items c.remove-member.new.self.items c.insert.new.self.items c.args.j
+    put_changed nobody c.args.members.now.items c.remove-member.new.self.items c.put_back.new.row.items c.args.j
     c.gather-kept.new.holder can.there
-    c.remove-member.ensures.items c.in-Ok.ensures.items
+    c.remove-member.ensures.items c.put_back.ensures
 
 pub gather-kept-requires : goal.gather-kept-requires
 gather-kept-requires g c κs within =
@@ -44,10 +44,10 @@ pub returns-clause-left : goal.returns-clause-left
 returns-clause-left g c =
     let can = condition c.requires in
     let here =
-    put_at nobody c.args.members.now.items c.remove-member.new.self.items c.insert.new.self.items c.args.j
-    c.gather-kept.new.holder can.there c.remove-member.ensures.items c.in-Ok.ensures.items in
+    put_at nobody c.args.members.now.items c.remove-member.new.self.items c.put_back.new.row.items c.args.j
+    c.gather-kept.new.holder can.there c.remove-member.ensures.items c.put_back.ensures in
     subst (λ (others : List Alone).
-    OnOk c.gather-kept.result (NothingLeft member_words others (alone_at c.insert.new.self.items c.args.j)))
+    OnOk c.gather-kept.result (NothingLeft member_words others (alone_at c.put_back.new.row.items c.args.j)))
     (c.as_slice.ensures.value ∙ c.remove-member.ensures.items)
     (subst (λ (a : Alone). OnOk c.gather-kept.result (NothingLeft member_words c.as_slice.result.now a)) (sym here)
     c.gather-kept.ensures.left)

@@ -50,8 +50,8 @@ returns g c =
     record {
       ok =
           on_ok_weaker r (λ new.
-          put_in ms c.remove-mirror.new.self.items c.insert.new.self.items c.args.i
-          c.fetch_of_all-fetched.new.holder.mirror c.requires.there c.remove-mirror.ensures.items c.in-Ok.ensures.items
+          put_in ms c.remove-mirror.new.self.items c.put_back.new.row.items c.args.i
+          c.fetch_of_all-fetched.new.holder.mirror c.requires.there c.remove-mirror.ensures.items c.put_back.ensures
           ∙ ap (set ms c.args.i) (same_mirror _ _ new ∙ (λ i. mirror_takes (came i) (old i))))
           c.fetch_of_all-fetched.ensures.new;
       planned =
@@ -67,8 +67,8 @@ returns g c =
           c.fetch_of_all-fetched.ensures.attempts;
       err =
           on_err_weaker r (λ same.
-          put_back no_mirror ms c.remove-mirror.new.self.items c.insert.new.self.items c.args.i
-          c.fetch_of_all-fetched.new.holder.mirror c.requires.there c.remove-mirror.ensures.items c.in-Ok.ensures.items
+          put_back no_mirror ms c.remove-mirror.new.self.items c.put_back.new.row.items c.args.i
+          c.fetch_of_all-fetched.new.holder.mirror c.requires.there c.remove-mirror.ensures.items c.put_back.ensures
           (same_mirror _ _ same ∙ old))
           c.fetch_of_all-fetched.ensures.err;
     }

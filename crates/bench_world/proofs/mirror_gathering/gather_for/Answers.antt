@@ -37,8 +37,8 @@ returns g c =
     let done =
     gathered c.args.g.now c.args.workers c.args.i c.args.members.now c.args.known.now c.args.mirrors.now.items
     c.requires c.remove-mirror.result c.remove-mirror.ensures.value c.learn.new.self c.learn.ensures
-    c.remove-mirror.new.self.items c.insert.new.self.items c.gather_of_all-came.new.holder.mirror
-    c.remove-mirror.ensures.items c.in-Ok.ensures.items
+    c.remove-mirror.new.self.items c.put_back.new.row.items c.gather_of_all-came.new.holder.mirror
+    c.remove-mirror.ensures.items c.put_back.ensures
     (gains_of c.args.g.now (logs_around c.args.members.now) c.args.members.now _ c.gather_of_all-came.new.holder
     c.gather_of_all-came.ensures.gains) in
     record {

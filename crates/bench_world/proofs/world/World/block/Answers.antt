@@ -43,9 +43,9 @@ returns-in-Err-NumbersSpent g c =
       mirrors = search rules;
       refused =
           subst (λ (x : GroupState).
-          IsFaultOf (refusal (drawing (g.D.Draws.draw c.args.draws.now)) (world_of x) event) (fault.Refused 8))
+          IsFaultOf (refusal (drawing (g.D.Draws.draw c.args.draws.now)) (world_of x) event) fault.NumbersSpent)
           c.self.view_is
-          (subst (λ (o : Option Refusal). IsFaultOf o (fault.Refused 8)) (sym spent) refl);
+          (subst (λ (o : Option Refusal). IsFaultOf o fault.NumbersSpent) (sym spent) refl);
       err = grind (arith, common_steps);
     }
 
