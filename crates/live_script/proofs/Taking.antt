@@ -15,6 +15,7 @@ use Rattle.script_lang.specs.Forms.{Stated, stated}
 use Rattle.script_lang.specs.Lines.{line_of}
 use Rattle.script_lang.specs.Reading.{FaultTells}
 use Rattle.script_lang.specs.Checking.{after_line}
+use Rattle.script_lang.proofs.Stops.{stops_so}
 use Rattle.script_report.specs.declared.refusal.Refusal.TheVariants as refusal
 use Rattle.repo_member.specs.declared.group_fault.GroupFault.{GroupFault}
 use Rattle.repo_member.specs.declared.group_fault.GroupFault.TheVariants as group_fault
@@ -77,12 +78,6 @@ pub refused_line : (r : Reached) (octets : List ℕ) (s : Stated) (fault : Check
 refused_line r octets s fault may (inl out) =
     subst (λ (f : CheckFault). IsStop (judged_line r octets s) (check_stop f)) (sym out) tt
 refused_line r octets s fault may (inr h) = stops_at r octets s fault may h
-
--- The stop that a fault is.
-pub stops_so : {A : Type 0} (r : Result A Stop) (P : Stop → Type 0) (stop : Stop) → IsErrAnd r (λ s. s ≡ stop)
-    → P stop → IfErr r P
-stops_so (Ok x) P stop h p = tt
-stops_so (Err s) P stop h p = subst P (sym h) p
 
 -- A line that is checked and refused stops so, at what is seen of the lines before.
 pub stopped_by : {A : Type 0} (view r : Reached) (s : Stated) (fault : CheckFault) (result : Result A Stop) → view ≡ r

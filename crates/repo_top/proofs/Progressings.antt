@@ -1,8 +1,7 @@
 -- What a line changes of what is kept, by what it states.
 use Rattle.std.proofs.Common.{◌≡◌, ◌∙◌, ℕ, ◌<◌, true, false, List, [], ◌∷◌, ◌++◌, length, map, Option, Some, None}
 use Rattle.std.proofs.Common.{◌+◌, length-append, Result, Ok, Err, String, Global, Vec, refl, sym, ap, subst, arith}
-use Rattle.std.specs.Prelude.{IfErr, OnOk}
-use Rattle.std.specs.Result.{IsErrAnd}
+use Rattle.std.specs.Prelude.{OnOk}
 use Rattle.std.proofs.lemmas.Bool.{true≢false}
 use Rattle.std.proofs.lemmas.List.{length-map, map-append}
 use Rattle.ndn_name.specs.Names.{Component}
@@ -485,9 +484,3 @@ pub declared_says : {A : Type 0} (r : Result A Stop) (v : Verdict) (report : Lis
 declared_says (Ok x) v report s t h none is = h ∙ ap (λ (text : List ℕ). says text t) (sym none)
     ∙ ap (λ (u : State). says report u) (sym is)
 declared_says (Err stop) v report s t h none is = tt
-
--- The stop that a fault is.
-pub stops_so : {A : Type 0} (r : Result A Stop) (P : Stop → Type 0) (stop : Stop) → IsErrAnd r (λ s. s ≡ stop)
-    → P stop → IfErr r P
-stops_so (Ok x) P stop h p = tt
-stops_so (Err s) P stop h p = subst P (sym h) p

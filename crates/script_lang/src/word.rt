@@ -192,10 +192,6 @@ pub(crate) fn name_in(alloc: Global, least: u64, most: u64, word: &str) -> Resul
     if !is_within(least, most, len) {
         return Err(LineFault::Limit);
     }
-    match Name::from_uri(alloc, word) {
-        Ok(name) => Ok(name),
-        Err(NameFault::NoMemory) => Err(LineFault::NoMemory),
-        // The text was read before.
-        Err(_) => unreachable!(),
-    }
+    // The text was read before.
+    Ok(Name::from_uri(alloc, word).map_err(NameFault::only_memory)?)
 }

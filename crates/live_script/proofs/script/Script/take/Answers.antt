@@ -4,7 +4,8 @@ use Rattle.script_lang.specs.declared.line.Line.{Line}
 use Rattle.script_lang.specs.Forms.{stated}
 use Rattle.live_script.specs.Judging.{Verdict, judged}
 use Rattle.live_script.specs.Stopping.{IsStop, line_stop}
-use Rattle.live_script.proofs.Taking.{judged_fault, judged_nothing, judged_stated, no_room, room_kept, stops_so}
+use Rattle.script_lang.proofs.Stops.{stops_so}
+use Rattle.live_script.proofs.Taking.{judged_fault, judged_nothing, judged_stated, no_room, room_kept}
 use Rattle.live_script.proofs.script.Script.take.Goals as goal
 
 pub returns-then-not-has_room-clause-stopped : goal.returns-then-not-has_room-clause-stopped

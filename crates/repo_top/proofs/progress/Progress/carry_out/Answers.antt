@@ -7,7 +7,8 @@ use Rattle.script_story.specs.Mirrors.{mirror_as}
 use Rattle.script_story.specs.Judging.{acted, given_by}
 use Rattle.repo_top.specs.Progressing.{IsStop, standing_keys, progress_state}
 use Rattle.repo_top.proofs.MirrorLines.{stands_behind}
-use Rattle.repo_top.proofs.Progressings.{as_many, carried_says, carried_stops, stops_so}
+use Rattle.script_lang.proofs.Stops.{stops_so}
+use Rattle.repo_top.proofs.Progressings.{as_many, carried_says, carried_stops}
 use Rattle.repo_top.proofs.progress.Progress.carry_out.Goals as goal
 
 pub step-requires-clause-labels : goal.step-requires-clause-labels

@@ -1,7 +1,7 @@
 use Rattle.std.proofs.Common.{◌≡◌}
 use Rattle.repo_top.specs.declared.stop.Stop.{Stop}
 use Rattle.repo_top.specs.declared.stop.Stop.TheVariants.{NoMemory}
-use Rattle.repo_top.proofs.Progressings.{stops_so}
+use Rattle.script_lang.proofs.Stops.{stops_so}
 use Rattle.repo_top.proofs.progress.Progress.fetch_at.Goals as goal
 
 pub returns-in_err-fetch-clause-stopped : goal.returns-in_err-fetch-clause-stopped

@@ -4,7 +4,7 @@ use Rattle.script_report.specs.declared.refusal.Refusal.TheVariants as refusal
 use Rattle.script_story.specs.Judging.{begun_world, watched, watchers_of}
 use Rattle.repo_top.specs.Progressing.{IsStop, IsStopWhere, progress_state}
 use Rattle.std.proofs.Common.{nat_le}
-use Rattle.repo_top.proofs.Progressings.{stops_so}
+use Rattle.script_lang.proofs.Stops.{stops_so}
 use Rattle.repo_top.proofs.WatchLines.{watched_stops}
 use Rattle.repo_top.proofs.progress.Progress.give_watcher.Goals as goal
 

@@ -1,7 +1,7 @@
 use Rattle.bench_world.specs.Worlds.{world_of}
 use Rattle.script_story.specs.Judging.{begun_world, mirror_heard}
 use Rattle.repo_top.specs.Progressing.{IsStop, progress_state}
-use Rattle.repo_top.proofs.Progressings.{stops_so}
+use Rattle.script_lang.proofs.Stops.{stops_so}
 use Rattle.repo_top.proofs.MirrorLines.{heard_stops}
 use Rattle.repo_top.proofs.progress.Progress.hear_at.Goals as goal
 

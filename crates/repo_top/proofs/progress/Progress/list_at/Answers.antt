@@ -2,7 +2,7 @@ use Rattle.std.proofs.Common.{◌≡◌, ◌∙◌, ap, map}
 use Rattle.std.specs.String.{string_bytes}
 use Rattle.repo_top.specs.declared.stop.Stop.{Stop}
 use Rattle.repo_top.specs.declared.stop.Stop.TheVariants.{NoMemory}
-use Rattle.repo_top.proofs.Progressings.{stops_so}
+use Rattle.script_lang.proofs.Stops.{stops_so}
 use Rattle.repo_top.proofs.MirrorLines.{listed_kept}
 use Rattle.repo_top.proofs.progress.Progress.list_at.Goals as goal
 

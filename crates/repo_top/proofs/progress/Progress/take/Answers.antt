@@ -4,7 +4,7 @@ use Rattle.script_story.specs.Judging.{Verdict, given_by, judged, says}
 use Rattle.repo_top.specs.Progressing.{IsStop, progress_state}
 use Rattle.repo_top.specs.Stopping.{line_stop}
 use Rattle.repo_top.proofs.Judgings.{judged_fault, judged_read}
-use Rattle.repo_top.proofs.Progressings.{stops_so}
+use Rattle.script_lang.proofs.Stops.{stops_so}
 use Rattle.repo_top.proofs.progress.Progress.take.Goals as goal
 
 pub returns-in_err-line-clause-stopped : goal.returns-in_err-line-clause-stopped

@@ -5,7 +5,8 @@ use Rattle.script_story.specs.Judging.{Verdict, given_by, judged_line, says}
 use Rattle.repo_top.specs.Progressing.{IsStop, progress_state}
 use Rattle.repo_top.specs.Stopping.{check_stop}
 use Rattle.repo_top.proofs.Judgings.{refused_line}
-use Rattle.repo_top.proofs.Progressings.{line_is_taken, stops_so}
+use Rattle.script_lang.proofs.Stops.{stops_so}
+use Rattle.repo_top.proofs.Progressings.{line_is_taken}
 use Rattle.repo_top.proofs.progress.Progress.take_line.Goals as goal
 
 pub returns-in_err-check-clause-stopped : goal.returns-in_err-check-clause-stopped

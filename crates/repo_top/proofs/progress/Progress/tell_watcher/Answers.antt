@@ -6,7 +6,8 @@ use Rattle.script_story.specs.Judging.{begun_world, told_at, watchers_of}
 use Rattle.repo_top.specs.Progressing.{IsStop, IsStopWhere, progress_state, standing_keys}
 use Rattle.std.specs.Prelude.{is_some}
 use Rattle.repo_member.specs.Groups.{GroupKeys}
-use Rattle.repo_top.proofs.Progressings.{as_many, stops_so}
+use Rattle.script_lang.proofs.Stops.{stops_so}
+use Rattle.repo_top.proofs.Progressings.{as_many}
 use Rattle.repo_top.proofs.WatchLines.{told_stops}
 use Rattle.repo_top.proofs.progress.Progress.tell_watcher.Goals as goal
 

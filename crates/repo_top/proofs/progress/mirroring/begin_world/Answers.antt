@@ -4,7 +4,7 @@ use Rattle.group_model.specs.World.{World, opening_world}
 use Rattle.bench_world.specs.Worlds.{drawing}
 use Rattle.repo_top.specs.declared.stop.Stop.{Stop}
 use Rattle.repo_top.specs.declared.stop.Stop.TheVariants.{NoMemory}
-use Rattle.repo_top.proofs.Progressings.{stops_so}
+use Rattle.script_lang.proofs.Stops.{stops_so}
 use Rattle.repo_top.proofs.MirrorWorlds.{HasBegun, begun_more, begun_none}
 use Rattle.repo_top.proofs.progress.mirroring.begin_world.Goals as goal
 
