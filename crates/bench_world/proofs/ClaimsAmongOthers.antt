@@ -131,7 +131,8 @@ module _ (g : GroupKeys) (logs : Logs) (f m : ℕ) (ms : List Alone) (can : CanG
     claims e = cc
 
     go : (k : Came)
-        → (StepFault.FetcherIdle ≡ StepFault.NoMemory) ⊎ (answered g logs (Some want.part) k ≡ Err StepFault.FetcherIdle)
+        → (StepFault.FetcherIdle ≡ StepFault.NoMemory)
+        ⊎ (answered g logs (Some want.part) k ≡ Err StepFault.FetcherIdle)
         → ⊥
     go k (inl memory) = cc
     go Nothing (inr e) = cc

@@ -45,14 +45,16 @@ pub struct Live<L: Lists, const M: u32> {
 // A member with its journal is dropped by one call, which is proved once, and not field by field wherever one is left.
 impl<L: Lists, const M: u32> Drop for Live<L, M> {
     fn drop(self) {
-        let Live {
-            number: _,
-            draw: _,
-            member: _,
-            journal: _,
-            coming: _,
-            of: _,
-        } = self;
+        match self {
+            Live {
+                number: _,
+                draw: _,
+                member: _,
+                journal: _,
+                coming: _,
+                of: _,
+            } => {}
+        }
     }
 }
 

@@ -34,10 +34,7 @@ pub struct Store {
 // A store is dropped by one call, which is proved once, and not field by field wherever one is left.
 impl Drop for Store {
     fn drop(self) {
-        let Store {
-            kept: _,
-            names: _,
-        } = self;
+        let Store { kept: _, names: _ } = self;
     }
 }
 

@@ -253,8 +253,7 @@ impl Member {
         g.is_sound();
         let key_name = key_name(g.roster().name(self.number))?;
         let key = g.members().key(self.number);
-        let packet = write_signed(alloc, &name, None, &content, &key_name, key)
-            .map_err(PacketWriteFault::only_memory)?;
-        Ok(Some(packet))
+        let packet = write_signed(alloc, &name, None, &content, &key_name, key);
+        Ok(Some(packet.map_err(PacketWriteFault::only_memory)?))
     }
 }
