@@ -4,6 +4,7 @@ ghost use Rattle.repo_command.specs.StatusCodes.{refusal_code};
 use crate::status_codes::{MALFORMED, NOT_VALIDATED};
 use ndn_interest::SignatureRefusal;
 use ndn_name::PacketFault;
+use std::alloc::AllocError;
 use thiserror::Error;
 
 /// Why octets are no command that a repository takes, in the order of the tests.
@@ -75,5 +76,16 @@ impl From<SignatureRefusal> for CommandRefusal {
             SignatureRefusal::UnknownKey => CommandRefusal::UnknownKey,
             SignatureRefusal::BadSignature => CommandRefusal::BadSignature,
         }
+    }
+}
+
+impl From<AllocError> for CommandRefusal {
+    ghost use Rattle.std.specs.Prelude.{◌≡◌};
+    ghost use Rattle.repo_command.specs.declared.command_refusal.CommandRefusal.TheVariants.{NoMemory};
+
+    ghost from_gives = { λ _ refusal. refusal ≡ NoMemory };
+
+    fn from(_error: AllocError) -> CommandRefusal {
+        CommandRefusal::NoMemory
     }
 }
