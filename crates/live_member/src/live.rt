@@ -268,6 +268,15 @@ impl<L: Lists, const M: u32> Live<L, M> {
         ensures journal { result.0.items ≡ self.journal }
         ensures member { result.1 ≡ self.state }
     {
-        (self.journal, self.member)
+        match self {
+            Live {
+                number: _,
+                draw: _,
+                member,
+                journal,
+                coming: _,
+                of: _,
+            } => (journal, member),
+        }
     }
 }
