@@ -1,6 +1,6 @@
 -- A member or a mirror that is taken out of a group and put back, changed or not, and the others.
 use Rattle.std.proofs.Common.{◌≡◌, ◌≢◌, inl, inr, ℕ, suc, zero, ◌+◌, ◌-◌, ◌<◌, ◌==◌, Bool, false, cond, List, [], ◌∷◌}
-use Rattle.std.proofs.Common.{length, get_or, set, Some, None, refl, sym, ap, ◌∙◌, arith}
+use Rattle.std.proofs.Common.{length, get_or, set, Some, None, refl, sym, ap, subst, ◌∙◌, arith}
 use Rattle.std.specs.Prelude.{nat_lt}
 use Rattle.std.specs.List.{remove, insert}
 use Rattle.std.proofs.lemmas.Bool.{cases_eq, cases_lt, eq-eqb, lt-ltb, eqb-true, false_from_ne_true, ltb-true}
@@ -36,6 +36,12 @@ module _ {A : Type 0} where
     -- As it was.
     pub put_back : x ≡ get_or ms j none → new ≡ ms
     put_back same = put_in ms mid new j x there taken put ∙ ap (set ms j) same ∙ set-get_or ms j none
+
+    -- What holds of it as it was taken and as it is put back holds of its place before and after.
+    pub put_between : (y : A) (P : A → A → Type 0) → y ≡ get_or ms j none → P y x
+        → P (get_or ms j none) (get_or new j none)
+    put_between y P was p =
+        subst (λ (b : A). P (get_or ms j none) b) (sym put_at) (subst (λ (a : A). P a x) was p)
 
 module _ (ms others : List Alone) (j : ℕ) (there : j < length ms) (are : others ≡ remove ms j) where
   -- The others stand where they stood, or one place before.

@@ -1,14 +1,15 @@
 use Rattle.std.proofs.Common.{rules, List, refl, sym, subst, ◌∙◌}
-use Rattle.std.specs.Prelude.{OnOk}
+use Rattle.std.specs.Prelude.{IfOk, OnOk}
 use Rattle.std.proofs.lemmas.List.{get_or_default}
 use Rattle.repo_member.specs.Alone.{Alone, alone_holdings}
 use Rattle.repo_member.specs.TrueMembers.{IsTrueMember}
 use Rattle.bench_world.specs.Truth.{TriedFew}
 use Rattle.bench_world.specs.Worlds.{nobody, alone_at, AreTrueMembers}
 use Rattle.bench_world.specs.MemberWords.{member_words}
-use Rattle.bench_world.specs.Gathering.{NothingLeft}
+use Rattle.bench_world.specs.Gathering.{Counts, NothingLeft, one_each}
+use Rattle.bench_world.specs.Sizes.{size_of}
 use Rattle.bench_world.proofs.TrueOthers.{others_true}
-use Rattle.bench_world.proofs.TakenOut.{put_at, put_changed}
+use Rattle.bench_world.proofs.TakenOut.{put_at, put_between, put_changed}
 use Rattle.bench_world.proofs.Bounded.{condition, member_passed_on}
 use Rattle.bench_world.proofs.member_gathering.gather_at.Goals as goal
 
@@ -51,3 +52,25 @@ returns-clause-left g c =
     (c.as_slice.ensures.value ∙ c.remove-member.ensures.items)
     (subst (λ (a : Alone). OnOk c.gather-kept.result (NothingLeft member_words c.as_slice.result.now a)) (sym here)
     c.gather-kept.ensures.left)
+
+pub returns-clause-parts : goal.returns-clause-parts
+returns-clause-parts g c =
+    let can = condition c.requires in
+    let P : Alone → Alone → Type 0 =
+    λ a b. IfOk c.gather-kept.result (λ kept. Counts member_words one_each kept.parts a b) in
+    put_between nobody c.args.members.now.items c.remove-member.new.self.items c.put_back.new.row.items c.args.j
+    c.gather-kept.new.holder can.there c.remove-member.ensures.items c.put_back.ensures c.remove-member.result P
+    (c.remove-member.ensures.value
+    ∙ get_or_default c.args.members.now.items c.args.j c.remove-member.result nobody can.there)
+    c.gather-kept.ensures.parts
+
+pub returns-clause-octets : goal.returns-clause-octets
+returns-clause-octets g c =
+    let can = condition c.requires in
+    let P : Alone → Alone → Type 0 =
+    λ a b. IfOk c.gather-kept.result (λ kept. Counts member_words (size_of c.args.g.now g.logs) kept.octets a b) in
+    put_between nobody c.args.members.now.items c.remove-member.new.self.items c.put_back.new.row.items c.args.j
+    c.gather-kept.new.holder can.there c.remove-member.ensures.items c.put_back.ensures c.remove-member.result P
+    (c.remove-member.ensures.value
+    ∙ get_or_default c.args.members.now.items c.args.j c.remove-member.result nobody can.there)
+    c.gather-kept.ensures.octets
