@@ -30,7 +30,8 @@ from_short-requires c =
     c.name.ensures in
     let keys = c.is_sound.ensures.clients in
     subst (λ (n : List Component). length (encoding n) ≤ 1000)
-    (sym (key_viewed c.args.g.now keys c.args.client c.requires c.name.result.now c.in-Ok.view found c.in-Ok.ensures.read))
+    (sym
+    (key_viewed c.args.g.now keys c.args.client c.requires c.name.result.now c.in-Ok.view found c.in-Ok.ensures.read))
     (key_short c.args.g.now keys c.args.client c.requires)
 
 pub returns : goal.returns

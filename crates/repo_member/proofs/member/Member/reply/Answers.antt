@@ -35,7 +35,8 @@ map_err-requires c =
       ap length c.octets.ensures.spelled,
     ) in
     let content = c.deref.ensures.value ∙ c.in_ok-content.ensures in
-    let size = reply-size c.in_ok-name.name c.args.answer.now c.in_ok-key_name.key_name c.key-key.result.now short keyed in
+    let size =
+    reply-size c.in_ok-name.name c.args.answer.now c.in_ok-key_name.key_name c.key-key.result.now short keyed in
     let same =
     ap (λ octets. length (written_data c.in_ok-name.name None octets c.in_ok-key_name.key_name c.key-key.result.now))
     content in
