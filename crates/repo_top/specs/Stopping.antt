@@ -9,7 +9,6 @@ use Rattle.repo_watch.specs.declared.watchers.WatchFault.{WatchFault}
 use Rattle.repo_watch.specs.declared.watchers.WatchFault.TheVariants as watch_fault
 use Rattle.bench_world.specs.declared.event.StepFault.{StepFault}
 use Rattle.bench_world.specs.declared.event.StepFault.TheVariants as step_fault
-use Rattle.script_report.specs.declared.refusal.Refusal.{Refusal}
 use Rattle.script_report.specs.declared.refusal.Refusal.TheVariants as refusal
 use Rattle.repo_top.specs.declared.stop.Stop.{Stop}
 use Rattle.repo_top.specs.declared.stop.Stop.TheVariants.{Refused, Foreign, NoMemory}

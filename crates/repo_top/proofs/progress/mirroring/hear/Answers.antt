@@ -7,11 +7,11 @@ use Rattle.script_story.specs.Mirrors.{mirror_as, mirror_hears, mirror_of}
 use Rattle.repo_top.proofs.MirrorWorlds.{at_as, set_as}
 use Rattle.repo_top.proofs.progress.mirroring.hear.Goals as goal
 
-pub returns-in_ok-put_mdeliver-in-Ok-clause-mirrors : goal.returns-in_ok-put_mdeliver-in-Ok-clause-mirrors
-returns-in_ok-put_mdeliver-in-Ok-clause-mirrors c =
+pub returns-clause-mirrors : goal.returns-clause-mirrors
+returns-clause-mirrors c =
     let old : List MirrorState = c.args.world.now.mirrors in
     let told : List ℕ = (sent_at (world_of c.args.world.now) c.args.k).vector in
     set_as old c.mirror_deliver.new.self.mirrors c.args.i (mirror_learns told (mirror_at old c.args.i))
     (mirror_hears told (mirror_of (map mirror_as old) c.args.i))
-    (ap (λ (s : GroupState). s.mirrors) c.in-Ok.ensures.ok)
+    (ap (λ (s : GroupState). s.mirrors) c.in_ok-mirror_deliver.ensures.ok)
     (ap (mirror_hears told) (sym (at_as old c.args.i c.requires.there)))
