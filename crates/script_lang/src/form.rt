@@ -9,20 +9,20 @@ ghost use Rattle.script_lang.specs.Lines.{are_within, stated_of};
 
 use crate::cursor::Cursor;
 use crate::limits::{
-    ANY, BLOCK, BLOCKS, CONTENT, INJECTION, KEY, LAST_PART, NODE_NAME, NUMBERS, OBJECT_NAME,
-    SEGMENTS,
+    ADVANCE, ANY, BLOCK, BLOCKS, CONTENT, FETCHERS, INJECTION, KEY, LAST_PART, LOSS, NODE_NAME,
+    NUMBERS, OBJECT_NAME, SEGMENT, SEGMENTS, TRIES, WORKERS,
 };
 use crate::line::Line;
 use crate::line_fault::LineFault;
 use crate::verb::Verb;
 use std::alloc::Global;
 
-// The line of this form that the words are.
+// Reads the words behind the verb as a line of its form.
 pub(crate) fn line_of(alloc: Global, verb: Verb, words: Cursor<'_>) -> Result<Line, LineFault>
     ensures { Gives stated result (stated_of verb (left_of (form verb).kinds words.entry)) }
 {
     let mut words = words;
-    let line = values_in(alloc, verb, &mut words)?;
+    let line = read_form(alloc, verb, &mut words)?;
     words.end()?;
     if are_within(&line) {
         Ok(line)
@@ -31,8 +31,8 @@ pub(crate) fn line_of(alloc: Global, verb: Verb, words: Cursor<'_>) -> Result<Li
     }
 }
 
-// The words by the form's kinds, one after another.
-fn values_in(alloc: Global, verb: Verb, words: &mut Cursor<'_>) -> Result<Line, LineFault>
+// Reads as many words as the form has, one after another.
+fn read_form(alloc: Global, verb: Verb, words: &mut Cursor<'_>) -> Result<Line, LineFault>
     ensures { ReadsForm verb words.old words.new result }
 {
     match verb {
@@ -42,14 +42,14 @@ fn values_in(alloc: Global, verb: Verb, words: &mut Cursor<'_>) -> Result<Line, 
         Verb::Member => member(alloc, words),
         Verb::Client => client(alloc, words),
         Verb::Mirror => mirror(alloc, words),
-        Verb::Publish => publication(alloc, words),
-        Verb::Withdraw => withdrawal(alloc, words),
-        Verb::Deliver => delivery(alloc, words),
+        Verb::Publish => publish(alloc, words),
+        Verb::Withdraw => withdraw(alloc, words),
+        Verb::Deliver => deliver(alloc, words),
         Verb::Sync => Ok(Line::Sync {
             k: words.small(1, u32::MAX)?,
         }),
         Verb::Advance => Ok(Line::Advance {
-            ms: words.number(0, 1_000_000_000)?,
+            ms: words.number(0, ADVANCE)?,
         }),
         Verb::Fire => Ok(Line::Fire {
             m: words.label(alloc)?,
@@ -64,25 +64,25 @@ fn values_in(alloc: Global, verb: Verb, words: &mut Cursor<'_>) -> Result<Line, 
             m: words.label(alloc)?,
         }),
         Verb::Claim => claim(alloc, words),
-        Verb::Lose => loss(alloc, words),
+        Verb::Lose => lose(alloc, words),
         Verb::Answer => answer(alloc, words),
         Verb::Fetch => fetch(alloc, words),
         Verb::Settle => Ok(Line::Settle {
-            workers: words.small(1, 16)?,
+            workers: words.small(1, WORKERS)?,
         }),
         Verb::Dump => dump(alloc, words),
-        Verb::Hear => hearing(alloc, words),
+        Verb::Hear => hear(alloc, words),
         Verb::Order => order(alloc, words),
-        Verb::Ask => asking(alloc, words),
-        Verb::Feed => feeding(alloc, words),
-        Verb::Insert => insertion(alloc, words),
+        Verb::Ask => ask(alloc, words),
+        Verb::Feed => feed(alloc, words),
+        Verb::Insert => insert(alloc, words),
         Verb::Block => block(alloc, words),
         Verb::Status => status(alloc, words),
-        Verb::Delete => deletion(alloc, words),
+        Verb::Delete => delete(alloc, words),
         Verb::Watch => watch(alloc, words),
         Verb::Told => told(alloc, words),
-        Verb::Mdeliver => mirror_delivery(alloc, words),
-        Verb::Mfetch => mirror_fetch(alloc, words),
+        Verb::Mdeliver => mdeliver(alloc, words),
+        Verb::Mfetch => mfetch(alloc, words),
         Verb::Mcatalogue => Ok(Line::Mcatalogue {
             l: words.label(alloc)?,
         }),
@@ -91,7 +91,8 @@ fn values_in(alloc: Global, verb: Verb, words: &mut Cursor<'_>) -> Result<Line, 
     }
 }
 
-// A declaration of a member.
+// Each form of more than one word behind its verb, in the order of the verbs.
+
 fn member(alloc: Global, words: &mut Cursor<'_>) -> Result<Line, LineFault>
     ensures { ReadsForm Member words.old words.new result }
 {
@@ -102,7 +103,6 @@ fn member(alloc: Global, words: &mut Cursor<'_>) -> Result<Line, LineFault>
     })
 }
 
-// A declaration of a client.
 fn client(alloc: Global, words: &mut Cursor<'_>) -> Result<Line, LineFault>
     ensures { ReadsForm Client words.old words.new result }
 {
@@ -113,7 +113,6 @@ fn client(alloc: Global, words: &mut Cursor<'_>) -> Result<Line, LineFault>
     })
 }
 
-// A declaration of a mirror.
 fn mirror(alloc: Global, words: &mut Cursor<'_>) -> Result<Line, LineFault>
     ensures { ReadsForm Mirror words.old words.new result }
 {
@@ -124,20 +123,18 @@ fn mirror(alloc: Global, words: &mut Cursor<'_>) -> Result<Line, LineFault>
     })
 }
 
-// A publication.
-fn publication(alloc: Global, words: &mut Cursor<'_>) -> Result<Line, LineFault>
+fn publish(alloc: Global, words: &mut Cursor<'_>) -> Result<Line, LineFault>
     ensures { ReadsForm Publish words.old words.new result }
 {
     Ok(Line::Publish {
         m: words.label(alloc)?,
         name: words.name(alloc, 1, OBJECT_NAME)?,
-        size: words.small(1, BLOCK as u32)?,
+        size: words.small(1, SEGMENT)?,
         content: words.content(alloc, 0, CONTENT)?,
     })
 }
 
-// A withdrawal.
-fn withdrawal(alloc: Global, words: &mut Cursor<'_>) -> Result<Line, LineFault>
+fn withdraw(alloc: Global, words: &mut Cursor<'_>) -> Result<Line, LineFault>
     ensures { ReadsForm Withdraw words.old words.new result }
 {
     Ok(Line::Withdraw {
@@ -146,8 +143,7 @@ fn withdrawal(alloc: Global, words: &mut Cursor<'_>) -> Result<Line, LineFault>
     })
 }
 
-// A delivery of a sync Interest.
-fn delivery(alloc: Global, words: &mut Cursor<'_>) -> Result<Line, LineFault>
+fn deliver(alloc: Global, words: &mut Cursor<'_>) -> Result<Line, LineFault>
     ensures { ReadsForm Deliver words.old words.new result }
 {
     Ok(Line::Deliver {
@@ -156,50 +152,45 @@ fn delivery(alloc: Global, words: &mut Cursor<'_>) -> Result<Line, LineFault>
     })
 }
 
-// A claim of a fetcher.
 fn claim(alloc: Global, words: &mut Cursor<'_>) -> Result<Line, LineFault>
     ensures { ReadsForm Claim words.old words.new result }
 {
     Ok(Line::Claim {
         m: words.label(alloc)?,
-        f: words.small(1, 16)?,
+        f: words.small(1, FETCHERS)?,
     })
 }
 
-// A loss of what a fetcher claims.
-fn loss(alloc: Global, words: &mut Cursor<'_>) -> Result<Line, LineFault>
+fn lose(alloc: Global, words: &mut Cursor<'_>) -> Result<Line, LineFault>
     ensures { ReadsForm Lose words.old words.new result }
 {
     Ok(Line::Lose {
         m: words.label(alloc)?,
-        f: words.small(1, 16)?,
+        f: words.small(1, FETCHERS)?,
     })
 }
 
-// An answer to a fetcher.
 fn answer(alloc: Global, words: &mut Cursor<'_>) -> Result<Line, LineFault>
     ensures { ReadsForm Answer words.old words.new result }
 {
     Ok(Line::Answer {
         m: words.label(alloc)?,
-        f: words.small(1, 16)?,
+        f: words.small(1, FETCHERS)?,
         q: words.label(alloc)?,
     })
 }
 
-// A fetch.
 fn fetch(alloc: Global, words: &mut Cursor<'_>) -> Result<Line, LineFault>
     ensures { ReadsForm Fetch words.old words.new result }
 {
     Ok(Line::Fetch {
         m: words.label(alloc)?,
-        workers: words.small(1, 16)?,
-        tries: words.small(1, 16)?,
-        loss: words.small(0, 1_000)?,
+        workers: words.small(1, WORKERS)?,
+        tries: words.small(1, TRIES)?,
+        loss: words.small(0, LOSS)?,
     })
 }
 
-// A dump of a part.
 fn dump(alloc: Global, words: &mut Cursor<'_>) -> Result<Line, LineFault>
     ensures { ReadsForm Dump words.old words.new result }
 {
@@ -211,8 +202,7 @@ fn dump(alloc: Global, words: &mut Cursor<'_>) -> Result<Line, LineFault>
     })
 }
 
-// Octets that a member hears.
-fn hearing(alloc: Global, words: &mut Cursor<'_>) -> Result<Line, LineFault>
+fn hear(alloc: Global, words: &mut Cursor<'_>) -> Result<Line, LineFault>
     ensures { ReadsForm Hear words.old words.new result }
 {
     Ok(Line::Hear {
@@ -221,7 +211,6 @@ fn hearing(alloc: Global, words: &mut Cursor<'_>) -> Result<Line, LineFault>
     })
 }
 
-// Octets that are a command to a member.
 fn order(alloc: Global, words: &mut Cursor<'_>) -> Result<Line, LineFault>
     ensures { ReadsForm Order words.old words.new result }
 {
@@ -231,8 +220,7 @@ fn order(alloc: Global, words: &mut Cursor<'_>) -> Result<Line, LineFault>
     })
 }
 
-// Octets that a member is asked.
-fn asking(alloc: Global, words: &mut Cursor<'_>) -> Result<Line, LineFault>
+fn ask(alloc: Global, words: &mut Cursor<'_>) -> Result<Line, LineFault>
     ensures { ReadsForm Ask words.old words.new result }
 {
     Ok(Line::Ask {
@@ -241,19 +229,17 @@ fn asking(alloc: Global, words: &mut Cursor<'_>) -> Result<Line, LineFault>
     })
 }
 
-// Octets that a fetcher is fed.
-fn feeding(alloc: Global, words: &mut Cursor<'_>) -> Result<Line, LineFault>
+fn feed(alloc: Global, words: &mut Cursor<'_>) -> Result<Line, LineFault>
     ensures { ReadsForm Feed words.old words.new result }
 {
     Ok(Line::Feed {
         m: words.label(alloc)?,
-        f: words.small(1, 16)?,
+        f: words.small(1, FETCHERS)?,
         octets: words.hex(alloc, INJECTION)?,
     })
 }
 
-// An insertion.
-fn insertion(alloc: Global, words: &mut Cursor<'_>) -> Result<Line, LineFault>
+fn insert(alloc: Global, words: &mut Cursor<'_>) -> Result<Line, LineFault>
     ensures { ReadsForm Insert words.old words.new result }
 {
     Ok(Line::Insert {
@@ -265,7 +251,6 @@ fn insertion(alloc: Global, words: &mut Cursor<'_>) -> Result<Line, LineFault>
     })
 }
 
-// A block of an insertion.
 fn block(alloc: Global, words: &mut Cursor<'_>) -> Result<Line, LineFault>
     ensures { ReadsForm Block words.old words.new result }
 {
@@ -277,7 +262,6 @@ fn block(alloc: Global, words: &mut Cursor<'_>) -> Result<Line, LineFault>
     })
 }
 
-// A question for the status of an insertion.
 fn status(alloc: Global, words: &mut Cursor<'_>) -> Result<Line, LineFault>
     ensures { ReadsForm Status words.old words.new result }
 {
@@ -288,8 +272,7 @@ fn status(alloc: Global, words: &mut Cursor<'_>) -> Result<Line, LineFault>
     })
 }
 
-// A deletion.
-fn deletion(alloc: Global, words: &mut Cursor<'_>) -> Result<Line, LineFault>
+fn delete(alloc: Global, words: &mut Cursor<'_>) -> Result<Line, LineFault>
     ensures { ReadsForm Delete words.old words.new result }
 {
     Ok(Line::Delete {
@@ -299,7 +282,6 @@ fn deletion(alloc: Global, words: &mut Cursor<'_>) -> Result<Line, LineFault>
     })
 }
 
-// A watcher.
 fn watch(alloc: Global, words: &mut Cursor<'_>) -> Result<Line, LineFault>
     ensures { ReadsForm Watch words.old words.new result }
 {
@@ -310,7 +292,6 @@ fn watch(alloc: Global, words: &mut Cursor<'_>) -> Result<Line, LineFault>
     })
 }
 
-// What a watcher is told.
 fn told(alloc: Global, words: &mut Cursor<'_>) -> Result<Line, LineFault>
     ensures { ReadsForm Told words.old words.new result }
 {
@@ -320,8 +301,7 @@ fn told(alloc: Global, words: &mut Cursor<'_>) -> Result<Line, LineFault>
     })
 }
 
-// A delivery of a sync Interest to a mirror.
-fn mirror_delivery(alloc: Global, words: &mut Cursor<'_>) -> Result<Line, LineFault>
+fn mdeliver(alloc: Global, words: &mut Cursor<'_>) -> Result<Line, LineFault>
     ensures { ReadsForm Mdeliver words.old words.new result }
 {
     Ok(Line::Mdeliver {
@@ -330,15 +310,14 @@ fn mirror_delivery(alloc: Global, words: &mut Cursor<'_>) -> Result<Line, LineFa
     })
 }
 
-// A fetch by a mirror.
-fn mirror_fetch(alloc: Global, words: &mut Cursor<'_>) -> Result<Line, LineFault>
+fn mfetch(alloc: Global, words: &mut Cursor<'_>) -> Result<Line, LineFault>
     ensures { ReadsForm Mfetch words.old words.new result }
 {
     Ok(Line::Mfetch {
         l: words.label(alloc)?,
-        workers: words.small(1, 16)?,
-        tries: words.small(1, 16)?,
-        loss: words.small(0, 1_000)?,
+        workers: words.small(1, WORKERS)?,
+        tries: words.small(1, TRIES)?,
+        loss: words.small(0, LOSS)?,
     })
 }
 

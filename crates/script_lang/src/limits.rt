@@ -24,7 +24,7 @@ pub const PARTS_LIMIT: u64 = 100_000;
 pub const SETTLES_LIMIT: u64 = 1_000;
 
 // The ranges of words, in octets: the value of a node's or the group's name, of an object's name, a key,
-// octets that are handed in, the content of a block and of a publication.
+// octets that are handed in, the content of a segment, of a block and of a publication.
 pub(crate) const NODE_NAME: u64 = 200;
 
 pub(crate) const OBJECT_NAME: u64 = 400;
@@ -32,6 +32,8 @@ pub(crate) const OBJECT_NAME: u64 = 400;
 pub(crate) const KEY: u64 = 128;
 
 pub(crate) const INJECTION: u64 = 9_000;
+
+pub(crate) const SEGMENT: u32 = 8_000;
 
 pub(crate) const BLOCK: u64 = 8_000;
 
@@ -44,6 +46,18 @@ pub(crate) const SEGMENTS: u64 = 20_000;
 pub(crate) const LISTED: u64 = 200;
 
 pub(crate) const BLOCKS: u64 = 200;
+
+// How many fetchers a member has, how many workers share a fetch or a settle, how often a fetch asks for a part, how
+// many of a thousand attempts may be lost, and how many milliseconds a line may advance.
+pub(crate) const FETCHERS: u32 = 16;
+
+pub(crate) const WORKERS: u32 = 16;
+
+pub(crate) const TRIES: u32 = 16;
+
+pub(crate) const LOSS: u32 = 1_000;
+
+pub(crate) const ADVANCE: u64 = 1_000_000_000;
 
 // The greatest number of a publication, and of a part of one: 20,000 segments stand behind 100 index packets.
 pub(crate) const NUMBERS: u32 = 65_535;

@@ -10,4 +10,4 @@ returns-in_err-end c =
     let p = err_from_is_err_and c.from_residual-in_err-end.result c.from_residual-in_err-end.ensures.1 in
     rw (p.1, p.2) (told_at_end c.in_err-end.field-0.0 c.args.verb (stated c.in_ok-line.line).values
     (left_of (form c.args.verb).kinds c.args.words)
-    (left_of [] c.values_in.new.words) c.in_ok-line.ensures.1 c.in_err-end.ensures.err)
+    (left_of [] c.read_form.new.words) c.in_ok-line.ensures.1 c.in_err-end.ensures.err)
