@@ -25,7 +25,7 @@ use Rattle.group_model.specs.Steps.{attempts_made, after_fetch}
 use Rattle.group_model.proofs.PublicLaws.{gathering_joins, gathering_within, more_within, tallies_fit}
 use Rattle.repo_member.specs.Alone.{Alone}
 use Rattle.repo_member.specs.InGroup.{in_group}
-use Rattle.bench_world.specs.declared.telling.Told.{Told}
+use Rattle.bench_world.specs.declared.telling.MemberSync.{MemberSync}
 use Rattle.bench_world.specs.Serving.{outside, keyed}
 use Rattle.bench_world.specs.Settling.{told_of, gain_sum, ArePartlySettled, IsPartlySettled}
 use Rattle.bench_world.specs.Sizes.{size_of}
@@ -236,7 +236,7 @@ module _ (s : GroupState) (is : IsTrueState s) where
 
     module _ (mid : List Alone)
         (mid_is : in_groups mid ≡ map (settled_member (only_members s.members)) (in_groups s.members))
-        (sent : List SentPacket) (told : List Told)
+        (sent : List SentPacket) (told : List MemberSync)
         (sent_is : sent ≡ s.sent ++ map told_of told) (told_is : map told_of told ≡ map (tells s.keys) s.members)
         (count less parts octets : ℕ) (count_is : count ≡ length mid) (less_is : less ≡ count - 1)
         (parts_is : parts ≡ settle_gains (only_members s.members))

@@ -6,7 +6,7 @@ use Rattle.std.proofs.lemmas.List.{get_or-set_same, get_or-set_other, get_or_def
 use Rattle.bench_net.specs.SentList.{SentPacket}
 use Rattle.repo_member.specs.Groups.{GroupKeys}
 use Rattle.repo_member.specs.Alone.{Alone}
-use Rattle.bench_world.specs.declared.telling.Told.{Told}
+use Rattle.bench_world.specs.declared.telling.MemberSync.{MemberSync}
 use Rattle.bench_world.specs.Worlds.{nobody, alone_at, tells}
 use Rattle.bench_world.specs.Settling.{told_of}
 
@@ -35,7 +35,8 @@ module _ (mid : List Alone) (j : ℕ) (inside : j < length mid) (b : Alone) wher
   ]
 
 -- One more has told.
-pub told_pushed : (g : GroupKeys) (told more : List Told) (one : Told) (members : List Alone) (i : ℕ) (item : Alone)
+pub told_pushed : (g : GroupKeys) (told more : List MemberSync) (one : MemberSync) (members : List Alone)
+    (i : ℕ) (item : Alone)
     → i < length members → item ≡ get_or members i item → more ≡ told ++ one ∷ [] → told_of one ≡ tells g item
     → map told_of told ≡ map (tells g) (take i members) → map told_of more ≡ map (tells g) (take (i + 1) members)
 told_pushed g told more one members i item l is e same before =

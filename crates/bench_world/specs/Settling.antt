@@ -12,10 +12,10 @@ use Rattle.repo_member.specs.InGroup.{in_group}
 use Rattle.bench_net.specs.SentList.{SentPacket, sent_packet}
 use Rattle.bench_world.specs.Truth.{AllTriedFew}
 use Rattle.bench_world.specs.Worlds.{alone_at, in_groups, AllCountsStay, AreTrueMembers, MembersAreNumbered}
-use Rattle.bench_world.specs.declared.telling.Told.{Told}
+use Rattle.bench_world.specs.declared.telling.MemberSync.{MemberSync}
 
 -- What a member tells, as it is kept.
-abbrev pub told_of : Told → SentPacket
+abbrev pub told_of : MemberSync → SentPacket
 told_of t = sent_packet t.sender t.vector.items t.octets.items
 
 -- How many parts come to all members, and how many octets, where each part counts as `weight` says.

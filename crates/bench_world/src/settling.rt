@@ -10,7 +10,7 @@ ghost use Rattle.bench_world.specs.Worlds.{MembersAreNumbered};
 ghost use Rattle.bench_world.specs.Settling.{told_of, gain_sum, ArePartlySettled};
 
 use crate::member_gathering::gather_all;
-use crate::telling::{Told, all_known, learn_all, tell_all};
+use crate::telling::{MemberSync, all_known, learn_all, tell_all};
 use bench_net::{Draws, Net, Sent};
 use repo_member::{Group, Member};
 use std::alloc::{AllocError, Global};
@@ -26,7 +26,7 @@ pub(crate) fn settle_members<N: Net + Sync, R: Threads + Sync>(
     net: &N,
     workers: u32,
     members: &mut Vec<Member>,
-) -> Result<(Vec<Told>, u64, u64), AllocError>
+) -> Result<(Vec<MemberSync>, u64, u64), AllocError>
     ghost begun: { World }
     requires { CanSettle g.now begun workers members.old.items }
     ensures told { IfOk result (λ r. map told_of r.0.items ≡ map (tells g.now) members.old.items) }
@@ -48,7 +48,7 @@ pub(crate) fn settle_members<N: Net + Sync, R: Threads + Sync>(
 }
 
 /// What was told is sent, for which room was made.
-pub(crate) fn send_all(sent: &mut Sent, told: Vec<Told>)
+pub(crate) fn send_all(sent: &mut Sent, told: Vec<MemberSync>)
     requires room { vec_len told ≤ sent.old.spare }
     requires few { length sent.old.packets + vec_len told < 4294967295 }
     ensures { sent.new.packets ≡ sent.old.packets ++ map told_of told.items }

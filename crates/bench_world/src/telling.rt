@@ -14,7 +14,7 @@ use svs_vector::Vector;
 
 /// A member's sync Interest, with the vector that it tells.
 #[derive(Drop)]
-pub(crate) struct Told {
+pub(crate) struct MemberSync {
     pub(crate) sender: u32,
     pub(crate) vector: Vec<u16>,
     pub(crate) octets: Vec<u8>,
@@ -25,7 +25,7 @@ pub(crate) fn tell_all(
     alloc: Global,
     g: &Group,
     members: &[Member],
-) -> Result<Vec<Told>, AllocError>
+) -> Result<Vec<MemberSync>, AllocError>
     ghost logs: { Logs }
     requires { CanTell g.now logs members.now }
     ensures { IfOk result (λ told. map told_of told.items ≡ map (tells g.now) members.now) }
@@ -35,7 +35,7 @@ pub(crate) fn tell_all(
     for member in members {
         let vector = numbers(alloc, member.vector())?;
         let octets = member.sync(alloc, g)?;
-        told.push(Told {
+        told.push(MemberSync {
             sender,
             vector,
             octets,

@@ -15,14 +15,14 @@ const MOST_OF_PACKET: usize = 8_800;
 
 // What comes of an input: the text, and the end.
 #[derive(Drop)]
-pub(crate) struct Told {
+pub(crate) struct Inspected {
     pub(crate) text: Vec<u8>,
     pub(crate) ending: Ending,
 }
 
 // Inspects the octets whose digits the input gives.
 #[tactic(auto, unfolding(crate::specs::Inspection::inspect_story))]
-pub(crate) fn tell_inspection(alloc: Global, input: Vec<u8>) -> Result<Told, AllocError>
+pub(crate) fn tell_inspection(alloc: Global, input: Vec<u8>) -> Result<Inspected, AllocError>
     ensures text { IfOk result (λ told. told.text.items ≡ (inspect_story input.items).text) }
     ensures ending { IfOk result (λ told. told.ending ≡ (inspect_story input.items).ending) }
 {
@@ -38,7 +38,7 @@ pub(crate) fn tell_inspection(alloc: Global, input: Vec<u8>) -> Result<Told, All
 }
 
 // Inspects the octets, where a packet may have so many.
-fn tell_octets(alloc: Global, octets: &[u8]) -> Result<Told, AllocError>
+fn tell_octets(alloc: Global, octets: &[u8]) -> Result<Inspected, AllocError>
     ensures text { IfOk result (λ told. told.text.items ≡ (octets_story octets.now).text) }
     ensures ending { IfOk result (λ told. told.ending ≡ (octets_story octets.now).ending) }
 {
@@ -47,7 +47,7 @@ fn tell_octets(alloc: Global, octets: &[u8]) -> Result<Told, AllocError>
     }
     let (text, sound) = ndn_inspect::inspect(alloc, octets)?;
     if sound {
-        return Ok(Told {
+        return Ok(Inspected {
             text,
             ending: Ending::Done,
         });
@@ -56,18 +56,18 @@ fn tell_octets(alloc: Global, octets: &[u8]) -> Result<Told, AllocError>
         line: 1,
         number: Refusal::BadPacket.number(),
     };
-    Ok(Told { text, ending })
+    Ok(Inspected { text, ending })
 }
 
 // The input as its first line is refused.
-fn refuse(alloc: Global, refusal: Refusal) -> Result<Told, AllocError>
+fn refuse(alloc: Global, refusal: Refusal) -> Result<Inspected, AllocError>
     ensures text { IfOk result (λ told. told.text.items ≡ (refused refusal).text) }
     ensures ending { IfOk result (λ told. told.ending ≡ (refused refusal).ending) }
 {
     let mut text = Vec::new(alloc);
     let number = refusal.number();
     put_refused(&mut text, 1, u64::from(number), refusal.word())?;
-    Ok(Told {
+    Ok(Inspected {
         text,
         ending: Ending::Refused { line: 1, number },
     })

@@ -36,11 +36,14 @@ use std::alloc::Global;
 use std::mem;
 use std::thread::Threads;
 
-// Members and clients are declared behind the group, and events follow.
+// How far a script is. A step takes the world out and puts it back; a run ends at a line that is refused, so nobody
+// asks how it stands behind one.
 pub(crate) enum Standing {
+    // No group is declared.
     Opening,
-    // With what the mirrors ask for.
+    // Members, clients and mirrors may still be declared: the group, and what the mirrors ask for.
     Declaring(Group, Vec<Pattern>),
+    // An event came.
     Acting(World),
 }
 

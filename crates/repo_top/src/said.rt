@@ -14,6 +14,9 @@ use script_lang::{Line, Words};
 
 // The event that a line states, whose labels the words have declared; none of a declaration or a line of watchers or
 // mirrors.
+//
+// Lines go kind by kind, a function each that passes what is of no kind yet to the next, since one function over all
+// lines takes minutes to prove.
 pub(crate) fn said(words: &Words, line: Line) -> Option<Event>
     requires { are_known words.now (stated line) ≡ true }
     ensures { option_map event_value result ≡ said_event words.now (stated line) }

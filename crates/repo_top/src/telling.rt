@@ -23,7 +23,7 @@ use script_report::{
 };
 use std::alloc::AllocError;
 
-// Writes the report of what happened, under the labels of the members.
+// Writes the report of what happened, under the labels of the members, kind by kind as `said` goes.
 pub(crate) fn put_happened(
     report: &mut Vec<u8>,
     labels: &[String],

@@ -15,7 +15,7 @@ pub(crate) fn put_line(
 {
     let before = out.len();
     let written = write_line(out, first, pieces);
-    whole(out, before, written)
+    all_or_nothing(out, before, written)
 }
 
 // The same, but what was there may stand in front of some more if memory ran out.
@@ -34,7 +34,7 @@ pub(crate) fn write_line(
 }
 
 // Takes away what was written behind so many octets, where memory ran out.
-pub(crate) fn whole(
+pub(crate) fn all_or_nothing(
     out: &mut Vec<u8>,
     before: usize,
     written: Result<(), AllocError>,

@@ -3,7 +3,7 @@ ghost use Rattle.script_report.specs.Texts.{catalogue_text, entries_text, entry_
 ghost use Rattle.script_report.specs.Texts.{traffic_text, vector_text};
 ghost use Rattle.script_report.specs.Pieces.{Appends, KeepsFront, words_in};
 
-use crate::line::{put_line, whole, write_line};
+use crate::line::{all_or_nothing, put_line, write_line};
 use crate::piece::Piece;
 use crate::piece::Piece::{Counts, Hex, Number, Uri, Word};
 use repo_catalog::Entry;
@@ -51,7 +51,7 @@ pub(crate) fn put_listing(
 {
     let before = out.len();
     let written = write_listing(out, first, pieces, labels, entries);
-    whole(out, before, written)
+    all_or_nothing(out, before, written)
 }
 
 fn write_listing(
@@ -117,7 +117,7 @@ pub fn put_summary(
 {
     let before = out.len();
     let written = write_summary(out, labels, entries, segments, octets);
-    whole(out, before, written)
+    all_or_nothing(out, before, written)
 }
 
 fn write_summary(

@@ -5,7 +5,7 @@ ghost use Rattle.repo_member.specs.Alone.{IsOfGroup, publication_limit};
 ghost use Rattle.repo_member.specs.Blocks.{alone_block, alone_blocks, CompletesAnObject, TellsBlock};
 
 use super::Member;
-use super::publishing::{LOG_LIMIT, Published};
+use super::publishing::{PUBLICATION_LIMIT, Published};
 use crate::group::Group;
 use crate::refusals::PublishRefusal;
 use repo_object::Object;
@@ -53,7 +53,7 @@ impl Member {
     {
         let is_last = self.processes.completes(process, index);
         let log = self.log_len();
-        if is_last && log >= LOG_LIMIT {
+        if is_last && log >= PUBLICATION_LIMIT {
             return Err(PublishRefusal::NumbersSpent { log });
         }
         match self.processes.block(process, index, content)? {

@@ -23,7 +23,7 @@ use repo_plan::{Part, Shape};
 use std::alloc::AllocError;
 
 /// How often a member may publish.
-pub(super) const LOG_LIMIT: u32 = 65_535;
+pub(super) const PUBLICATION_LIMIT: u32 = 65_535;
 
 /// An object or a withdrawal that was published.
 #[derive(Debug, Drop)]
@@ -70,7 +70,7 @@ impl Member {
         ensures err { OnErr result (self.new ≡ self.old) }
     {
         let log = self.log_len();
-        if log >= LOG_LIMIT {
+        if log >= PUBLICATION_LIMIT {
             return Err(PublishRefusal::NumbersSpent { log });
         }
         let object = Object::new(*self.log.allocator(), name, contents)?;
@@ -111,10 +111,10 @@ impl Member {
             return Err(WithdrawRefusal::NoSuchNumber { seq });
         }
         let log = self.log_len();
-        if log >= LOG_LIMIT {
+        if log >= PUBLICATION_LIMIT {
             return Err(WithdrawRefusal::NumbersSpent { log });
         }
-        let prepared = self.withdrawal(g, seq)?;
+        let prepared = self.prepare_withdrawal(g, seq)?;
         match self.publish_prepared(Post::Withdrawal { seq }, prepared, now, draw) {
             Ok(published) => Ok(published),
             Err(_) => Err(WithdrawRefusal::NoMemory),
@@ -141,7 +141,7 @@ impl Member {
         ensures back { IfErr result (λ back. back ≡ object) }
         ensures err { OnErr result (self.new ≡ self.old) }
     {
-        let Ok(prepared) = self.prepared(g, &object) else {
+        let Ok(prepared) = self.prepare_object(g, &object) else {
             return Err(object);
         };
         let post = Post::Object {
@@ -183,6 +183,7 @@ impl Member {
             seq,
             part: 0,
         };
+        // No record of a number that is still to come is held: seen here, so that the parts are known to be new.
         let held = self.held.holds(record);
         prove!(!held);
         let Ok(()) = self.log.reserve(1) else {
@@ -202,6 +203,7 @@ impl Member {
             sync: prepared.sync,
         })
     }
+
     /// The packet of an own part, whether it is still held or not; `None` where no such part was published.
     pub fn logged(&self, g: &Group, part: Part) -> Result<Option<Vec<u8>>, AllocError>
         requires { IsOfGroup g.now self.now }
@@ -229,7 +231,7 @@ impl Member {
     }
 
     // All that the publication of an object under the next number makes.
-    fn prepared(&self, g: &Group, object: &Object) -> Result<Prepared, AllocError>
+    fn prepare_object(&self, g: &Group, object: &Object) -> Result<Prepared, AllocError>
         requires group { IsOfGroup g.now self.now }
         requires numbers { length self.now.log < publication_limit }
         ensures within { IfOk result (λ _. IsObject object.now) }
@@ -254,7 +256,7 @@ impl Member {
     }
 
     // All that the withdrawal of an object under the next number makes.
-    fn withdrawal(&self, g: &Group, withdrawn: u16) -> Result<Prepared, AllocError>
+    fn prepare_withdrawal(&self, g: &Group, withdrawn: u16) -> Result<Prepared, AllocError>
         requires group { IsOfGroup g.now self.now }
         requires numbers { length self.now.log < publication_limit }
         requires earlier { IsPost (next_seq self.now) (Withdraws withdrawn) }

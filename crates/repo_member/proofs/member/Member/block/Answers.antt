@@ -23,7 +23,7 @@ use Rattle.repo_member.specs.Members.{alone, AreWaiting, IsMember}
 use Rattle.repo_member.proofs.BlockStates.{ComesLast, comes_last, kept_waiting, nothing_lent, can_take_back, taken_back}
 use Rattle.repo_member.proofs.BlockStates.{handed, can_reopen, opened_again}
 use Rattle.repo_member.proofs.WaitingLemmas.{waiting_with, with_processes}
-use Rattle.repo_member.proofs.member.Member.block.Goals.{else-is_last-via-then-is_last+else-log-ge-LOG_LIMIT}
+use Rattle.repo_member.proofs.member.Member.block.Goals.{else-is_last-via-then-is_last+else-log-ge-PUBLICATION_LIMIT}
 use Rattle.repo_member.proofs.member.Member.block.Goals.{else-is_last-via-else-is_last}
 use Rattle.repo_member.proofs.member.Member.block.Goals as goal
 
@@ -278,8 +278,8 @@ returns-in-Ok-publish_object-clause-ok c =
     let is_it : c.completes-is_last.result ≡ true =
     c.completes-is_last.ensures.last c.args.content.now c.requires.content ∙ ap is_last last.1.state in
     let room : length a.log < 65535 = elim c.else-is_last.branch [
-      | else-is_last-via-then-is_last+else-log-ge-LOG_LIMIT w ↦
-          omega (arith, w.if-log-ge-LOG_LIMIT.false, c.log_len-log.ensures.len)
+      | else-is_last-via-then-is_last+else-log-ge-PUBLICATION_LIMIT w ↦
+          omega (arith, w.if-log-ge-PUBLICATION_LIMIT.false, c.log_len-log.ensures.len)
       | else-is_last-via-else-is_last w ↦ absurd (true≢false (sym is_it ∙ w.if-is_last.false))
     ] in
     let keeps : alone (record c.self.inside { processes = c.hand_over.new.self })

@@ -7,7 +7,7 @@ use Rattle.repo_object.specs.Publication.{packets}
 use Rattle.repo_member.specs.Groups.{publisher_at}
 use Rattle.repo_member.specs.Alone.{Alone, next_seq}
 use Rattle.repo_member.proofs.OwnLemmas.{is_publisher, packets_are}
-use Rattle.repo_member.proofs.member.Member.prepared.Goals as goal
+use Rattle.repo_member.proofs.member.Member.prepare_object.Goals as goal
 
 packed : (c : goal.In_ok-sync)
     → c.in_ok-packets.packets.items

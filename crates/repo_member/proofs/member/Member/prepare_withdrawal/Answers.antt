@@ -4,7 +4,7 @@ use Rattle.repo_object.specs.Publication.{packets}
 use Rattle.repo_member.specs.Groups.{publisher_at}
 use Rattle.repo_member.specs.Alone.{Alone, next_seq}
 use Rattle.repo_member.proofs.OwnLemmas.{is_publisher, packets_are}
-use Rattle.repo_member.proofs.member.Member.withdrawal.Goals as goal
+use Rattle.repo_member.proofs.member.Member.prepare_withdrawal.Goals as goal
 
 made : (c : goal.In_ok-sync)
     → c.in_ok-packet.packet.items ∷ []
