@@ -41,10 +41,7 @@ impl World {
         let octets = made(self.alloc, &self.group, m, client, &command)?;
         self.issued.reserve(1)?;
         let member = &mut self.members[m as usize];
-        let answered = match member.command(&self.group, &octets) {
-            Ok(answered) => answered,
-            Err(error) => return Err(error),
-        };
+        let answered = member.command(&self.group, &octets)?;
         self.issued.add_reserved(IssuedCommand {
             member: m,
             client,
@@ -149,15 +146,9 @@ impl World {
         requires few { self.old.steps < 100000 }
         ensures { IsStep (keyed self.old.keys) (EventValue.Order m octets.now) self.old result self.new }
     {
-        let verdict = match order_verdict(self.alloc, &self.group, &self.issued, m, octets) {
-            Ok(verdict) => verdict,
-            Err(fault) => return Err(fault),
-        };
+        let verdict = order_verdict(self.alloc, &self.group, &self.issued, m, octets)?;
         let member = &mut self.members[m as usize];
-        let answered = match member.command_checked(&self.group, octets, verdict) {
-            Ok(answered) => answered,
-            Err(_) => return Err(StepFault::NoMemory),
-        };
+        let answered = member.command_checked(&self.group, octets, verdict)?;
         self.steps += 1;
         Ok(ordered(m, answered.answer))
     }

@@ -87,10 +87,7 @@ impl World {
         let member = &mut self.members[m as usize];
         let mut vector = numbers(self.alloc, member.vector())?;
         let draw = draws.draw(m, member.next_draw());
-        let published = match member.publish(&self.group, name, contents, self.moment, draw) {
-            Ok(published) => published,
-            Err(refusal) => return Err(refusal),
-        };
+        let published = member.publish(&self.group, name, contents, self.moment, draw)?;
         vector[m as usize] = published.seq;
         let k = self.sent.add_reserved(m, vector, published.sync);
         self.steps += 1;

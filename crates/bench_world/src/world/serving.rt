@@ -38,10 +38,7 @@ impl World {
         requires few { self.old.steps < 100000 }
         ensures { IsStep (keyed self.old.keys) (EventValue.Answer m f q) self.old result self.new }
     {
-        let kept = match answer(self.alloc, &self.group, &mut self.members, m, f as u8, q) {
-            Ok(kept) => kept,
-            Err(fault) => return Err(fault),
-        };
+        let kept = answer(self.alloc, &self.group, &mut self.members, m, f as u8, q)?;
         self.attempts += 1;
         self.parts += parts_of(kept);
         self.octets += kept.unwrap_or(0);
@@ -58,17 +55,14 @@ impl World {
         requires few { self.old.steps < 100000 }
         ensures { IsStep (keyed self.old.keys) (EventValue.Feed m f octets.now) self.old result self.new }
     {
-        let fed = match feed(
+        let fed = feed(
             self.alloc,
             &self.group,
             &mut self.members,
             m,
             f as u8,
             octets,
-        ) {
-            Ok(fed) => fed,
-            Err(fault) => return Err(fault),
-        };
+        )?;
         let kept = kept_octets(fed, octets);
         self.parts += parts_of(kept);
         self.octets += kept.unwrap_or(0);
@@ -126,7 +120,7 @@ impl World {
         };
         let member = &mut self.members[m as usize];
         let draw = draws.draw(m, member.next_draw());
-        let mode = match hear_sent(
+        let mode = hear_sent(
             self.alloc,
             &self.sent,
             member,
@@ -134,10 +128,7 @@ impl World {
             &vector,
             self.moment,
             draw,
-        ) {
-            Ok(mode) => mode,
-            Err(fault) => return Err(fault),
-        };
+        )?;
         self.delivered += 1;
         self.steps += 1;
         Ok(heard(m, mode))

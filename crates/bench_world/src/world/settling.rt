@@ -39,11 +39,8 @@ impl World {
     {
         self.steps += 1;
         self.sent.reserve(self.members.len())?;
-        let settled = settle_members(rt, self.alloc, &self.group, net, workers, &mut self.members);
-        let (told, parts, octets) = match settled {
-            Ok(settled) => settled,
-            Err(error) => return Err(error),
-        };
+        let settled = settle_members(rt, self.alloc, &self.group, net, workers, &mut self.members)?;
+        let (told, parts, octets) = settled;
         send_all(&mut self.sent, told);
         let count = self.members.len() as u64;
         self.delivered += count * count.saturating_sub(1);

@@ -1,4 +1,5 @@
 use Rattle.std.proofs.Common.{arith, rules, ◌≡◌, ◌<◌, ◌+◌, None, length, sym, ap, ◌∙◌, subst}
+use Rattle.std.proofs.lemmas.Result.{err_from_is_err_and}
 use Rattle.group_model.specs.Events.{Event}
 use Rattle.group_model.specs.World.{Tally}
 use Rattle.group_model.specs.Refusals.{refusal}
@@ -13,11 +14,12 @@ use Rattle.bench_world.proofs.AnswersAndFeeds.{answer_refusal, answer_taken, ans
 use Rattle.bench_world.proofs.AnswersAndFeeds.{answer_fits, fault_by}
 use Rattle.bench_world.proofs.world.World.answer.Goals as goal
 
-pub returns-in-Err : goal.returns-in-Err
-returns-in-Err c =
+pub returns-in_err-kept : goal.returns-in_err-kept
+returns-in_err-kept c =
     let s = world_state c.self.inside in
     let there = subst (λ (x : GroupState). c.args.m < length x.members) (sym c.self.view_is) c.requires.there in
-    record {
+    let p = err_from_is_err_and c.from_residual.result c.from_residual.ensures.1 in
+    rw (p.1, p.2) record {
       taken = tt;
       world = tt;
       told = tt;
@@ -27,13 +29,15 @@ returns-in-Err c =
       mirrors = search rules;
       refused =
           subst (λ (x : GroupState).
-          IsFaultOf (refusal (keyed x.keys) (world_of x) (Event.Answer c.args.m c.args.f c.args.q)) c.in-Err.fault)
+          IsFaultOf (refusal (keyed x.keys) (world_of x) (Event.Answer c.args.m c.args.f c.args.q))
+          c.in_err-kept.field-0.0)
           c.self.view_is
-          (subst (λ r. IsFaultOf r c.in-Err.fault) (answer_refusal s c.self.invariant c.args.m there c.args.f c.args.q)
+          (subst (λ r. IsFaultOf r c.in_err-kept.field-0.0)
+          (answer_refusal s c.self.invariant c.args.m there c.args.f c.args.q)
           (fault_by s.keys (logs_around s.members) (claim_in s.members c.args.m c.args.f)
           (came_in s.keys (logs_around s.members) s.members c.args.q (claim_in s.members c.args.m c.args.f))
-          c.in-Err.fault
-          c.in-Err.ensures.refused));
+          c.in_err-kept.field-0.0
+          c.in_err-kept.ensures.refused));
       err = search rules;
     }
 
@@ -42,8 +46,8 @@ overflow_add-self-2 c =
     let s = world_state c.self.inside in
     let there = subst (λ (x : GroupState). c.args.m < length x.members) (sym c.self.view_is) c.requires.there in
     let fits =
-    answer_fits s c.self.invariant c.args.m there c.args.f c.args.q c.in-Ok.kept c.in-Ok.ensures.kept
-    c.answer.new.members.items c.in-Ok.ensures.members
+    answer_fits s c.self.invariant c.args.m there c.args.f c.args.q c.in_ok-kept.kept c.in_ok-kept.ensures.kept
+    c.answer.new.members.items c.in_ok-kept.ensures.members
     (subst (λ (x : GroupState). x.steps < 100000) (sym c.self.view_is) c.requires.few) in
     let more = c.parts_of.ensures in
     omega (arith, fits.parts, more)
@@ -53,8 +57,8 @@ overflow_add-self-3 c =
     let s = world_state c.self.inside in
     let there = subst (λ (x : GroupState). c.args.m < length x.members) (sym c.self.view_is) c.requires.there in
     let fits =
-    answer_fits s c.self.invariant c.args.m there c.args.f c.args.q c.in-Ok.kept c.in-Ok.ensures.kept
-    c.answer.new.members.items c.in-Ok.ensures.members
+    answer_fits s c.self.invariant c.args.m there c.args.f c.args.q c.in_ok-kept.kept c.in_ok-kept.ensures.kept
+    c.answer.new.members.items c.in_ok-kept.ensures.members
     (subst (λ (x : GroupState). x.steps < 100000) (sym c.self.view_is) c.requires.few) in
     let more = c.unwrap_or.ensures in
     omega (arith, fits.octets, more)
@@ -71,8 +75,8 @@ invariant_of-self-2 c =
       parts = s.tally.parts + sym one i;
       octets = s.tally.octets + sym c.unwrap_or.ensures i;
     })
-    (answer_state s c.self.invariant c.args.m there c.args.f c.args.q c.in-Ok.kept c.in-Ok.ensures.kept
-    c.answer.new.members.items c.in-Ok.ensures.members
+    (answer_state s c.self.invariant c.args.m there c.args.f c.args.q c.in_ok-kept.kept c.in_ok-kept.ensures.kept
+    c.answer.new.members.items c.in_ok-kept.ensures.members
     (subst (λ (x : GroupState). x.steps < 100000) (sym c.self.view_is) c.requires.few))
 
 pub returns : goal.returns
@@ -85,7 +89,8 @@ returns c =
           subst (λ (x : GroupState). refusal (keyed x.keys) (world_of x) (Event.Answer c.args.m c.args.f c.args.q)
           ≡ None)
           c.self.view_is
-          (answer_taken s c.self.invariant c.args.m there c.args.f c.args.q c.in-Ok.kept c.in-Ok.ensures.kept);
+          (answer_taken s c.self.invariant c.args.m there c.args.f c.args.q c.in_ok-kept.kept
+          c.in_ok-kept.ensures.kept);
       world =
           ap (λ (t : Tally).
           world_of (record s { members = c.answer.new.members.items; tally = t; steps = s.steps + 1 }))
@@ -94,14 +99,15 @@ returns c =
             parts = s.tally.parts + one i;
             octets = s.tally.octets + c.unwrap_or.ensures i;
           })
-          ∙ answer_world s c.self.invariant c.args.m there c.args.f c.args.q c.in-Ok.kept c.in-Ok.ensures.kept
-          c.answer.new.members.items c.in-Ok.ensures.members
+          ∙ answer_world s c.self.invariant c.args.m there c.args.f c.args.q c.in_ok-kept.kept c.in_ok-kept.ensures.kept
+          c.answer.new.members.items c.in_ok-kept.ensures.members
           ∙ ap (λ (x : GroupState). after_event (keyed x.keys) (world_of x) (Event.Answer c.args.m c.args.f c.args.q))
           c.self.view_is;
       told =
           c.answered.ensures ∙ (λ i. answer_told c.args.m (c.from.ensures i) (c.is_some.ensures i))
           ∙ ap (answer_told c.args.m c.args.f)
-          (answer_passes s c.self.invariant c.args.m there c.args.f c.args.q c.in-Ok.kept c.in-Ok.ensures.kept)
+          (answer_passes s c.self.invariant c.args.m there c.args.f c.args.q c.in_ok-kept.kept
+          c.in_ok-kept.ensures.kept)
           ∙ ap (λ (x : GroupState). answer_told c.args.m c.args.f
           (passes_checks (came_from (keyed x.keys) (world_of x) c.args.q (claim_at (world_of x) c.args.m c.args.f))))
           c.self.view_is;

@@ -1,4 +1,5 @@
 use Rattle.std.proofs.Common.{arith, rules, ◌≡◌, ◌<◌, ◌+◌, None, length, sym, ap, ◌∙◌, subst}
+use Rattle.std.proofs.lemmas.Result.{err_from_is_err_and}
 use Rattle.std.specs.Prelude.{Ok}
 use Rattle.group_model.specs.Events.{Event}
 use Rattle.group_model.specs.World.{Tally}
@@ -15,11 +16,12 @@ use Rattle.bench_world.proofs.AnswersAndFeeds.{feed_refusal, feed_taken, feed_is
 use Rattle.bench_world.proofs.AnswersAndFeeds.{fault_by}
 use Rattle.bench_world.proofs.world.World.feed.Goals as goal
 
-pub returns-in-Err : goal.returns-in-Err
-returns-in-Err c =
+pub returns-in_err-fed : goal.returns-in_err-fed
+returns-in_err-fed c =
     let s = world_state c.self.inside in
     let there = subst (λ (x : GroupState). c.args.m < length x.members) (sym c.self.view_is) c.requires.there in
-    record {
+    let p = err_from_is_err_and c.from_residual.result c.from_residual.ensures.1 in
+    rw (p.1, p.2) record {
       taken = tt;
       world = tt;
       told = tt;
@@ -30,14 +32,14 @@ returns-in-Err c =
       refused =
           subst (λ (x : GroupState). IsFaultOf
           (refusal (keyed x.keys) (world_of x)
-          (Event.Feed c.args.m c.args.f (λ logs t. octets_as x.keys logs t c.args.octets.now))) c.in-Err.fault)
+          (Event.Feed c.args.m c.args.f (λ logs t. octets_as x.keys logs t c.args.octets.now))) c.in_err-fed.field-0.0)
           c.self.view_is
-          (subst (λ r. IsFaultOf r c.in-Err.fault)
+          (subst (λ r. IsFaultOf r c.in_err-fed.field-0.0)
           (feed_refusal s c.self.invariant c.args.m there c.args.f c.args.octets.now)
           (fault_by s.keys (logs_around s.members) (claim_in s.members c.args.m c.args.f)
           (came_for s.keys (logs_around s.members) c.args.octets.now (claim_in s.members c.args.m c.args.f))
-          c.in-Err.fault
-          c.in-Err.ensures.refused));
+          c.in_err-fed.field-0.0
+          c.in_err-fed.ensures.refused));
       err = search rules;
     }
 
@@ -47,8 +49,8 @@ overflow_add-self c =
     let there = subst (λ (x : GroupState). c.args.m < length x.members) (sym c.self.view_is) c.requires.there in
     let fits =
     feed_fits s c.self.invariant c.args.m there c.args.f c.args.octets.now c.kept_octets-kept.result
-    (c.in-Ok.ensures.kept ∙ ap (λ k. Ok k) (sym c.kept_octets-kept.ensures)) c.feed.new.members.items
-    c.in-Ok.ensures.members
+    (c.in_ok-fed.ensures.kept ∙ ap (λ k. Ok k) (sym c.kept_octets-kept.ensures)) c.feed.new.members.items
+    c.in_ok-fed.ensures.members
     (subst (λ (x : GroupState). x.steps < 100000) (sym c.self.view_is) c.requires.few) in
     let more = c.parts_of.ensures in
     omega (arith, fits.parts, more)
@@ -59,8 +61,8 @@ overflow_add-self-2 c =
     let there = subst (λ (x : GroupState). c.args.m < length x.members) (sym c.self.view_is) c.requires.there in
     let fits =
     feed_fits s c.self.invariant c.args.m there c.args.f c.args.octets.now c.kept_octets-kept.result
-    (c.in-Ok.ensures.kept ∙ ap (λ k. Ok k) (sym c.kept_octets-kept.ensures)) c.feed.new.members.items
-    c.in-Ok.ensures.members
+    (c.in_ok-fed.ensures.kept ∙ ap (λ k. Ok k) (sym c.kept_octets-kept.ensures)) c.feed.new.members.items
+    c.in_ok-fed.ensures.members
     (subst (λ (x : GroupState). x.steps < 100000) (sym c.self.view_is) c.requires.few) in
     let more = c.unwrap_or.ensures in
     omega (arith, fits.octets, more)
@@ -73,8 +75,8 @@ invariant_of-self-2 c =
     subst (λ (t : Tally). IsTrueState (record s { members = c.feed.new.members.items; tally = t; steps = s.steps + 1 }))
     (λ i. record s.tally { parts = s.tally.parts + sym one i; octets = s.tally.octets + sym c.unwrap_or.ensures i })
     (feed_state s c.self.invariant c.args.m there c.args.f c.args.octets.now c.kept_octets-kept.result
-    (c.in-Ok.ensures.kept ∙ ap (λ k. Ok k) (sym c.kept_octets-kept.ensures)) c.feed.new.members.items
-    c.in-Ok.ensures.members
+    (c.in_ok-fed.ensures.kept ∙ ap (λ k. Ok k) (sym c.kept_octets-kept.ensures)) c.feed.new.members.items
+    c.in_ok-fed.ensures.members
     (subst (λ (x : GroupState). x.steps < 100000) (sym c.self.view_is) c.requires.few))
 
 pub returns : goal.returns
@@ -88,18 +90,18 @@ returns c =
           (Event.Feed c.args.m c.args.f (λ logs t. octets_as x.keys logs t c.args.octets.now))
           ≡ None) c.self.view_is
           (feed_taken s c.self.invariant c.args.m there c.args.f c.args.octets.now c.kept_octets-kept.result
-          (c.in-Ok.ensures.kept ∙ ap (λ k. Ok k) (sym c.kept_octets-kept.ensures)));
+          (c.in_ok-fed.ensures.kept ∙ ap (λ k. Ok k) (sym c.kept_octets-kept.ensures)));
       world =
           ap (λ (t : Tally). world_of (record s { members = c.feed.new.members.items; tally = t; steps = s.steps + 1 }))
           (λ i. record s.tally { parts = s.tally.parts + one i; octets = s.tally.octets + c.unwrap_or.ensures i })
           ∙ feed_world s c.self.invariant c.args.m there c.args.f c.args.octets.now c.kept_octets-kept.result
-          (c.in-Ok.ensures.kept ∙ ap (λ k. Ok k) (sym c.kept_octets-kept.ensures)) c.feed.new.members.items
-          c.in-Ok.ensures.members
+          (c.in_ok-fed.ensures.kept ∙ ap (λ k. Ok k) (sym c.kept_octets-kept.ensures)) c.feed.new.members.items
+          c.in_ok-fed.ensures.members
           ∙ ap (λ (x : GroupState). after_event (keyed x.keys) (world_of x)
           (Event.Feed c.args.m c.args.f (λ logs t. octets_as x.keys logs t c.args.octets.now))) c.self.view_is;
       told =
-          c.fed_happened.ensures ∙ ap (λ n. fed_reply c.args.m n c.in-Ok.fed) c.from.ensures
-          ∙ feed_is s c.self.invariant c.args.m there c.args.f c.args.octets.now c.in-Ok.fed c.in-Ok.ensures.fed
+          c.fed_happened.ensures ∙ ap (λ n. fed_reply c.args.m n c.in_ok-fed.fed) c.from.ensures
+          ∙ feed_is s c.self.invariant c.args.m there c.args.f c.args.octets.now c.in_ok-fed.fed c.in_ok-fed.ensures.fed
           ∙ ap (λ (x : GroupState).
           feed_told x.keys (world_of x) c.args.m c.args.f c.args.octets.now (claim_at (world_of x) c.args.m c.args.f))
           c.self.view_is;

@@ -1,4 +1,5 @@
 use Rattle.std.proofs.Common.{rules, arith, ℕ, ◌≡◌, ◌<◌, length, None, sym, ap, ◌∙◌, subst, ◌+◌}
+use Rattle.std.proofs.lemmas.Result.{err_from_is_err_and}
 use Rattle.std.proofs.lemmas.Grind.{common_steps}
 use Rattle.std.proofs.lemmas.List.{get_or_default}
 use Rattle.svs_sync.specs.declared.sync_refusal.SyncRefusal.{SyncRefusal}
@@ -97,8 +98,8 @@ hear_sent-requires-clause-few g c =
     let there = subst (λ (x : GroupState). c.args.m < length x.members) (sym c.self.view_is) c.requires.there in
     few_draws s c.self.invariant c.args.m there c.index_mut-member.result.now c.index_mut-member.ensures.value
 
-pub returns-in-Err : goal.returns-in-Err
-returns-in-Err g c =
+pub returns-in_err-mode : goal.returns-in_err-mode
+returns-in_err-mode g c =
     let s = world_state c.self.inside in
     let there = subst (λ (x : GroupState). c.args.m < length x.members) (sym c.self.view_is) c.requires.there in
     let r = group_verdict s.keys c.args.octets.now in
@@ -109,7 +110,8 @@ returns-in-Err g c =
     ∙ sym
     (c.index_mut-member.ensures.value ∙ get_or_default s.members c.args.m c.index_mut-member.result.now nobody there) in
     let told = ap (λ (a : Alone). told_sync (length a.log) c.args.m r) (sym same) ∙ c.in-Ok.ensures.told in
-    record {
+    let p = err_from_is_err_and c.from_residual.result c.from_residual.ensures.1 in
+    rw (p.1, p.2) record {
       taken = tt;
       world = tt;
       told = tt;
@@ -119,11 +121,12 @@ returns-in-Err g c =
       mirrors = search rules;
       refused =
           subst (λ (x : GroupState).
-          IsFaultOf (if_unsent (world_of x) c.args.m (read_as (group_verdict x.keys c.args.octets.now))) c.in-Err.fault)
+          IsFaultOf (if_unsent (world_of x) c.args.m (read_as (group_verdict x.keys c.args.octets.now)))
+          c.in_err-mode.field-0.0)
           c.self.view_is
           (foreign_so s c.self.invariant c.args.m there old c.index_mut-member.ensures.value r c.in-Ok.told.0
           c.in-Ok.told.1
-          told c.in-Err.fault c.in-Err.ensures.foreign);
+          told c.in_err-mode.field-0.0 c.in_err-mode.ensures.foreign);
       err = grind (arith, common_steps);
     }
 
@@ -141,8 +144,8 @@ invariant_of-self-2 g c =
     let told = ap (λ (a : Alone). told_sync (length a.log) c.args.m r) (sym same) ∙ c.in-Ok.ensures.told in
     let drawn = c.draw-draw.ensures ∙ ap (g.D.Draws.draw c.args.draws.now c.args.m) c.next_draw.ensures in
     heard_state s c.self.invariant c.args.m there old c.index_mut-member.ensures.value r c.in-Ok.told.0 c.in-Ok.told.1
-    told c.in-Ok-hear_sent.ensures.sent (g.D.Draws.draw c.args.draws.now) c.hear_sent.new.member c.draw-draw.result
-    c.in-Ok-hear_sent.ensures.ok drawn
+    told c.in_ok-mode.ensures.sent (g.D.Draws.draw c.args.draws.now) c.hear_sent.new.member c.draw-draw.result
+    c.in_ok-mode.ensures.ok drawn
     (subst (λ (x : GroupState). x.steps < 100000) (sym c.self.view_is) c.requires.few)
 
 pub returns : goal.returns
@@ -166,22 +169,22 @@ returns g c =
           c.self.view_is
           (sent_taken s c.self.invariant c.args.m there old c.index_mut-member.ensures.value r c.in-Ok.told.0
           c.in-Ok.told.1
-          told c.in-Ok-hear_sent.ensures.sent);
+          told c.in_ok-mode.ensures.sent);
       world =
           heard_world s c.self.invariant c.args.m there old c.index_mut-member.ensures.value r c.in-Ok.told.0
           c.in-Ok.told.1
-          told c.in-Ok-hear_sent.ensures.sent (g.D.Draws.draw c.args.draws.now) c.hear_sent.new.member
+          told c.in_ok-mode.ensures.sent (g.D.Draws.draw c.args.draws.now) c.hear_sent.new.member
           c.draw-draw.result
-          c.in-Ok-hear_sent.ensures.ok drawn
+          c.in_ok-mode.ensures.ok drawn
           ∙ ap (λ (x : GroupState). after_hear (drawing (g.D.Draws.draw c.args.draws.now)) (world_of x) c.args.m
           (read_as (group_verdict x.keys c.args.octets.now))) c.self.view_is;
       told =
           c.heard.ensures
           ∙ heard_told s c.self.invariant c.args.m there old c.index_mut-member.ensures.value r c.in-Ok.told.0
           c.in-Ok.told.1
-          told c.in-Ok-hear_sent.ensures.sent (g.D.Draws.draw c.args.draws.now) c.hear_sent.new.member
+          told c.in_ok-mode.ensures.sent (g.D.Draws.draw c.args.draws.now) c.hear_sent.new.member
           c.draw-draw.result
-          c.in-Ok-hear_sent.ensures.ok drawn c.in-Ok-hear_sent.mode c.in-Ok-hear_sent.ensures.mode
+          c.in_ok-mode.ensures.ok drawn c.in_ok-mode.mode c.in_ok-mode.ensures.mode
           ∙ ap (λ (x : GroupState). hears_told (drawing (g.D.Draws.draw c.args.draws.now)) (world_of x) c.args.m
           (group_verdict x.keys c.args.octets.now)) c.self.view_is;
       joined = tt;

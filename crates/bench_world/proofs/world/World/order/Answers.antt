@@ -1,4 +1,5 @@
 use Rattle.std.proofs.Common.{◌≡◌, ◌<◌, ◌+◌, ℕ, None, length, refl, sym, ap, ◌∙◌, subst}
+use Rattle.std.proofs.lemmas.Result.{err_from_is_err_and}
 use Rattle.group_model.specs.Refusals.{if_unissued}
 use Rattle.group_model.specs.Steps.{after_order, order_answer}
 use Rattle.repo_member.specs.Commanded as commanded
@@ -17,7 +18,7 @@ command_checked-requires-clause-verdict c =
     let there = subst (λ (x : GroupState). c.args.m < length x.members) (sym c.self.view_is) c.requires.there in
     let old = c.index_mut-member.result.now in
     let number = number_is s c.self.invariant c.args.m there old c.index_mut-member.ensures.value in
-    c.in-Ok.ensures.verdict ∙ ap (λ (k : ℕ). commanded.order_of s.keys k c.args.octets.now) (sym number)
+    c.in_ok-verdict.ensures.verdict ∙ ap (λ (k : ℕ). commanded.order_of s.keys k c.args.octets.now) (sym number)
 
 pub invariant_of-self-2 : goal.invariant_of-self-2
 invariant_of-self-2 c =
@@ -27,7 +28,7 @@ invariant_of-self-2 c =
     let old = c.index_mut-member.result.now in
     let number = number_is s c.self.invariant c.args.m there old c.index_mut-member.ensures.value in
     let b_is =
-    c.in-Ok-command_checked.ensures.ok
+    c.in_ok-answered.ensures.ok
     ∙ ap (λ (k : ℕ). commanded.alone_after_order (commanded.order_of s.keys k c.args.octets.now) old) number in
     obeyed_state s c.self.invariant c.args.m there old c.index_mut-member.ensures.value
     (commanded.order_of s.keys c.args.m c.args.octets.now) c.command_checked.new.self b_is few
@@ -40,9 +41,9 @@ returns c =
     let old = c.index_mut-member.result.now in
     let number = number_is s c.self.invariant c.args.m there old c.index_mut-member.ensures.value in
     let b_is =
-    c.in-Ok-command_checked.ensures.ok
+    c.in_ok-answered.ensures.ok
     ∙ ap (λ (k : ℕ). commanded.alone_after_order (commanded.order_of s.keys k c.args.octets.now) old) number in
-    let may = c.in-Ok.ensures.issued in
+    let may = c.in_ok-verdict.ensures.issued in
     record {
       taken =
           subst (λ (x : GroupState).
@@ -58,7 +59,7 @@ returns c =
       told =
           c.ordered.ensures
           ∙ ap (order_told c.args.m)
-          (c.in-Ok-command_checked.ensures.answer
+          (c.in_ok-answered.ensures.answer
           ∙ ap (λ (k : ℕ). commanded.alone_order_answer (commanded.order_of s.keys k c.args.octets.now) old) number
           ∙ order_answered s c.self.invariant c.args.m there old c.index_mut-member.ensures.value
           (commanded.order_of s.keys c.args.m c.args.octets.now))
@@ -74,11 +75,12 @@ returns c =
       err = tt;
     }
 
-pub returns-in-Err : goal.returns-in-Err
-returns-in-Err c =
+pub returns-in_err-verdict : goal.returns-in_err-verdict
+returns-in_err-verdict c =
     let s = world_state c.self.inside in
     let order = commanded.order_of s.keys c.args.m c.args.octets.now in
-    record {
+    let p = err_from_is_err_and c.from_residual.result c.from_residual.ensures.1 in
+    rw (p.1, p.2) record {
       taken = tt;
       world = tt;
       told = tt;
@@ -89,8 +91,8 @@ returns-in-Err c =
       refused =
           subst (λ (x : GroupState).
           IsFaultOf (if_unissued (world_of x) c.args.m (commanded.order_of x.keys c.args.m c.args.octets.now))
-          c.in-Err.fault)
+          c.in_err-verdict.field-0.0)
           c.self.view_is
-          (order_fault (world_of s) c.args.m order c.in-Err.fault c.in-Err.ensures.refused);
+          (order_fault (world_of s) c.args.m order c.in_err-verdict.field-0.0 c.in_err-verdict.ensures.refused);
       err = refl;
     }

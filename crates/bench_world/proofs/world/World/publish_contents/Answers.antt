@@ -1,4 +1,6 @@
-use Rattle.std.proofs.Common.{◌≡◌, ◌⊎◌, ◌<◌, Some, None, Ok, Err, map, length, refl, sym, ap, ◌∙◌, subst}
+use Rattle.std.proofs.Common.{◌≡◌, ◌⊎◌, ◌<◌, Some, None, Ok, Err, map, length, refl, sym, ap, ◌∙◌, subst, arith}
+use Rattle.std.proofs.lemmas.Grind.{common_steps}
+use Rattle.std.proofs.lemmas.Result.{err_from_is_err_and}
 use Rattle.repo_object.specs.Objects.{NamedContents}
 use Rattle.repo_object.specs.Objects.Post.{Offers}
 use Rattle.group_model.specs.Events.{Event}
@@ -16,16 +18,24 @@ publish-requires-clause-draws g c =
     let there = subst (λ (x : GroupState). c.args.m < length x.members) (sym c.self.view_is) c.requires.there in
     few_draws s c.self.invariant c.args.m there c.index_mut-member.result.now c.index_mut-member.ensures.value
 
-pub returns-in-Err-clause-refused : goal.returns-in-Err-clause-refused
-returns-in-Err-clause-refused g c =
+pub returns-in_err-published-clause-refused : goal.returns-in_err-published-clause-refused
+returns-in_err-published-clause-refused g c =
     let s = world_state c.self.inside in
     let there = subst (λ (x : GroupState). c.args.m < length x.members) (sym c.self.view_is) c.requires.there in
     let object : NamedContents = record { name = c.args.name.now; contents = map (λ x. x.items) c.args.contents.now } in
-    subst (λ (x : GroupState). (c.in-Err.refusal ≡ _)
+    let p = err_from_is_err_and c.from_residual-in_err-published.result c.from_residual-in_err-published.ensures.1 in
+    rw (p.1, p.2)
+    (subst (λ (x : GroupState). (c.in_err-published.field-0.0 ≡ _)
     ⊎ (refusal (drawing (g.D.Draws.draw c.args.draws.now)) (world_of x) (Event.Publish c.args.m object)
     ≡ Some Refusal.NumbersSpent)) c.self.view_is
     (refused_so s c.self.invariant c.args.m there c.index_mut-member.result.now c.index_mut-member.ensures.value
-    (g.D.Draws.draw c.args.draws.now) object (Err c.in-Err.refusal) c.in-Err.refusal refl c.in-Err.ensures.spent)
+    (g.D.Draws.draw c.args.draws.now) object (Err c.in_err-published.field-0.0) c.in_err-published.field-0.0 refl
+    c.in_err-published.ensures.spent))
+
+pub returns-in_err-published-clause-err : goal.returns-in_err-published-clause-err
+returns-in_err-published-clause-err g c =
+    let p = err_from_is_err_and c.from_residual-in_err-published.result c.from_residual-in_err-published.ensures.1 in
+    rw p.1 (grind (arith, common_steps))
 
 pub invariant_of-self-2 : goal.invariant_of-self-2
 invariant_of-self-2 g c =
@@ -36,18 +46,19 @@ invariant_of-self-2 g c =
     let object : NamedContents = record { name = c.args.name.now; contents = map (λ x. x.items) c.args.contents.now } in
     let n_is = c.draw-draw.ensures ∙ ap (g.D.Draws.draw c.args.draws.now c.args.m) c.next_draw.ensures in
     let room =
-    has_room s c.self.invariant c.args.m there old c.index_mut-member.ensures.value (Ok c.in-Ok.published)
-    c.in-Ok.published refl c.in-Ok.ensures.spent in
+    has_room s c.self.invariant c.args.m there old c.index_mut-member.ensures.value (Ok c.in_ok-published.published)
+    c.in_ok-published.published refl c.in_ok-published.ensures.spent in
     let sent =
     sent_is s c.self.invariant c.args.m there old c.index_mut-member.ensures.value c.publish.new.self
-    (g.D.Draws.draw c.args.draws.now) c.draw-draw.result n_is (Offers object) c.in-Ok.ensures.ok
-    c.add_reserved-k.new.self.packets c.reserve.new.self.packets c.in_ok-vector.vector.items c.in-Ok.published.seq
-    c.in-Ok.published.sync.items (ap (λ x. x.packets) c.in_ok-reserve.ensures.ok)
+    (g.D.Draws.draw c.args.draws.now) c.draw-draw.result n_is (Offers object) c.in_ok-published.ensures.ok
+    c.add_reserved-k.new.self.packets c.reserve.new.self.packets c.in_ok-vector.vector.items
+    c.in_ok-published.published.seq
+    c.in_ok-published.published.sync.items (ap (λ x. x.packets) c.in_ok-reserve.ensures.ok)
     (c.in_ok-vector.ensures ∙ c.vector.ensures.known)
-    c.in-Ok.ensures.seq c.in-Ok.ensures.sync c.add_reserved-k.ensures.sent in
+    c.in_ok-published.ensures.seq c.in_ok-published.ensures.sync c.add_reserved-k.ensures.sent in
     state_sent s c.self.invariant c.args.m there old c.index_mut-member.ensures.value c.publish.new.self
-    (g.D.Draws.draw c.args.draws.now) c.draw-draw.result n_is (Offers object) c.in-Ok.ensures.ok few
-    c.in-Ok.ensures.object room
+    (g.D.Draws.draw c.args.draws.now) c.draw-draw.result n_is (Offers object) c.in_ok-published.ensures.ok few
+    c.in_ok-published.ensures.object room
     c.add_reserved-k.new.self.packets sent
 
 pub returns-clause-ok : goal.returns-clause-ok
@@ -59,13 +70,14 @@ returns-clause-ok g c =
     let n_is = c.draw-draw.ensures ∙ ap (g.D.Draws.draw c.args.draws.now c.args.m) c.next_draw.ensures in
     let sent =
     sent_is s c.self.invariant c.args.m there old c.index_mut-member.ensures.value c.publish.new.self
-    (g.D.Draws.draw c.args.draws.now) c.draw-draw.result n_is (Offers object) c.in-Ok.ensures.ok
-    c.add_reserved-k.new.self.packets c.reserve.new.self.packets c.in_ok-vector.vector.items c.in-Ok.published.seq
-    c.in-Ok.published.sync.items (ap (λ x. x.packets) c.in_ok-reserve.ensures.ok)
+    (g.D.Draws.draw c.args.draws.now) c.draw-draw.result n_is (Offers object) c.in_ok-published.ensures.ok
+    c.add_reserved-k.new.self.packets c.reserve.new.self.packets c.in_ok-vector.vector.items
+    c.in_ok-published.published.seq
+    c.in_ok-published.published.sync.items (ap (λ x. x.packets) c.in_ok-reserve.ensures.ok)
     (c.in_ok-vector.ensures ∙ c.vector.ensures.known)
-    c.in-Ok.ensures.seq c.in-Ok.ensures.sync c.add_reserved-k.ensures.sent in
+    c.in_ok-published.ensures.seq c.in_ok-published.ensures.sync c.add_reserved-k.ensures.sent in
     world_sent s c.self.invariant c.args.m there old c.index_mut-member.ensures.value c.publish.new.self
-    (g.D.Draws.draw c.args.draws.now) c.draw-draw.result n_is (Offers object) c.in-Ok.ensures.ok
+    (g.D.Draws.draw c.args.draws.now) c.draw-draw.result n_is (Offers object) c.in_ok-published.ensures.ok
     c.add_reserved-k.new.self.packets sent
     ∙ ap (λ (x : GroupState).
     after_publish (drawing (g.D.Draws.draw c.args.draws.now)) (world_of x) c.args.m (Offers object))
@@ -78,8 +90,8 @@ returns-clause-taken g c =
     let old = c.index_mut-member.result.now in
     let object : NamedContents = record { name = c.args.name.now; contents = map (λ x. x.items) c.args.contents.now } in
     let room =
-    has_room s c.self.invariant c.args.m there old c.index_mut-member.ensures.value (Ok c.in-Ok.published)
-    c.in-Ok.published refl c.in-Ok.ensures.spent in
+    has_room s c.self.invariant c.args.m there old c.index_mut-member.ensures.value (Ok c.in_ok-published.published)
+    c.in_ok-published.published refl c.in_ok-published.ensures.spent in
     subst (λ (x : GroupState).
     refusal (drawing (g.D.Draws.draw c.args.draws.now)) (world_of x) (Event.Publish c.args.m object) ≡ None)
     c.self.view_is
@@ -90,5 +102,5 @@ returns-clause-seq g c =
     let s = world_state c.self.inside in
     let there = subst (λ (x : GroupState). c.args.m < length x.members) (sym c.self.view_is) c.requires.there in
     seq_is s c.self.invariant c.args.m there c.index_mut-member.result.now c.index_mut-member.ensures.value
-    c.in-Ok.published.seq c.in-Ok.ensures.seq
+    c.in_ok-published.published.seq c.in_ok-published.ensures.seq
     ∙ ap (λ (x : GroupState). next_seq_at (world_of x) c.args.m) c.self.view_is

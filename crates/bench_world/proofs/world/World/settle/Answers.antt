@@ -1,4 +1,5 @@
 use Rattle.std.proofs.Common.{◌≡◌, ◌<◌, ◌+◌, ◌++◌, List, length, map, refl, sym, ap, ◌∙◌, subst, arith}
+use Rattle.std.proofs.lemmas.Result.{err_from_is_err_and}
 use Rattle.std.proofs.lemmas.List.{length-map}
 use Rattle.bench_net.specs.SentList.{SentPacket}
 use Rattle.group_model.specs.Steps.{settle_gains, after_gathering}
@@ -31,8 +32,8 @@ returns-in_err-reserve-clause-err g c =
     (subst (λ (ps : List SentPacket). HaveSettledPart s (record s { sent = ps; steps = s.steps + 1 }))
     (sym (ap (λ x. x.packets) c.in_err-reserve.ensures.err)) (partly_before s c.self.invariant few)))
 
-pub settle_members-settled-requires : goal.settle_members-settled-requires
-settle_members-settled-requires g c κs within =
+pub settle_members-requires : goal.settle_members-requires
+settle_members-requires g c κs within =
     let s = world_state c.self.inside in (
       within.0,
       (
@@ -55,128 +56,135 @@ settle_members-settled-requires g c κs within =
       ),
     )
 
-pub invariant_of-self-in-Err : goal.invariant_of-self-in-Err
-invariant_of-self-in-Err g c =
+pub invariant_of-self-in_err-settled : goal.invariant_of-self-in_err-settled
+invariant_of-self-in_err-settled g c =
     let s = world_state c.self.inside in
     let few = subst (λ (x : GroupState). x.steps < 100000) (sym c.self.view_is) c.requires.few in
     let same : c.reserve.new.self.packets ≡ s.sent = ap (λ x. x.packets) c.in_ok-reserve.ensures.ok in
     subst (λ (ps : List SentPacket).
-    IsTrueState (record s { members = c.settle_members-settled.new.members.items; sent = ps; steps = s.steps + 1 }))
+    IsTrueState (record s { members = c.settle_members.new.members.items; sent = ps; steps = s.steps + 1 }))
     (sym same)
-    (failed_state s c.self.invariant few c.settle_members-settled.new.members.items c.settle_members-settled.ensures.len
-    c.settle_members-settled.ensures.numbers c.settle_members-settled.ensures.truly
-    c.settle_members-settled.ensures.counts c.in-Err.ensures.err)
+    (failed_state s c.self.invariant few c.settle_members.new.members.items c.settle_members.ensures.len
+    c.settle_members.ensures.numbers c.settle_members.ensures.truly
+    c.settle_members.ensures.counts c.in_err-settled.ensures.err)
 
-pub returns-in-Err-clause-err : goal.returns-in-Err-clause-err
-returns-in-Err-clause-err g c =
+pub returns-in_err-settled-clause-err : goal.returns-in_err-settled-clause-err
+returns-in_err-settled-clause-err g c =
     let s = world_state c.self.inside in
     let few = subst (λ (x : GroupState). x.steps < 100000) (sym c.self.view_is) c.requires.few in
     let same : c.reserve.new.self.packets ≡ s.sent = ap (λ x. x.packets) c.in_ok-reserve.ensures.ok in
-    subst (λ (x : GroupState). HaveSettledPart x (record s {
-      members = c.settle_members-settled.new.members.items;
+    let p = err_from_is_err_and c.from_residual-in_err-settled.result c.from_residual-in_err-settled.ensures.1 in
+    rw p.1
+    (subst (λ (x : GroupState). HaveSettledPart x (record s {
+      members = c.settle_members.new.members.items;
       sent = c.reserve.new.self.packets;
       steps = s.steps + 1;
     })) c.self.view_is
     (subst (λ (ps : List SentPacket). HaveSettledPart s
-    (record s { members = c.settle_members-settled.new.members.items; sent = ps; steps = s.steps + 1 })) (sym same)
-    (partly s c.self.invariant few c.settle_members-settled.new.members.items c.settle_members-settled.ensures.len
-    c.settle_members-settled.ensures.numbers c.settle_members-settled.ensures.truly
-    c.settle_members-settled.ensures.counts c.in-Err.ensures.err))
+    (record s { members = c.settle_members.new.members.items; sent = ps; steps = s.steps + 1 })) (sym same)
+    (partly s c.self.invariant few c.settle_members.new.members.items c.settle_members.ensures.len
+    c.settle_members.ensures.numbers c.settle_members.ensures.truly
+    c.settle_members.ensures.counts c.in_err-settled.ensures.err)))
 
 pub send_all-requires-clause-room : goal.send_all-requires-clause-room
 send_all-requires-clause-room g c =
     let s = world_state c.self.inside in
-    let a : length (map told_of c.in-Ok.settled.0.items) ≡ length (map (tells s.keys) s.members) =
-    ap length c.in-Ok.ensures.told in
-    let b = length-map c.in-Ok.settled.0.items told_of in
+    let a : length (map told_of c.in_ok-settled.settled.0.items) ≡ length (map (tells s.keys) s.members) =
+    ap length c.in_ok-settled.ensures.told in
+    let b = length-map c.in_ok-settled.settled.0.items told_of in
     let d = length-map s.members (tells s.keys) in
     let room = ap (λ x. x.spare) c.in_ok-reserve.ensures.ok in
-    omega (arith, a, b, d, room, c.len.ensures, c.self.inside.members.ok, c.in-Ok.settled.0.ok)
+    omega (arith, a, b, d, room, c.len.ensures, c.self.inside.members.ok, c.in_ok-settled.settled.0.ok)
 
 pub send_all-requires-clause-few : goal.send_all-requires-clause-few
 send_all-requires-clause-few g c =
     let s = world_state c.self.inside in
-    let a : length (map told_of c.in-Ok.settled.0.items) ≡ length (map (tells s.keys) s.members) =
-    ap length c.in-Ok.ensures.told in
-    let b = length-map c.in-Ok.settled.0.items told_of in
+    let a : length (map told_of c.in_ok-settled.settled.0.items) ≡ length (map (tells s.keys) s.members) =
+    ap length c.in_ok-settled.ensures.told in
+    let b = length-map c.in_ok-settled.settled.0.items told_of in
     let d = length-map s.members (tells s.keys) in
     let e : length c.reserve.new.self.packets ≡ length s.sent = ap (λ x. length x.packets) c.in_ok-reserve.ensures.ok in
     let n = few_members s c.self.invariant in
     let f = few_sent s c.self.invariant in
-    omega (arith, a, b, d, e, n, f, c.in-Ok.settled.0.ok)
+    omega (arith, a, b, d, e, n, f, c.in_ok-settled.settled.0.ok)
 
 pub overflow_add-self-3 : goal.overflow_add-self-3
 overflow_add-self-3 g c =
     let s = world_state c.self.inside in
     let few = subst (λ (x : GroupState). x.steps < 100000) (sym c.self.view_is) c.requires.few in
-    let sent : c.send_all.new.sent.packets ≡ c.self.inside.sent.packets ++ map told_of c.in-Ok.settled.0.items =
+    let sent : c.send_all.new.sent.packets ≡ c.self.inside.sent.packets ++ map told_of c.in_ok-settled.settled.0.items =
     c.send_all.ensures
-    ∙ ap (λ (ps : List SentPacket). ps ++ map told_of c.in-Ok.settled.0.items)
+    ∙ ap (λ (ps : List SentPacket). ps ++ map told_of c.in_ok-settled.settled.0.items)
     (ap (λ x. x.packets) c.in_ok-reserve.ensures.ok) in
-    let count : c.len-count.result ≡ length c.settle_members-settled.new.members.items =
-    omega (arith, c.len-count.ensures, c.settle_members-settled.new.members.ok) in
+    let count : c.len-count.result ≡ length c.settle_members.new.members.items =
+    omega (arith, c.len-count.ensures, c.settle_members.new.members.ok) in
     let fits =
-    settle_fits s c.self.invariant few c.settle_members-settled.new.members.items c.in-Ok.ensures.members
-    c.send_all.new.sent.packets c.in-Ok.settled.0.items sent c.in-Ok.ensures.told
-    c.len-count.result c.saturating_sub.result c.in-Ok.settled.1 c.in-Ok.settled.2 count c.saturating_sub.ensures
-    c.in-Ok.ensures.parts c.in-Ok.ensures.octets in
+    settle_fits s c.self.invariant few c.settle_members.new.members.items c.in_ok-settled.ensures.members
+    c.send_all.new.sent.packets c.in_ok-settled.settled.0.items sent c.in_ok-settled.ensures.told
+    c.len-count.result c.saturating_sub.result c.in_ok-settled.settled.1 c.in_ok-settled.settled.2 count
+    c.saturating_sub.ensures
+    c.in_ok-settled.ensures.parts c.in_ok-settled.ensures.octets in
     omega (arith, fits.2)
 
 pub overflow_add-self-4 : goal.overflow_add-self-4
 overflow_add-self-4 g c =
     let s = world_state c.self.inside in
     let few = subst (λ (x : GroupState). x.steps < 100000) (sym c.self.view_is) c.requires.few in
-    let sent : c.send_all.new.sent.packets ≡ c.self.inside.sent.packets ++ map told_of c.in-Ok.settled.0.items =
+    let sent : c.send_all.new.sent.packets ≡ c.self.inside.sent.packets ++ map told_of c.in_ok-settled.settled.0.items =
     c.send_all.ensures
-    ∙ ap (λ (ps : List SentPacket). ps ++ map told_of c.in-Ok.settled.0.items)
+    ∙ ap (λ (ps : List SentPacket). ps ++ map told_of c.in_ok-settled.settled.0.items)
     (ap (λ x. x.packets) c.in_ok-reserve.ensures.ok) in
-    let count : c.len-count.result ≡ length c.settle_members-settled.new.members.items =
-    omega (arith, c.len-count.ensures, c.settle_members-settled.new.members.ok) in
+    let count : c.len-count.result ≡ length c.settle_members.new.members.items =
+    omega (arith, c.len-count.ensures, c.settle_members.new.members.ok) in
     let fits =
-    settle_fits s c.self.invariant few c.settle_members-settled.new.members.items c.in-Ok.ensures.members
-    c.send_all.new.sent.packets c.in-Ok.settled.0.items sent c.in-Ok.ensures.told
-    c.len-count.result c.saturating_sub.result c.in-Ok.settled.1 c.in-Ok.settled.2 count c.saturating_sub.ensures
-    c.in-Ok.ensures.parts c.in-Ok.ensures.octets in
+    settle_fits s c.self.invariant few c.settle_members.new.members.items c.in_ok-settled.ensures.members
+    c.send_all.new.sent.packets c.in_ok-settled.settled.0.items sent c.in_ok-settled.ensures.told
+    c.len-count.result c.saturating_sub.result c.in_ok-settled.settled.1 c.in_ok-settled.settled.2 count
+    c.saturating_sub.ensures
+    c.in_ok-settled.ensures.parts c.in_ok-settled.ensures.octets in
     omega (arith, fits.3)
 
 pub invariant_of-self-2 : goal.invariant_of-self-2
 invariant_of-self-2 g c =
     let s = world_state c.self.inside in
     let few = subst (λ (x : GroupState). x.steps < 100000) (sym c.self.view_is) c.requires.few in
-    let sent : c.send_all.new.sent.packets ≡ c.self.inside.sent.packets ++ map told_of c.in-Ok.settled.0.items =
+    let sent : c.send_all.new.sent.packets ≡ c.self.inside.sent.packets ++ map told_of c.in_ok-settled.settled.0.items =
     c.send_all.ensures
-    ∙ ap (λ (ps : List SentPacket). ps ++ map told_of c.in-Ok.settled.0.items)
+    ∙ ap (λ (ps : List SentPacket). ps ++ map told_of c.in_ok-settled.settled.0.items)
     (ap (λ x. x.packets) c.in_ok-reserve.ensures.ok) in
-    let count : c.len-count.result ≡ length c.settle_members-settled.new.members.items =
-    omega (arith, c.len-count.ensures, c.settle_members-settled.new.members.ok) in
-    settle_state s c.self.invariant few c.settle_members-settled.new.members.items c.in-Ok.ensures.members
-    c.send_all.new.sent.packets c.in-Ok.settled.0.items sent c.in-Ok.ensures.told
-    c.len-count.result c.saturating_sub.result c.in-Ok.settled.1 c.in-Ok.settled.2 count c.saturating_sub.ensures
-    c.in-Ok.ensures.parts c.in-Ok.ensures.octets
-    c.settle_members-settled.ensures.len c.settle_members-settled.ensures.numbers c.settle_members-settled.ensures.truly
+    let count : c.len-count.result ≡ length c.settle_members.new.members.items =
+    omega (arith, c.len-count.ensures, c.settle_members.new.members.ok) in
+    settle_state s c.self.invariant few c.settle_members.new.members.items c.in_ok-settled.ensures.members
+    c.send_all.new.sent.packets c.in_ok-settled.settled.0.items sent c.in_ok-settled.ensures.told
+    c.len-count.result c.saturating_sub.result c.in_ok-settled.settled.1 c.in_ok-settled.settled.2 count
+    c.saturating_sub.ensures
+    c.in_ok-settled.ensures.parts c.in_ok-settled.ensures.octets
+    c.settle_members.ensures.len c.settle_members.ensures.numbers c.settle_members.ensures.truly
 
 pub returns : goal.returns
 returns g c =
     let s = world_state c.self.inside in
     let few = subst (λ (x : GroupState). x.steps < 100000) (sym c.self.view_is) c.requires.few in
-    let mid = c.settle_members-settled.new.members.items in
-    let told = c.in-Ok.settled.0.items in
+    let mid = c.settle_members.new.members.items in
+    let told = c.in_ok-settled.settled.0.items in
     let sent : c.send_all.new.sent.packets ≡ c.self.inside.sent.packets ++ map told_of told =
     c.send_all.ensures
     ∙ ap (λ (ps : List SentPacket). ps ++ map told_of told) (ap (λ x. x.packets) c.in_ok-reserve.ensures.ok) in
     let count : c.len-count.result ≡ length mid =
-    omega (arith, c.len-count.ensures, c.settle_members-settled.new.members.ok) in
+    omega (arith, c.len-count.ensures, c.settle_members.new.members.ok) in
     record {
       world =
-          settle_world s c.self.invariant few mid c.in-Ok.ensures.members c.send_all.new.sent.packets told sent
-          c.in-Ok.ensures.told c.len-count.result c.saturating_sub.result c.in-Ok.settled.1 c.in-Ok.settled.2 count
-          c.saturating_sub.ensures c.in-Ok.ensures.parts c.in-Ok.ensures.octets
+          settle_world s c.self.invariant few mid c.in_ok-settled.ensures.members c.send_all.new.sent.packets told sent
+          c.in_ok-settled.ensures.told c.len-count.result c.saturating_sub.result c.in_ok-settled.settled.1
+          c.in_ok-settled.settled.2 count
+          c.saturating_sub.ensures c.in_ok-settled.ensures.parts c.in_ok-settled.ensures.octets
           ∙ ap (λ (x : GroupState). after_gathering (keyed x.keys) (world_of x)) c.self.view_is;
-      parts = c.in-Ok.ensures.parts ∙ ap (λ (x : GroupState). settle_gains (world_of x)) c.self.view_is;
+      parts = c.in_ok-settled.ensures.parts ∙ ap (λ (x : GroupState). settle_gains (world_of x)) c.self.view_is;
       joined =
-          settle_joined s c.self.invariant few mid c.in-Ok.ensures.members c.send_all.new.sent.packets told sent
-          c.in-Ok.ensures.told c.len-count.result c.saturating_sub.result c.in-Ok.settled.1 c.in-Ok.settled.2 count
-          c.saturating_sub.ensures c.in-Ok.ensures.parts c.in-Ok.ensures.octets;
+          settle_joined s c.self.invariant few mid c.in_ok-settled.ensures.members c.send_all.new.sent.packets told sent
+          c.in_ok-settled.ensures.told c.len-count.result c.saturating_sub.result c.in_ok-settled.settled.1
+          c.in_ok-settled.settled.2 count
+          c.saturating_sub.ensures c.in_ok-settled.ensures.parts c.in_ok-settled.ensures.octets;
       steps = ap (λ (x : GroupState). x.steps + 1) c.self.view_is;
       keys = ap (λ (x : GroupState). x.keys) c.self.view_is;
       mirrors = ap (λ (x : GroupState). x.mirrors) c.self.view_is;
