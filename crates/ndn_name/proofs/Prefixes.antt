@@ -2,11 +2,12 @@
 use Rattle.std.proofs.Common.{◌≡◌, ◌≢◌, ℕ, Bool, true, List, [], ◌∷◌, ◌++◌, length, take, drop, refl, sym, ap, ◌∙◌}
 use Rattle.std.proofs.Common.{append_assoc, arith}
 use Rattle.std.specs.declared.cmp.Ordering.{Ordering}
-use Rattle.std.specs.declared.cmp.Ordering.TheVariants.{Less, Equal, Greater}
-use Rattle.std.specs.Ordering.{nat_cmp, ordering_then}
+use Rattle.std.specs.declared.cmp.Ordering.TheVariants.{Less, Equal}
+use Rattle.std.specs.Ordering.{nat_cmp, on, then_cmp, ordering_then}
 use Rattle.std.specs.Cmp.Lexicographic.{slice_cmp}
 use Rattle.std.proofs.lemmas.Cmp.{tied_itself}
-use Rattle.std.proofs.lemmas.Map.Lookups.{exact_bytes, exact_unsigned}
+use Rattle.std.proofs.lemmas.Map.Lookups.{exact_bytes, exact_unsigned, exact_pairs}
+use Rattle.std.specs.FinMap.{IsAntisymmetric, slice_cmp-IsAntisymmetric}
 use Rattle.std.specs.Cmp.{unsigned_Decides}
 use Rattle.std.specs.Bool.{nat_eq}
 use Rattle.std.specs.List.{starts_with}
@@ -16,7 +17,7 @@ use Rattle.std.proofs.lemmas.Slice.Eq.{starts_is}
 use Rattle.ndn_tlv.specs.Spelling.{element}
 use Rattle.ndn_tlv.proofs.ElementLemmas.{element_alone}
 use Rattle.ndn_name.specs.Names.{Component, IsName, IsValue, components, encoding}
-use Rattle.ndn_name.specs.CanonicalOrder.{IsPrefix, component_cmp, canonical_cmp, canonical_cmp_total}
+use Rattle.ndn_name.specs.CanonicalOrder.{IsPrefix, component_cmp, canonical_cmp, component_cmp_total}
 use Rattle.ndn_name.proofs.Encodings.{encoding-append}
 use Rattle.ndn_name.proofs.OrderLemmas.{element-some}
 
@@ -50,27 +51,15 @@ prefix-octets (c ∷ a) (d ∷ b) rest h k e =
 
 -- ---- in the canonical order
 
-both_equal : (a b : Ordering) → ordering_then a b ≡ Equal → (a ≡ Equal) × (b ≡ Equal)
-both_equal Less b e = absurd cc
-both_equal Equal b e = (refl, e)
-both_equal Greater b e = absurd cc
+component_cmp-equal : IsAntisymmetric component_cmp
+component_cmp-equal = exact_pairs nat_cmp _ exact_unsigned by_length where
+  by_length : IsAntisymmetric (then_cmp (on length nat_cmp) (slice_cmp nat_cmp))
+  by_length v w e =
+      ap (λ (x : ℕ × List ℕ). x.1)
+      (exact_pairs nat_cmp (slice_cmp nat_cmp) exact_unsigned exact_bytes (length v, v) (length w, w) e)
 
-component_cmp-equal : (c d : Component) → component_cmp c d ≡ Equal → c ≡ d
-component_cmp-equal c d e =
-    let outer =
-    both_equal (nat_cmp c.0 d.0) (ordering_then (nat_cmp (length c.1) (length d.1)) (slice_cmp nat_cmp c.1 d.1)) e in
-    let inner = both_equal (nat_cmp (length c.1) (length d.1)) (slice_cmp nat_cmp c.1 d.1) outer.1 in
-    ap (λ (t : ℕ). (t, c.1)) (exact_unsigned c.0 d.0 outer.0)
-    ∙ ap (λ (v : List ℕ). (d.0, v)) (exact_bytes c.1 d.1 inner.1)
-
-pub canonical_cmp-equal : (a b : List Component) → canonical_cmp a b ≡ Equal → a ≡ b
-canonical_cmp-equal [] [] e = refl
-canonical_cmp-equal [] (d ∷ b) e = absurd cc
-canonical_cmp-equal (c ∷ a) [] e = absurd cc
-canonical_cmp-equal (c ∷ a) (d ∷ b) e =
-    let parts = both_equal (component_cmp c d) (canonical_cmp a b) e in
-    ap (λ (x : Component). x ∷ a) (component_cmp-equal c d parts.0)
-    ∙ ap (λ (x : List Component). d ∷ x) (canonical_cmp-equal a b parts.1)
+pub canonical_cmp-equal : IsAntisymmetric canonical_cmp
+canonical_cmp-equal = slice_cmp-IsAntisymmetric component_cmp-equal
 
 pub prefix-first : (a b : List Component) → IsPrefix a b → a ≢ b → canonical_cmp a b ≡ Less
 prefix-first [] [] h k = absurd (k refl)
@@ -81,9 +70,8 @@ prefix-first (c ∷ a) (d ∷ b) h k =
     let behind : take (length a) b ≡ a = cc in
     let less =
     prefix-first a b behind (λ e. k (ap (λ (x : Component). x ∷ a) (sym one) ∙ ap (λ (x : List Component). d ∷ x) e)) in
-    let tied = tied_itself canonical_cmp_total (d ∷ []) in
     let level : component_cmp c d ≡ Equal =
-    ap (λ (x : Component). component_cmp x d) (sym one) ∙ (both_equal (component_cmp d d) Equal tied).0 in
+    ap (λ (x : Component). component_cmp x d) (sym one) ∙ tied_itself component_cmp_total d in
     ap (λ (o : Ordering). ordering_then o (canonical_cmp a b)) level ∙ less
 
 -- ---- as fronts of the octets

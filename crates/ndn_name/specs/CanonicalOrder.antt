@@ -16,18 +16,15 @@ component_cmp =
 abbrev pub canonical_cmp : List Component → List Component → Ordering
 canonical_cmp = slice_cmp component_cmp
 
--- Its laws, which `Ord` asks for.
+-- Their laws, which `Ord` asks for.
+pub component_cmp_total : IsTotalOrder component_cmp
+component_cmp_total =
+    then_total (on_total (λ (c : Component). c.0) nat_cmp_total)
+    (then_total (on_total (λ (c : Component). length c.1) nat_cmp_total)
+    (on_total (λ (c : Component). c.1) nat_list_cmp_total))
+
 pub canonical_cmp_total : IsTotalOrder canonical_cmp
-canonical_cmp_total =
-    lists_total (then_total by_type (then_total by_length by_octets)) where
-      by_type : IsTotalOrder (on (λ (c : Component). c.0) nat_cmp)
-      by_type = on_total (λ (c : Component). c.0) nat_cmp_total
-
-      by_length : IsTotalOrder (on (λ (c : Component). length c.1) nat_cmp)
-      by_length = on_total (λ (c : Component). length c.1) nat_cmp_total
-
-      by_octets : IsTotalOrder (on (λ (c : Component). c.1) (slice_cmp nat_cmp))
-      by_octets = on_total (λ (c : Component). c.1) nat_list_cmp_total
+canonical_cmp_total = lists_total component_cmp_total
 
 -- The second name begins with the components of the first.
 abbrev pub IsPrefix : List Component → List Component → Type 0

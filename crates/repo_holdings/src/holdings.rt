@@ -1,7 +1,6 @@
 ghost use Rattle.std.specs.Prelude.{◌≡◌, ◌<◌, ℕ, max, Ok, Err, length, option_map, IfOk, OnOk, OnErr, MatchResult};
 ghost use Rattle.sorted_lists.specs.SortedList.{value_of};
 ghost use Rattle.repo_plan.specs.Parts.{part_cmp};
-ghost use Rattle.repo_plan.specs.Plan.{holds};
 ghost use Rattle.repo_plan.specs.Sound.{PlanIsSound};
 ghost use Rattle.repo_store.specs.Served.{served};
 ghost use Rattle.repo_holdings.specs.Listed.{alone_catalogue};
@@ -115,14 +114,11 @@ impl Holdings {
         self.plan.raise(publisher, seq);
     }
 
-    /// Whether the part is held.
-    //
-    // A caller sees the value alone, so `sound` states what holds of every plan.
-    pub fn holds(&self, part: Part) -> bool
-        ensures held { result ≡ holds (held_plan self.now) part }
-        ensures sound { PlanIsSound (held_plan self.now) }
+    /// What holds of the plan of all holdings. Costs nothing, and is called for its clause.
+    pub fn is_sound(&self)
+        ensures { PlanIsSound (held_plan self.now) }
     {
-        self.plan.holds(part)
+        self.plan.is_sound();
     }
 
     /// How many parts are held.

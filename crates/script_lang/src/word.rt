@@ -192,6 +192,6 @@ pub(crate) fn name_in(alloc: Global, least: u64, most: u64, word: &str) -> Resul
     if !is_within(least, most, len) {
         return Err(LineFault::Limit);
     }
-    // The text was read before.
+    // The text was read before, so only memory can be wanting.
     Ok(Name::from_uri(alloc, word).map_err(NameFault::only_memory)?)
 }

@@ -27,10 +27,8 @@ impl Holdings {
         ensures claim { result ≡ claim_of (held_plan self.now) f }
         ensures wanted { IfSome result (λ part. is_wanted (held_plan self.now) part ≡ true) }
     {
-        let part = self.plan.claimed(f)?;
-        let held = self.plan.holds(part);
-        prove!(!held);
-        Some(part)
+        self.plan.is_sound();
+        self.plan.claimed(f)
     }
 
     /// The fetcher's claim ends, and its part can be claimed again, or be held. It takes no memory.

@@ -2,10 +2,10 @@ use Rattle.std.proofs.Common.{refl, subst}
 use Rattle.repo_plan.specs.Sound.{PlanIsSound}
 use Rattle.repo_plan.proofs.Changes.{sound_as}
 use Rattle.repo_holdings.specs.HoldingsState.{HoldingsState, held_plan}
-use Rattle.repo_holdings.proofs.holdings.Holdings.holds.Goals as goal
+use Rattle.repo_holdings.proofs.holdings.Holdings.is_sound.Goals as goal
 
-pub returns-clause-sound : goal.returns-clause-sound
-returns-clause-sound c =
+pub returns : goal.returns
+returns c =
     subst (λ (h : HoldingsState). PlanIsSound (held_plan h)) c.self.view_is
     (sound_as c.self.inside.plan _ refl c.self.invariant.kept.tied.held c.self.invariant.kept.tied.shapes refl refl refl
-    c.holds.ensures.sound)
+    c.is_sound.ensures)
