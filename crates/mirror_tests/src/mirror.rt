@@ -11,7 +11,7 @@ use crate::packets::{RECORD, SEGMENT, WITHDRAWAL};
 use ndn_name::Name;
 use ndn_sign::KeyRing;
 use repo_member::Group;
-use repo_mirror::{Mirror, planned_jobs_can_be_taken};
+use repo_mirror::Mirror;
 use repo_object::{Checked, Job, NODE_NAME_LIMIT, check_part, is_object_name};
 use repo_plan::Part;
 use repo_watch::{Filter, Pattern};
@@ -161,8 +161,6 @@ fn fetch_next(
     mirror: &mut Mirror,
     is_lost: bool,
 ) -> Option<(Part, u32, u32)> {
-    // Called for its clause alone.
-    planned_jobs_can_be_taken();
     ready(rt, g, mirror);
     let jobs = mirror
         .plan(rt.alloc(), g.roster(), g.name(), None, 1)

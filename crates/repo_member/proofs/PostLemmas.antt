@@ -159,7 +159,7 @@ before_marked log (Withdrawal seq) i x kept inside is h = elim (cases_eq i (seq 
       (ne_eqb seq (i + 1) (λ e. other (omega (arith, e)))) (kept.marked i x was)
 ]
 
-new_marked : (log : List Post) (post : Post) → IsKeptLog log → IsNew post
+new_marked : (log : List Post) (post : Post) → IsKeptLog log → IsNew (length log + 1) post
     → IsMarked (posts_of log ++ post_of post ∷ []) (length log + 1) post
 new_marked log (Withdrawal seq) kept new = tt
 new_marked log (Object object withdrawn) kept new =
@@ -167,8 +167,8 @@ new_marked log (Object object withdrawn) kept new =
     (new ∙ sym (none_withdraws (posts_of log) (length log + 1) kept.posts
     (omega (arith, length-map log post_of))))
 
-pub kept_more : (log : List Post) (post : Post) → IsKeptLog log → IsNew post → IsPost (length log + 1) (post_of post)
-    → IsKeptLog (marks post log ++ post ∷ [])
+pub kept_more : (log : List Post) (post : Post) → IsKeptLog log → IsNew (length log + 1) post
+    → IsPost (length log + 1) (post_of post) → IsKeptLog (marks post log ++ post ∷ [])
 kept_more log post kept new is = record {
   posts =
       subst ArePosts (sym (posts_more log post))

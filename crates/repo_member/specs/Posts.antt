@@ -1,5 +1,5 @@
 -- A member's publications as it keeps them, so that what is withdrawn is found at once.
-use Rattle.std.specs.Prelude.{◌≡◌, ℕ, ◌+◌, ◌-◌, true, false, List, map, Some, slice_get, slice_set, slice_index_or}
+use Rattle.std.specs.Prelude.{◌≡◌, ◌<◌, ◌×◌, ℕ, ◌+◌, ◌-◌, true, false, List, [], map, Some, slice_get, slice_set, slice_index_or}
 use Rattle.std.specs.List.{list_any}
 use Rattle.repo_object.specs.Objects.{Post as Published, withdraws_number}
 use Rattle.repo_object.specs.Objects.Post.{Offers, Withdraws}
@@ -26,10 +26,15 @@ pub record IsKeptLog (log : List Post) : Type 0 where
   pub posts : ArePosts (posts_of log)
   pub marked : (i : ℕ) (post : Post) → slice_get log i ≡ Some post → IsMarked (posts_of log) (i + 1) post
 
--- a publication that nothing withdraws yet
-abbrev pub IsNew : Post → Type 0
-IsNew (Object object withdrawn) = withdrawn ≡ false
-IsNew (Withdrawal seq) = Unit {0}
+-- a publication under this number, of an object that nothing withdraws yet or a withdrawal of what was published before
+abbrev pub IsNew : ℕ → Post → Type 0
+IsNew seq (Object object withdrawn) = withdrawn ≡ false
+IsNew seq (Withdrawal earlier) = (0 < earlier) × (earlier < seq)
+
+-- the contents of its segments
+abbrev pub contents_of : Post → List (List ℕ)
+contents_of (Object object withdrawn) = object.contents
+contents_of (Withdrawal seq) = []
 
 -- an object, marked as withdrawn
 abbrev pub marked : Post → Post

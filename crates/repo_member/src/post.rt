@@ -1,11 +1,11 @@
 // A member's publications as it keeps them.
-ghost use Rattle.std.specs.Prelude.{◌≡◌, ◌++◌, ◌∷◌, [], ◌<◌, ◌≤◌, ◌+◌, length, vec_capacity, option_map, IfOk};
+ghost use Rattle.std.specs.Prelude.{◌≡◌, ◌++◌, ◌∷◌, [], ◌<◌, ◌≤◌, ◌+◌, length, map, vec_capacity, option_map, IfOk};
 ghost use Rattle.ndn_name.specs.Names.{encoding};
 ghost use Rattle.group_model.specs.Publications.{has_unwithdrawn};
 ghost use Rattle.repo_object.specs.Limits.{node_name_limit};
 ghost use Rattle.repo_object.specs.Objects.{IsPost, publisher};
 ghost use Rattle.repo_object.specs.Publication.{packet_at};
-ghost use Rattle.repo_member.specs.Posts.{post_of, posts_of, IsNew, IsKeptLog, with_mark};
+ghost use Rattle.repo_member.specs.Posts.{post_of, posts_of, contents_of, IsNew, IsKeptLog, with_mark};
 
 use ndn_name::Name;
 use repo_object::{Object, packet_of, withdrawal_packet};
@@ -18,6 +18,18 @@ pub(crate) enum Post {
     Object { object: Object, withdrawn: bool },
     // The withdrawal of what was published under an earlier number.
     Withdrawal { seq: u16 },
+}
+
+impl Post {
+    // The contents of the object's segments, which are moved out of it. A withdrawal has none.
+    pub(crate) fn into_contents(self, alloc: Global) -> Vec<Vec<u8>>
+        ensures { map (λ c. c.items) result.items ≡ contents_of self }
+    {
+        match self {
+            Post::Object { object, .. } => object.into_parts().1,
+            Post::Withdrawal { .. } => Vec::new(alloc),
+        }
+    }
 }
 
 // Whether an object was published under the number that is not withdrawn.
@@ -66,7 +78,7 @@ pub(crate) fn packet_in(
 pub(crate) fn push(log: &mut Vec<Post>, post: Post)
     requires room { length log.old.items < vec_capacity log.old }
     requires log { IsKeptLog log.old.items }
-    requires new { IsNew post }
+    requires new { IsNew (length log.old.items + 1) post }
     requires post { IsPost (length log.old.items + 1) (post_of post) }
     ensures posts { posts_of log.new.items ≡ posts_of log.old.items ++ post_of post ∷ [] }
     ensures log { IsKeptLog log.new.items }

@@ -7,6 +7,7 @@ ghost use Rattle.repo_member.specs.Blocks.{alone_block, alone_blocks, CompletesA
 use super::Member;
 use super::publishing::{PUBLICATION_LIMIT, Published};
 use crate::group::Group;
+use crate::post::Post;
 use crate::refusals::PublishRefusal;
 use repo_object::Object;
 use repo_process::BlockState;
@@ -70,10 +71,14 @@ impl Member {
         };
         // The blocks are moved into the object, and back where it is not published.
         let object = Object::from_parts(name, self.processes.hand_over(process));
-        match self.publish_object(g, object, now, draw) {
+        let post = Post::Object {
+            object,
+            withdrawn: false,
+        };
+        match self.publish_post(g, post, now, draw) {
             Ok(published) => Ok(Blocked::Published(published)),
-            Err(object) => {
-                let (_, contents) = object.into_parts();
+            Err(post) => {
+                let contents = post.into_contents(*self.log.allocator());
                 self.processes.reopen(process, contents);
                 self.processes.take_back(process, index);
                 Err(PublishRefusal::NoMemory)

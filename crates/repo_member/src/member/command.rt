@@ -23,7 +23,7 @@ use ndn_name::{Name, NameView, PacketWriteFault};
 use repo_command::status_codes::{ACCEPTED, DONE, IN_PROGRESS, MALFORMED, NOT_FOUND};
 use repo_command::{Answer, Command, CommandRefusal, check_command, write_answer};
 use repo_object::key_name;
-use repo_plan::{Part, Shape};
+use repo_plan::Shape;
 use repo_process::StartFault;
 use std::alloc::AllocError;
 
@@ -201,16 +201,10 @@ impl Member {
     {
         let catalogue = self.held.catalogue();
         let publications = catalogue.named(*self.log.allocator(), &name.view())?;
+        self.held.is_sound();
         let mut left = self.held.len();
         for (publisher, seq) in &publications {
             let entry = catalogue.entry(*publisher, *seq).unwrap();
-            let record = Part {
-                publisher: *publisher,
-                seq: *seq,
-                part: 0,
-            };
-            let held = self.held.holds(record);
-            prove!(held);
             left -= 1 + Shape::of(entry.segments as u16).parts_behind() as usize;
         }
         Ok(Found {

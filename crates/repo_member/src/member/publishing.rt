@@ -74,7 +74,11 @@ impl Member {
             return Err(PublishRefusal::NumbersSpent { log });
         }
         let object = Object::new(*self.log.allocator(), name, contents)?;
-        match self.publish_object(g, object, now, draw) {
+        let post = Post::Object {
+            object,
+            withdrawn: false,
+        };
+        match self.publish_post(g, post, now, draw) {
             Ok(published) => Ok(published),
             Err(_) => Err(PublishRefusal::NoMemory),
         }
@@ -114,45 +118,37 @@ impl Member {
         if log >= PUBLICATION_LIMIT {
             return Err(WithdrawRefusal::NumbersSpent { log });
         }
-        let prepared = self.prepare_withdrawal(g, seq)?;
-        match self.publish_prepared(Post::Withdrawal { seq }, prepared, now, draw) {
+        match self.publish_post(g, Post::Withdrawal { seq }, now, draw) {
             Ok(published) => Ok(published),
             Err(_) => Err(WithdrawRefusal::NoMemory),
         }
     }
 
-    // Publishes an object under the next number, or gives it back where memory is wanting.
-    pub(super) fn publish_object(
+    // Publishes an object or a withdrawal under the next number, or gives it back where memory is wanting.
+    pub(super) fn publish_post(
         &mut self,
         g: &Group,
-        object: Object,
+        post: Post,
         now: u64,
         draw: u32,
-    ) -> Result<Published, Object>
+    ) -> Result<Published, Post>
         requires group { IsOfGroup g.now self.old }
         requires numbers { length self.old.log < publication_limit }
+        requires new { IsNew (next_seq self.old) post }
         requires early { now < 2 ^ 62 }
         requires draws { self.old.machine.draws < 2 ^ 62 }
-        ensures ok { OnOk result (self.new ≡ alone_publishes g.now (Offers object) now draw self.old) }
-        ensures object { OnOk result (IsObject object) }
+        ensures ok { OnOk result (self.new ≡ alone_publishes g.now (post_of post) now draw self.old) }
+        ensures post { OnOk result (IsPost (next_seq self.old) (post_of post)) }
         ensures seq { IfOk result (λ published. published.seq ≡ next_seq self.old) }
         ensures sync { IfOk result (λ published.
             published.sync.items ≡ sync_of g.now self.old.number self.new.known) }
-        ensures back { IfErr result (λ back. back ≡ object) }
+        ensures back { IfErr result (λ back. back ≡ post) }
         ensures err { OnErr result (self.new ≡ self.old) }
     {
-        let Ok(prepared) = self.prepare_object(g, &object) else {
-            return Err(object);
+        let Ok(prepared) = self.prepare(g, &post) else {
+            return Err(post);
         };
-        let post = Post::Object {
-            object,
-            withdrawn: false,
-        };
-        match self.publish_prepared(post, prepared, now, draw) {
-            Ok(published) => Ok(published),
-            Err(Post::Object { object, .. }) => Err(object),
-            Err(Post::Withdrawal { .. }) => unreachable!(),
-        }
+        self.publish_prepared(post, prepared, now, draw)
     }
 
     // Publishes what was prepared under the next number, or gives it back where memory is wanting.
@@ -164,7 +160,7 @@ impl Member {
         draw: u32,
     ) -> Result<Published, Post>
         requires numbers { length self.old.log < publication_limit }
-        requires new { IsNew post }
+        requires new { IsNew (next_seq self.old) post }
         requires post { IsPost (next_seq self.old) (post_of post) }
         requires parts { ArePackets prepared.told prepared.packets.items }
         requires early { now < 2 ^ 62 }
@@ -178,14 +174,8 @@ impl Member {
     {
         let seq = self.next_seq();
         let number = self.number;
-        let record = Part {
-            publisher: number,
-            seq,
-            part: 0,
-        };
-        // No record of a number that is still to come is held: seen here, so that the parts are known to be new.
-        let held = self.held.holds(record);
-        prove!(!held);
+        // No part of a number that is still to come is held.
+        self.held.is_sound();
         let Ok(()) = self.log.reserve(1) else {
             return Err(post);
         };
@@ -230,11 +220,26 @@ impl Member {
         self.log_len() as u16 + 1
     }
 
+    // All that a publication under the next number makes.
+    fn prepare(&self, g: &Group, post: &Post) -> Result<Prepared, AllocError>
+        requires group { IsOfGroup g.now self.now }
+        requires numbers { length self.now.log < publication_limit }
+        requires new { IsNew (next_seq self.now) post.now }
+        ensures post { OnOk result (IsPost (next_seq self.now) (post_of post.now)) }
+        ensures prepared { IfOk result (λ prepared. IsPrepared g.now self.now (post_of post.now)
+            prepared.told prepared.packets.items prepared.sync.items) }
+    {
+        match post {
+            Post::Object { object, .. } => self.prepare_object(g, object),
+            Post::Withdrawal { seq } => self.prepare_withdrawal(g, *seq),
+        }
+    }
+
     // All that the publication of an object under the next number makes.
     fn prepare_object(&self, g: &Group, object: &Object) -> Result<Prepared, AllocError>
         requires group { IsOfGroup g.now self.now }
         requires numbers { length self.now.log < publication_limit }
-        ensures within { IfOk result (λ _. IsObject object.now) }
+        ensures within { OnOk result (IsObject object.now) }
         ensures prepared { IfOk result (λ prepared. IsPrepared g.now self.now (Offers object.now)
             prepared.told prepared.packets.items prepared.sync.items) }
     {

@@ -76,6 +76,7 @@ impl Mirror {
         ensures others { IfOk result (λ sorted.
             All (λ x. contains pair_cmp sorted.passed.items (pair_of x.part) ≡ false) sorted.kept.items) }
     {
+        self.held.is_sound();
         let mut kept = Vec::with_capacity(alloc, jobs.len())?;
         let mut passed = Vec::new(alloc);
         for ((job, checked), tries) in jobs.iter().zip(parts).zip(attempts) {
@@ -84,9 +85,6 @@ impl Mirror {
                 kept.push(tried)?;
             } else {
                 let part = tried.part;
-                // What came was wanted, and so not held.
-                let held = self.held.holds(part);
-                prove!(!held);
                 put_in_order(&mut passed, (part.publisher, part.seq))?;
             }
         }

@@ -6,6 +6,7 @@ use Rattle.repo_object.specs.declared.job.Job.{Job}
 use Rattle.repo_holdings.specs.Wanting.{job_at}
 use Rattle.repo_mirror.specs.MirrorState.{mirror_holdings, fetch_plan}
 use Rattle.repo_mirror.specs.MirrorOutcomes.{planned_jobs, WereTriedFor}
+use Rattle.repo_mirror.proofs.PublicLaws.{planned_jobs_are_outcomes}
 use Rattle.mirror_tests.proofs.OneJob.{first_same, one_job, at_most_one}
 use Rattle.mirror_tests.proofs.mirror.fetch_next.Goals as goal
 
@@ -27,7 +28,7 @@ take_first-requires-clause-outcome g c job part first its =
     ∙ ap (λ (js : List Job). slice_get js 0) (c.deref.ensures.value ∙ sym c.deref-2.ensures.value)
     ∙ first) in
     let few : job.base < 1000 = subst (λ (j : Job). j.base < 1000) same c.few_tries.ensures in
-    c.planned_jobs_can_be_taken.ensures names group m None 1 c.deref-2.result.now (part ∷ []) (3 ∷ []) planned
+    planned_jobs_are_outcomes names group m None 1 c.deref-2.result.now (part ∷ []) (3 ∷ []) planned
     (subst (λ (js : List Job). WereTriedFor js (part ∷ []) (3 ∷ [])) (sym one) (its, omega (arith, few), tt))
 
 pub take_first-requires-clause-few : goal.take_first-requires-clause-few

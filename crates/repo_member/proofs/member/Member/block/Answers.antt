@@ -20,6 +20,7 @@ use Rattle.repo_member.specs.declared.member.block.Blocked.TheVariants as blocke
 use Rattle.repo_member.specs.Alone.{Alone, alone_publishes}
 use Rattle.repo_member.specs.Blocks.{alone_block, alone_keeps, after_block, CompletesAnObject, TellsBlock}
 use Rattle.repo_member.specs.Members.{alone, AreWaiting, IsMember}
+use Rattle.repo_member.specs.Posts.{contents_of}
 use Rattle.repo_member.proofs.BlockStates.{ComesLast, comes_last, kept_waiting, nothing_lent, can_take_back, taken_back}
 use Rattle.repo_member.proofs.BlockStates.{handed, can_reopen, opened_again}
 use Rattle.repo_member.proofs.WaitingLemmas.{waiting_with, with_processes}
@@ -156,9 +157,10 @@ reopen-requires-clause-closed c =
     c.in-Some.ensures.object in
     let over : c.self-2.inside.processes ≡ changes_process c.args.process closed c.block.new.self =
     ap (λ (a : Alone). a.insertions) (c.self-2.view_is ∙ c.in-Err.ensures.err) ∙ c.hand_over.ensures.closed in
-    let same : map (λ v. v.items) c.into_parts-contents.result.1.items ≡ map (λ v. v.items) c.hand_over.result.items =
-    c.into_parts-contents.ensures.contents
-    ∙ ap (λ (o : NamedContents). o.contents) (c.in-Err.ensures.back ∙ c.from_parts-object.ensures) in
+    let same : map (λ v. v.items) c.into_contents-contents.result.items ≡ map (λ v. v.items) c.hand_over.result.items =
+    c.into_contents-contents.ensures
+    ∙ ap contents_of c.in-Err.ensures.back
+    ∙ ap (λ (o : NamedContents). o.contents) c.from_parts-object.ensures in
     let back : blocks_from last.0.first (map (λ v. v.items) c.hand_over.result.items) ≡ last.0.blocks =
     subst (λ (o : Option Process).
     IfSome o (λ p. blocks_from p.first (map (λ v. v.items) c.hand_over.result.items) ≡ p.blocks)) last.1.there
@@ -168,19 +170,20 @@ reopen-requires-clause-closed c =
     (sym (ap (option_map (λ (o : NamedContents). o.contents)) last.1.object) ∙ c.hand_over.ensures.blocks) in
     can_reopen c.self.inside.processes c.block.new.self c.args.process c.args.index c.args.content.now last.0 last.1
     c.completes-is_last.ensures.ordered c.self-2.inside.processes over
-    (map (λ v. v.items) c.hand_over.result.items) back (length c.into_parts-contents.result.1.items)
-    (sym (length-map c.into_parts-contents.result.1.items (λ v. v.items)) ∙ ap length same ∙ ap length (sym whole)
+    (map (λ v. v.items) c.hand_over.result.items) back (length c.into_contents-contents.result.items)
+    (sym (length-map c.into_contents-contents.result.items (λ v. v.items)) ∙ ap length same ∙ ap length (sym whole)
     ∙ segments_counted last.0)
 
 pub reopen-requires-clause-contents : goal.reopen-requires-clause-contents
 reopen-requires-clause-contents c =
-    let same : map (λ v. v.items) c.into_parts-contents.result.1.items ≡ map (λ v. v.items) c.hand_over.result.items =
-    c.into_parts-contents.ensures.contents
-    ∙ ap (λ (o : NamedContents). o.contents) (c.in-Err.ensures.back ∙ c.from_parts-object.ensures) in
+    let same : map (λ v. v.items) c.into_contents-contents.result.items ≡ map (λ v. v.items) c.hand_over.result.items =
+    c.into_contents-contents.ensures
+    ∙ ap contents_of c.in-Err.ensures.back
+    ∙ ap (λ (o : NamedContents). o.contents) c.from_parts-object.ensures in
     let handed_over =
     some_contents _ _
     (sym (ap (option_map (λ (o : NamedContents). o.contents)) c.in-Some.ensures.object) ∙ c.hand_over.ensures.blocks) in
-    are_contents c.into_parts-contents.result.1.items
+    are_contents c.into_contents-contents.result.items
     (subst (All IsContent) (handed_over ∙ sym same) c.in-Some.ensures.within.contents)
 
 pub take_back-requires-in-Err : goal.take_back-requires-in-Err
@@ -191,9 +194,10 @@ take_back-requires-in-Err c =
     c.in-Some.ensures.object in
     let over : c.self-2.inside.processes ≡ changes_process c.args.process closed c.block.new.self =
     ap (λ (a : Alone). a.insertions) (c.self-2.view_is ∙ c.in-Err.ensures.err) ∙ c.hand_over.ensures.closed in
-    let same : map (λ v. v.items) c.into_parts-contents.result.1.items ≡ map (λ v. v.items) c.hand_over.result.items =
-    c.into_parts-contents.ensures.contents
-    ∙ ap (λ (o : NamedContents). o.contents) (c.in-Err.ensures.back ∙ c.from_parts-object.ensures) in
+    let same : map (λ v. v.items) c.into_contents-contents.result.items ≡ map (λ v. v.items) c.hand_over.result.items =
+    c.into_contents-contents.ensures
+    ∙ ap contents_of c.in-Err.ensures.back
+    ∙ ap (λ (o : NamedContents). o.contents) c.from_parts-object.ensures in
     let back : blocks_from last.0.first (map (λ v. v.items) c.hand_over.result.items) ≡ last.0.blocks =
     subst (λ (o : Option Process).
     IfSome o (λ p. blocks_from p.first (map (λ v. v.items) c.hand_over.result.items) ≡ p.blocks)) last.1.there
@@ -218,9 +222,10 @@ as_before c =
     c.in-Some.ensures.object in
     let over : c.self-2.inside.processes ≡ changes_process c.args.process closed c.block.new.self =
     ap (λ (a : Alone). a.insertions) (c.self-2.view_is ∙ c.in-Err.ensures.err) ∙ c.hand_over.ensures.closed in
-    let same : map (λ v. v.items) c.into_parts-contents.result.1.items ≡ map (λ v. v.items) c.hand_over.result.items =
-    c.into_parts-contents.ensures.contents
-    ∙ ap (λ (o : NamedContents). o.contents) (c.in-Err.ensures.back ∙ c.from_parts-object.ensures) in
+    let same : map (λ v. v.items) c.into_contents-contents.result.items ≡ map (λ v. v.items) c.hand_over.result.items =
+    c.into_contents-contents.ensures
+    ∙ ap contents_of c.in-Err.ensures.back
+    ∙ ap (λ (o : NamedContents). o.contents) c.from_parts-object.ensures in
     let back : blocks_from last.0.first (map (λ v. v.items) c.hand_over.result.items) ≡ last.0.blocks =
     subst (λ (o : Option Process).
     IfSome o (λ p. blocks_from p.first (map (λ v. v.items) c.hand_over.result.items) ≡ p.blocks)) last.1.there
@@ -249,7 +254,7 @@ returns-in-Err-clause-err c =
 -- ---- it is published
 
 -- the object is that of the process
-object_is : (c : goal.In-Ok-publish_object) (p : Process)
+object_is : (c : goal.In-Ok-publish_post) (p : Process)
     → ComesLast c.self.inside.processes c.block.new.self c.args.process c.args.index c.args.content.now p
     → c.from_parts-object.result ≡ object_of p
 object_is c p last =
@@ -265,8 +270,8 @@ object_is c p last =
     (sym contents)
     ∙ lent
 
-pub returns-in-Ok-publish_object-clause-ok : goal.returns-in-Ok-publish_object-clause-ok
-returns-in-Ok-publish_object-clause-ok c =
+pub returns-in-Ok-publish_post-clause-ok : goal.returns-in-Ok-publish_post-clause-ok
+returns-in-Ok-publish_post-clause-ok c =
     let last =
     comes_last c.self.inside.processes c.block.new.self c.args.process c.args.index c.args.content.now _
     c.self.invariant.waiting c.in_ok-block.ensures.ok (sym c.in_ok-block.ensures.state ∙ c.in-Complete.is)
@@ -289,7 +294,7 @@ returns-in-Ok-publish_object-clause-ok c =
     ∙ handed c.self.inside.processes c.block.new.self c.args.process c.args.index c.args.content.now last.0 last.1
     c.completes-is_last.ensures.ordered)
     ∙ ap (alone_keeps c.args.process (closed last.0)) c.self.view_is in
-    c.in-Ok-publish_object.ensures.ok
+    c.in-Ok-publish_post.ensures.ok
     ∙ ap (λ (o : NamedContents). alone_publishes c.args.g.now (Offers o) c.args.now c.args.draw
     (alone (record c.self.inside { processes = c.hand_over.new.self }))) (object_is c last.0 last.1)
     ∙ ap (alone_publishes c.args.g.now (Offers (object_of last.0)) c.args.now c.args.draw) keeps
@@ -298,8 +303,8 @@ returns-in-Ok-publish_object-clause-ok c =
     (alone_publishes c.args.g.now (Offers (object_of last.0)) c.args.now c.args.draw
     (alone_keeps c.args.process (closed last.0) a)) a) (lt-ltb (length a.log) 65535 room))
 
-pub returns-in-Ok-publish_object-clause-object : goal.returns-in-Ok-publish_object-clause-object
-returns-in-Ok-publish_object-clause-object c =
+pub returns-in-Ok-publish_post-clause-object : goal.returns-in-Ok-publish_post-clause-object
+returns-in-Ok-publish_post-clause-object c =
     let last =
     comes_last c.self.inside.processes c.block.new.self c.args.process c.args.index c.args.content.now _
     c.self.invariant.waiting c.in_ok-block.ensures.ok (sym c.in_ok-block.ensures.state ∙ c.in-Complete.is)
@@ -308,4 +313,4 @@ returns-in-Ok-publish_object-clause-object c =
     ap (λ (b : Alone). alone_block b c.args.process c.args.index c.args.content.now) (sym c.self.view_is)
     ∙ last.1.state in
     subst CompletesAnObject (sym state)
-    (subst IsObject (object_is c last.0 last.1) c.in-Ok-publish_object.ensures.object)
+    (subst IsObject (object_is c last.0 last.1) c.in-Ok-publish_post.ensures.post)

@@ -102,21 +102,11 @@ unwrap-entry-requires c =
     c.deref-publisher-items.ensures.value c.in_ok-publications.ensures c.view.ensures c.catalogue-catalogue.ensures)
     c.loop-publisher-test.true c.catalogue-catalogue.ensures c.entry.ensures
 
-pub prove-unreachable-requires : goal.prove-unreachable-requires
-prove-unreachable-requires c =
-    let at =
-    named_at c.self.inside c.args.name.now c.deref-publisher-items.result.now c.loop-publisher.publisher-index _
-    c.entry.result c.unwrap-entry.result c.self.invariant c.holds-held.ensures.sound
-    (are_named c.self.inside c.args.name.now c.view.result c.deref-publisher-items.result.now _ _
-    c.deref-publisher-items.ensures.value c.in_ok-publications.ensures c.view.ensures c.catalogue-catalogue.ensures)
-    c.loop-publisher-test.true c.catalogue-catalogue.ensures c.entry.ensures c.unwrap-entry.ensures in
-    true≢false (sym at.held ∙ sym c.holds-held.ensures.held ∙ c.if-prove.true)
-
 pub overflow_cast-entry : goal.overflow_cast-entry
 overflow_cast-entry c =
     let at =
     named_at c.self.inside c.args.name.now c.deref-publisher-items.result.now c.loop-publisher.publisher-index _
-    c.entry.result c.unwrap-entry.result c.self.invariant c.holds-held.ensures.sound
+    c.entry.result c.unwrap-entry.result c.self.invariant c.is_sound.ensures
     (are_named c.self.inside c.args.name.now c.view.result c.deref-publisher-items.result.now _ _
     c.deref-publisher-items.ensures.value c.in_ok-publications.ensures c.view.ensures c.catalogue-catalogue.ensures)
     c.loop-publisher-test.true c.catalogue-catalogue.ensures c.entry.ensures c.unwrap-entry.ensures in
@@ -126,7 +116,7 @@ pub of-requires : goal.of-requires
 of-requires c =
     let at =
     named_at c.self.inside c.args.name.now c.deref-publisher-items.result.now c.loop-publisher.publisher-index _
-    c.entry.result c.unwrap-entry.result c.self.invariant c.holds-held.ensures.sound
+    c.entry.result c.unwrap-entry.result c.self.invariant c.is_sound.ensures
     (are_named c.self.inside c.args.name.now c.view.result c.deref-publisher-items.result.now _ _
     c.deref-publisher-items.ensures.value c.in_ok-publications.ensures c.view.ensures c.catalogue-catalogue.ensures)
     c.loop-publisher-test.true c.catalogue-catalogue.ensures c.entry.ensures c.unwrap-entry.ensures in
@@ -138,7 +128,7 @@ overflow_sub-left c =
     let i : ℕ = c.loop-publisher.publisher-index in
     let at =
     named_at c.self.inside c.args.name.now pairs i _
-    c.entry.result c.unwrap-entry.result c.self.invariant c.holds-held.ensures.sound
+    c.entry.result c.unwrap-entry.result c.self.invariant c.is_sound.ensures
     (are_named c.self.inside c.args.name.now c.view.result pairs _ _
     c.deref-publisher-items.ensures.value c.in_ok-publications.ensures c.view.ensures c.catalogue-catalogue.ensures)
     c.loop-publisher-test.true c.catalogue-catalogue.ensures c.entry.ensures c.unwrap-entry.ensures in
@@ -155,7 +145,7 @@ loop-publisher-preserved c =
     let before = c.loop-publisher.invariant in
     let at =
     named_at c.self.inside c.args.name.now pairs i _
-    c.entry.result c.unwrap-entry.result c.self.invariant c.holds-held.ensures.sound
+    c.entry.result c.unwrap-entry.result c.self.invariant c.is_sound.ensures
     (are_named c.self.inside c.args.name.now c.view.result pairs _ _
     c.deref-publisher-items.ensures.value c.in_ok-publications.ensures c.view.ensures c.catalogue-catalogue.ensures)
     c.loop-publisher-test.true c.catalogue-catalogue.ensures c.entry.ensures c.unwrap-entry.ensures in

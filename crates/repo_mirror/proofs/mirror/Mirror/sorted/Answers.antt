@@ -110,21 +110,6 @@ loop-job-preserved-in-Continue-branch-3 g c =
       rest = is.1;
     }
 
-pub prove-unreachable-requires : goal.prove-unreachable-requires
-prove-unreachable-requires g c =
-    let m : MirrorState = c.args.self.now in
-    let steps = c.in-Some.ensures.steps in
-    let is =
-    first_job m c.in-Some.job.now c.in-Some.checked.now c.in-Some.tries.now _ _ _ _ _ _ steps.0.0 steps.0.1 steps.1
-    c.loop-job.invariant.rest in
-    let free = (wanted_parts (fetch_plan m) c.in-Some.job.now.want.part is.0.part_wanted).not_held in
-    true≢false
-    (sym c.if-prove.true
-    ∙ c.holds-held.ensures.held
-    ∙ reading (λ p. holds p c.in_ok-tried.tried.part) c.self.inside m c.self.invariant c.self.view_is
-    ∙ ap (holds (fetch_plan m)) c.in_ok-tried.ensures.part
-    ∙ free)
-
 pub put_in_order-requires : goal.put_in_order-requires
 put_in_order-requires g c = c.loop-job.invariant.in_order
 
@@ -156,7 +141,7 @@ loop-job-preserved-in_ok-put_in_order g c =
     c.in_ok-put_in_order.ensures ∙ ap (λ (k : Pair). insert_key pair_cmp k c.loop-job.passed.items) here in
     let sound : PlanIsSound (fetch_plan m) =
     subst PlanIsSound (reading (λ (p : PlanState). p) c.self.inside m c.self.invariant c.self.view_is)
-    c.holds-held.ensures.sound in
+    c.is_sound.ensures in
     let new : IsUnknownIn (fetch_plan m) (pair_of job.want.part) =
     wanted_unknown (fetch_plan m) job.want.part sound is.0.part_wanted
     (passed_record m.pattern (fetched m job part n) passed) in
