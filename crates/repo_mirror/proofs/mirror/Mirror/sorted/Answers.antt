@@ -12,9 +12,8 @@ use Rattle.sorted_lists.proofs.Sets.{contains_in, in_map, eq_same, contains-inse
 use Rattle.sorted_lists.proofs.Members.{in_at}
 use Rattle.repo_plan.specs.declared.part.Part.{Part}
 use Rattle.repo_plan.specs.Parts.{Pair, pair_cmp, part_cmp, pair_of}
-use Rattle.repo_plan.specs.Plan.{PlanState, holds}
+use Rattle.repo_plan.specs.Plan.{PlanState}
 use Rattle.repo_plan.specs.Sound.{PlanIsSound}
-use Rattle.repo_plan.proofs.Changes.{wanted_parts}
 use Rattle.repo_plan.proofs.Orders.{exact_parts, exact_pairs}
 use Rattle.repo_object.specs.Verdict.{CheckedPart}
 use Rattle.repo_holdings.specs.Taking.{Fetched, came, CanBeTaken, PartsDiffer}
