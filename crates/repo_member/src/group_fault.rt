@@ -1,3 +1,5 @@
+ghost use Rattle.std.specs.Prelude.{◌≡◌};
+
 use std::alloc::AllocError;
 use thiserror::Error;
 
@@ -12,6 +14,15 @@ pub enum GroupFault {
     Full,
     #[error("out of memory")]
     NoMemory,
+}
+
+impl GroupFault {
+    /// Want of memory, which is all that a new name can meet where there is room for it.
+    pub fn only_memory(self) -> AllocError
+        requires { self ≡ GroupFault.NoMemory }
+    {
+        AllocError
+    }
 }
 
 impl From<AllocError> for GroupFault {

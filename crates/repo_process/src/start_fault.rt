@@ -1,3 +1,5 @@
+ghost use Rattle.std.specs.Prelude.{◌≡◌};
+
 use std::alloc::{AllocError, AllocFailed};
 use thiserror::Error;
 
@@ -9,6 +11,15 @@ pub enum StartFault {
     Spent,
     #[error("out of memory")]
     NoMemory,
+}
+
+impl StartFault {
+    /// Want of memory, which is all that a start can meet where there is a number for it.
+    pub fn only_memory(self) -> AllocError
+        requires { self ≡ StartFault.NoMemory }
+    {
+        AllocError
+    }
 }
 
 impl From<AllocError> for StartFault {

@@ -365,11 +365,10 @@ impl Standing {
         let Standing::Declaring(group, _) = self else {
             unreachable!()
         };
-        match group.add_member(node, key) {
-            Ok(_) => Ok(()),
-            Err(GroupFault::NoMemory) => Err(Stop::NoMemory),
-            Err(GroupFault::Duplicate | GroupFault::Full) => unreachable!(),
-        }
+        group
+            .add_member(node, key)
+            .map_err(GroupFault::only_memory)?;
+        Ok(())
     }
 
     fn add_client(&mut self, node: &Name, key: &[u8]) -> Result<(), Stop>
@@ -391,11 +390,10 @@ impl Standing {
         let Standing::Declaring(group, _) = self else {
             unreachable!()
         };
-        match group.add_client(node, key) {
-            Ok(_) => Ok(()),
-            Err(GroupFault::NoMemory) => Err(Stop::NoMemory),
-            Err(GroupFault::Duplicate | GroupFault::Full) => unreachable!(),
-        }
+        group
+            .add_client(node, key)
+            .map_err(GroupFault::only_memory)?;
+        Ok(())
     }
 
     // A mirror more, which asks for this.

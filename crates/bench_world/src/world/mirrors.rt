@@ -33,6 +33,15 @@ pub enum MirrorFault {
     NoMemory,
 }
 
+impl MirrorFault {
+    /// Want of memory, which is all that a mirror can meet where there is room for it.
+    pub fn only_memory(self) -> AllocError
+        requires { self ≡ MirrorFault.NoMemory }
+    {
+        AllocError
+    }
+}
+
 impl From<AllocError> for MirrorFault {
     ghost use Rattle.std.specs.Prelude.{◌≡◌};
     ghost use Rattle.bench_world.specs.declared.world.mirrors.MirrorFault.TheVariants.{NoMemory};

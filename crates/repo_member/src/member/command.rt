@@ -141,11 +141,10 @@ impl Member {
             ..Answer::only(ACCEPTED)
         };
         let answered = self.answered(g, octets, answer)?;
-        match self.processes.start(name, first, last) {
-            Ok(_) => Ok(answered),
-            Err(StartFault::Spent) => unreachable!(),
-            Err(StartFault::NoMemory) => Err(AllocError),
-        }
+        self.processes
+            .start(name, first, last)
+            .map_err(StartFault::only_memory)?;
+        Ok(answered)
     }
 
     // How an insertion stands.

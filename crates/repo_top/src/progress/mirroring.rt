@@ -251,11 +251,8 @@ fn add_mirror(world: &mut World, pattern: Pattern) -> Result<(), Stop>
     ensures err { IfErr result (λ stop. stop ≡ Stop.NoMemory) }
 {
     world.is_sound();
-    match world.add_mirror(pattern) {
-        Ok(_) => Ok(()),
-        Err(MirrorFault::NoMemory) => Err(Stop::NoMemory),
-        Err(MirrorFault::Full) => unreachable!(),
-    }
+    world.add_mirror(pattern).map_err(MirrorFault::only_memory)?;
+    Ok(())
 }
 
 // A mirror hears a sync Interest.
