@@ -1,9 +1,9 @@
 -- What a delivery makes of a world.
 use Rattle.std.proofs.Common.{◌≡◌, ℕ, ◌+◌, ◌-◌, ◌≤◌, ◌<◌, ◌==◌, Bool, true, false, cond, List, map, length, get_or, set}
 use Rattle.std.proofs.Common.{Option, Some, None, option_map, refl, sym, ap, ◌∙◌, subst, arith}
-use Rattle.std.specs.Prelude.{slice_get, slice_index, nat_le, nat_lt, ◌&&◌, Ok, Err, IsOkAnd}
+use Rattle.std.specs.Prelude.{slice_get, slice_index, nat_le, ◌&&◌}
 use Rattle.std.proofs.Math.Bool.{and-false}
-use Rattle.std.proofs.lemmas.Bool.{eqb-true, eqb-false, le-leb, leb-false, leb-true, ltb-true, false_from_ne_true}
+use Rattle.std.proofs.lemmas.Bool.{eqb-true, eqb-false, le-leb, leb-false, leb-true}
 use Rattle.std.proofs.lemmas.List.{length-map, map-set, get_or-map}
 use Rattle.std.proofs.lemmas.Option.{slice_get-get_or, slice_get_past}
 use Rattle.bench_net.specs.SentList.{SentPacket}
@@ -16,9 +16,7 @@ use Rattle.group_model.specs.Refusals.{Refusal, unless, unless_sent}
 use Rattle.group_model.specs.Changes as group
 use Rattle.repo_member.specs.Alone.{Alone, alone_hears}
 use Rattle.repo_member.specs.InGroup.{in_group}
-use Rattle.repo_member.specs.declared.refusals.HearRefusal.{HearRefusal}
-use Rattle.repo_member.specs.declared.refusals.HearRefusal.TheVariants.{OwnNumberAhead}
-use Rattle.repo_member.specs.Verdicts.{sync_of, vector_verdict}
+use Rattle.repo_member.specs.Verdicts.{sync_of}
 use Rattle.repo_member.specs.TrueMembers.{IsTrueMember}
 use Rattle.repo_member.proofs.PublicLaws.{hears_true}
 use Rattle.bench_world.specs.Worlds.{GroupState, IsTrueState, IsTrueSync, in_groups, logs_around, sync_in, world_of}
@@ -120,28 +118,14 @@ module _ (s : GroupState) (is : IsTrueState s) (k : ℕ) (one : 1 ≤ k) (last :
     fits = sync.vector.width ∙ sym (truly s is m there old old_is).sound.width
 
     -- It tells of no publication that there isn't.
-    taken : vector_verdict old (get_or s.sent (k - 1) no_packet).vector
-        ≡ Ok (get_or s.sent (k - 1) no_packet).vector
-    taken =
-        let v = (get_or s.sent (k - 1) no_packet).vector in
-        ap (λ (x : Bool). cond x (Err (OwnNumberAhead (length old.log) (slice_index v old.number))) (Ok v))
-        (false_from_ne_true (nat_lt (length old.log) (slice_index v old.number)) (λ more.
-        let h : length old.log < slice_index v old.number = ltb-true (length old.log) (slice_index v old.number) more in
-        let most : slice_index v old.number ≤ last_of (logs_around s.members) old.number =
-        sync.vector.no_more old.number in
+    pub no_more : (told : List ℕ) → told ≡ (get_or s.sent (k - 1) no_packet).vector
+        → slice_index told old.number ≤ length old.log
+    no_more told at =
+        let here = ap (λ (v : List ℕ). slice_index v old.number) at in
+        let most = sync.vector.no_more old.number in
         let own : last_of (logs_around s.members) old.number ≡ length old.log =
         ap length (truly s is m there old old_is).log in
-        omega (arith, h, most, own)))
-
-    pub not_refused_by : (told : List ℕ) → told ≡ (get_or s.sent (k - 1) no_packet).vector → (x : HearRefusal)
-        → vector_verdict old told ≡ Err x → ⊥
-    not_refused_by told at x refused = let k = ap (vector_verdict old) at ∙ taken in cc
-
-    pub heard_is : (told : List ℕ) (moment draw : ℕ) → told ≡ (get_or s.sent (k - 1) no_packet).vector
-        → IsOkAnd (vector_verdict old told) (λ v. b ≡ alone_hears v moment draw old)
-        → b ≡ alone_hears (get_or s.sent (k - 1) no_packet).vector moment draw old
-    heard_is told moment draw at heard =
-        subst (λ r. IsOkAnd r (λ v. b ≡ alone_hears v moment draw old)) (ap (vector_verdict old) at ∙ taken) heard
+        omega (arith, here, most, own)
 
     told_is : (sent_at (world_of s) k).vector ≡ (get_or s.sent (k - 1) no_packet).vector
     told_is = ap (λ (p : SyncInterest). p.vector) sent_is

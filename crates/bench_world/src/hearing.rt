@@ -1,10 +1,10 @@
 // Sync Interests that come from outside.
-ghost use Rattle.std.specs.Prelude.{◌≡◌, ◌⊎◌, ◌<◌, ◌≤◌, ◌^◌, true, false, Ok, Err, IfOk, IfErr, OnOk, OnErr, length};
+ghost use Rattle.std.specs.Prelude.{◌≡◌, ◌⊎◌, ◌<◌, ◌≤◌, ◌^◌, true, false, Ok, Err, IfOk, IfErr, OnOk, OnErr, length, slice_index};
 ghost use Rattle.bench_net.specs.SentList.{was_sent};
 ghost use Rattle.svs_sync.specs.Suppression.{mode_of};
 ghost use Rattle.repo_member.specs.Groups.{node_limit};
 ghost use Rattle.repo_member.specs.Alone.{IsOfGroup, alone_hears};
-ghost use Rattle.repo_member.specs.Verdicts.{group_verdict, vector_verdict};
+ghost use Rattle.repo_member.specs.Verdicts.{group_verdict};
 ghost use Rattle.bench_world.specs.Hearing.{told_sync};
 
 use crate::event::StepFault;
@@ -28,7 +28,7 @@ pub(crate) fn told_by(
     requires there { number < length member.now.known }
     ensures told { IfOk result (λ told. told_sync (length member.now.log) number (group_verdict g.now octets.now)
         ≡ Ok (record { sender = told.0; vector = told.1 })) }
-    ensures fits { IfOk result (λ told. vector_verdict member.now told.1 ≡ Ok told.1) }
+    ensures own { IfOk result (λ told. slice_index told.1 member.now.number ≤ length member.now.log) }
     ensures width { IfOk result (λ told. length told.1 ≡ length member.now.known) }
     ensures refused { IfErr result (λ refusal. (refusal ≡ HearRefusal.NoMemory)
         ⊎ (told_sync (length member.now.log) number (group_verdict g.now octets.now) ≡ Err refusal)) }
@@ -47,7 +47,7 @@ pub(crate) fn told_by(
     Ok((signer, vector))
 }
 
-// The member hears a vector that it takes, if the signer sent it: its mode afterwards. Else it is foreign.
+// The member hears a vector, if the signer sent it: its mode afterwards. Else it is foreign.
 pub(crate) fn hear_sent(
     alloc: Global,
     sent: &Sent,
@@ -57,7 +57,7 @@ pub(crate) fn hear_sent(
     now: u64,
     draw: u32,
 ) -> Result<Mode, StepFault>
-    requires fits { vector_verdict member.old vector.now ≡ Ok vector.now }
+    requires own { slice_index vector.now member.old.number ≤ length member.old.log }
     requires width { length vector.now ≡ length member.old.known }
     requires members { length vector.now ≤ node_limit }
     requires early { now < 2 ^ 62 }
@@ -73,8 +73,5 @@ pub(crate) fn hear_sent(
     if !sent.has(signer, numbers.as_slice()) {
         return Err(StepFault::Foreign);
     }
-    match member.hear_vector(vector, now, draw) {
-        Ok(mode) => Ok(mode),
-        Err(_) => unreachable!(),
-    }
+    Ok(member.hear_vector(vector, now, draw))
 }

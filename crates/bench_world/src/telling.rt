@@ -71,8 +71,6 @@ pub(crate) fn learn_all(known: &Vector, members: &mut Vec<Member>)
     for member in members.iter_mut() {
         member.end_claims();
         // What all know tells of no publication of a member that it didn't make.
-        let Ok(_) = member.join_vector(known) else {
-            unreachable!()
-        };
+        member.join_vector(known);
     }
 }

@@ -31,9 +31,7 @@ impl World {
         let member = &mut self.members[m as usize];
         let draw = draws.draw(m, member.next_draw());
         // A member sent it, so it tells of no publication that there isn't.
-        let Ok(mode) = member.hear_vector(&told, self.moment, draw) else {
-            unreachable!()
-        };
+        let mode = member.hear_vector(&told, self.moment, draw);
         self.delivered += 1;
         self.steps += 1;
         Ok(delivered(u64::from(k), m, mode))

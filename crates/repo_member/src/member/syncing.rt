@@ -5,7 +5,7 @@ ghost use Rattle.svs_sync.specs.Suppression.{mode_of};
 ghost use Rattle.svs_sync.specs.KeptVector.{fires_kept};
 ghost use Rattle.repo_member.specs.Groups.{node_limit};
 ghost use Rattle.repo_member.specs.Alone.{IsOfGroup, alone_learns, alone_hears, alone_fires};
-ghost use Rattle.repo_member.specs.Verdicts.{sync_of, vector_verdict, hear_verdict};
+ghost use Rattle.repo_member.specs.Verdicts.{sync_of, hear_verdict};
 ghost use Rattle.repo_member.specs.Fires.{TellsFire};
 
 use super::Member;
@@ -51,23 +51,23 @@ impl Member {
         ensures err { OnErr result (self.new ≡ self.old) }
     {
         let told = self.told(g, octets)?;
-        Ok(self.hears(&told, now, draw))
+        Ok(self.hear_vector(&told, now, draw))
     }
 
-    /// The member hears the vector of a sync Interest that the caller has checked, as `hear` does. It takes no memory.
-    pub fn hear_vector(&mut self, told: &Vector, now: u64, draw: u32) -> Result<Mode, HearRefusal>
+    /// The member hears a vector that tells of no more publications of it than it made, as `hear` does. It takes no
+    /// memory.
+    pub fn hear_vector(&mut self, told: &Vector, now: u64, draw: u32) -> Mode
         requires width { length told.now ≡ length self.old.known }
         requires members { length told.now ≤ node_limit }
+        requires own { slice_index told.now self.old.number ≤ length self.old.log }
         requires early { now < 2 ^ 62 }
         requires few { self.old.machine.draws < 2 ^ 62 }
-        ensures ok { OnOk result (IsOkAnd (vector_verdict self.old told.now)
-            (λ told. self.new ≡ alone_hears told now draw self.old)) }
-        ensures mode { IfOk result (λ mode. mode ≡ mode_of self.new.machine.heard) }
-        ensures refused { IfErr result (λ refusal. vector_verdict self.old told.now ≡ Err refusal) }
-        ensures err { OnErr result (self.new ≡ self.old) }
+        ensures new { self.new ≡ alone_hears told.now now draw self.old }
+        ensures mode { result ≡ mode_of self.new.machine.heard }
     {
-        self.not_ahead(told.get(self.number))?;
-        Ok(self.hears(told, now, draw))
+        let mode = self.machine.heard(now, told, &self.vector, draw);
+        learn(&mut self.vector, &mut self.held, told);
+        mode
     }
 
     /// The member learns what a sync Interest tells, as `hear` does, and its machine isn't told of it.
@@ -85,22 +85,19 @@ impl Member {
         ensures err { OnErr result (self.new ≡ self.old) }
     {
         let told = self.told(g, octets)?;
-        Ok(self.learns(&told))
+        Ok(self.join_vector(&told))
     }
 
-    /// The member learns the vector of a sync Interest that the caller has checked, as `join_from` does. It takes no
-    /// memory.
-    pub fn join_vector(&mut self, told: &Vector) -> Result<bool, HearRefusal>
+    /// The member learns a vector that tells of no more publications of it than it made, as `join_from` does. It takes
+    /// no memory.
+    pub fn join_vector(&mut self, told: &Vector) -> bool
         requires width { length told.now ≡ length self.old.known }
         requires members { length told.now ≤ node_limit }
-        ensures ok { OnOk result (IsOkAnd (vector_verdict self.old told.now)
-            (λ told. self.new ≡ alone_learns told self.old)) }
-        ensures changed { IfOk result (λ changed. IsFalse changed ↔ (self.new.known ≡ self.old.known)) }
-        ensures refused { IfErr result (λ refusal. vector_verdict self.old told.now ≡ Err refusal) }
-        ensures err { OnErr result (self.new ≡ self.old) }
+        requires own { slice_index told.now self.old.number ≤ length self.old.log }
+        ensures new { self.new ≡ alone_learns told.now self.old }
+        ensures changed { IsFalse result ↔ (self.new.known ≡ self.old.known) }
     {
-        self.not_ahead(told.get(self.number))?;
-        Ok(self.learns(told))
+        learn(&mut self.vector, &mut self.held, told)
     }
 
     /// The member's timer fires.
@@ -165,32 +162,6 @@ impl Member {
             });
         }
         Ok(())
-    }
-
-    // What is told is heard: it is known from now on, and the machine is told of it.
-    fn hears(&mut self, told: &Vector, now: u64, draw: u32) -> Mode
-        requires width { length told.now ≡ length self.old.known }
-        requires members { length told.now ≤ node_limit }
-        requires own { slice_index told.now self.old.number ≤ length self.old.log }
-        requires early { now < 2 ^ 62 }
-        requires few { self.old.machine.draws < 2 ^ 62 }
-        ensures new { self.new ≡ alone_hears told.now now draw self.old }
-        ensures mode { result ≡ mode_of self.new.machine.heard }
-    {
-        let mode = self.machine.heard(now, told, &self.vector, draw);
-        learn(&mut self.vector, &mut self.held, told);
-        mode
-    }
-
-    // What is told is known from now on. The answer is whether more is known than before.
-    fn learns(&mut self, told: &Vector) -> bool
-        requires width { length told.now ≡ length self.old.known }
-        requires members { length told.now ≤ node_limit }
-        requires own { slice_index told.now self.old.number ≤ length self.old.log }
-        ensures new { self.new ≡ alone_learns told.now self.old }
-        ensures changed { IsFalse result ↔ (self.new.known ≡ self.old.known) }
-    {
-        learn(&mut self.vector, &mut self.held, told)
     }
 }
 

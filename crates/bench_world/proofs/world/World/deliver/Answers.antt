@@ -1,20 +1,21 @@
-use Rattle.std.proofs.Common.{◌≡◌, ◌<◌, length, None, sym, ap, ◌∙◌, subst, ◌+◌}
+use Rattle.std.proofs.Common.{◌≡◌, ◌<◌, length, List, None, sym, ap, ◌∙◌, subst, ◌+◌}
 use Rattle.bench_net.specs.SentList.{SentPacket}
 use Rattle.group_model.specs.Member.{Member}
 use Rattle.group_model.specs.World.{World, sent_at, member}
 use Rattle.group_model.specs.Refusals.{unless_sent}
 use Rattle.group_model.specs.Steps.{after_deliver, mode_at}
 use Rattle.svs_sync.specs.Suppression.{mode_of}
+use Rattle.repo_member.specs.Alone.{alone_hears}
 use Rattle.bench_world.specs.EventValues.{delivered_told}
 use Rattle.bench_world.specs.Worlds.{GroupState, world_of, drawing}
 use Rattle.bench_world.specs.Kept.{world_state}
 use Rattle.bench_world.proofs.States.{few_draws, member_set}
-use Rattle.bench_world.proofs.Deliveries.{there, not_refused, few_numbers, fits, not_refused_by, heard_is, heard_state}
+use Rattle.bench_world.proofs.Deliveries.{there, not_refused, few_numbers, fits, no_more, heard_state}
 use Rattle.bench_world.proofs.Deliveries.{heard_world}
 use Rattle.bench_world.proofs.world.World.deliver.Goals as goal
 
-pub hear_vector-requires-clause-few : goal.hear_vector-requires-clause-few
-hear_vector-requires-clause-few g c =
+pub hear_vector-mode-requires-clause-few : goal.hear_vector-mode-requires-clause-few
+hear_vector-mode-requires-clause-few g c =
     let s = world_state c.self.inside in
     let inside = subst (λ (x : GroupState). c.args.m < length x.members) (sym c.self.view_is) c.requires.there in
     few_draws s c.self.invariant c.args.m inside c.index_mut-member.result.now c.index_mut-member.ensures.value
@@ -26,10 +27,9 @@ invariant_of-self g c =
     let at = there (λ (p : SentPacket). p.vector) s.sent c.args.k c.in-Some.numbers.now c.in-Some.ensures in
     let old = c.index_mut-member.result.now in
     let e =
-    heard_is s c.self.invariant c.args.k at.first at.last c.args.m inside old c.hear_vector.new.self
-    c.index_mut-member.ensures.value c.in_ok-told.told s.moment c.draw-draw.result (c.in_ok-told.ensures ∙ at.same)
-    c.in-Ok.ensures.ok in
-    heard_state s c.self.invariant c.args.k at.first at.last c.args.m inside old c.hear_vector.new.self
+    c.hear_vector-mode.ensures.new
+    ∙ ap (λ (v : List ℕ). alone_hears v s.moment c.draw-draw.result old) (c.in_ok-told.ensures ∙ at.same) in
+    heard_state s c.self.invariant c.args.k at.first at.last c.args.m inside old c.hear_vector-mode.new.self
     c.index_mut-member.ensures.value (g.D.Draws.draw c.args.draws.now) c.draw-draw.result e
     (c.draw-draw.ensures ∙ ap (g.D.Draws.draw c.args.draws.now c.args.m) c.next_draw.ensures)
     (subst (λ (x : GroupState). x.steps < 100000) (sym c.self.view_is) c.requires.few)
@@ -41,11 +41,10 @@ returns g c =
     let inside = subst (λ (x : GroupState). c.args.m < length x.members) (sym c.self.view_is) c.requires.there in
     let old = c.index_mut-member.result.now in
     let e =
-    heard_is s c.self.invariant c.args.k at.first at.last c.args.m inside old c.hear_vector.new.self
-    c.index_mut-member.ensures.value c.in_ok-told.told s.moment c.draw-draw.result (c.in_ok-told.ensures ∙ at.same)
-    c.in-Ok.ensures.ok in
+    c.hear_vector-mode.ensures.new
+    ∙ ap (λ (v : List ℕ). alone_hears v s.moment c.draw-draw.result old) (c.in_ok-told.ensures ∙ at.same) in
     let after =
-    heard_world s c.self.invariant c.args.k at.first at.last c.args.m inside old c.hear_vector.new.self
+    heard_world s c.self.invariant c.args.k at.first at.last c.args.m inside old c.hear_vector-mode.new.self
     c.index_mut-member.ensures.value (g.D.Draws.draw c.args.draws.now) c.draw-draw.result e
     (c.draw-draw.ensures ∙ ap (g.D.Draws.draw c.args.draws.now c.args.m) c.next_draw.ensures) in
     record {
@@ -57,11 +56,11 @@ returns g c =
           c.args.m
           (sent_at (world_of x) c.args.k).vector) c.self.view_is;
       told =
-          c.delivered.ensures ∙ ap (λ n. delivered_told n c.args.m c.in-Ok.mode) c.from.ensures
+          c.delivered.ensures ∙ ap (λ n. delivered_told n c.args.m c.hear_vector-mode.result) c.from.ensures
           ∙ ap (delivered_told c.args.k c.args.m)
-          (c.in-Ok.ensures.mode
+          (c.hear_vector-mode.ensures.mode
           ∙ ap (λ (x : Member). mode_of x.machine.heard)
-          (sym (member_set s.members c.args.m c.hear_vector.new.self inside))
+          (sym (member_set s.members c.args.m c.hear_vector-mode.new.self inside))
           ∙ ap (λ (w : World). mode_of (member w c.args.m).machine.heard) after)
           ∙ ap (λ (x : GroupState). delivered_told c.args.k c.args.m
           (mode_at (after_deliver (drawing (g.D.Draws.draw c.args.draws.now)) (world_of x) c.args.m
@@ -80,8 +79,8 @@ vector_of-requires g c =
     let at = there (λ (p : SentPacket). p.vector) s.sent c.args.k c.in-Some.numbers.now c.in-Some.ensures in
     few_numbers s c.self.invariant c.args.k at.first at.last c.in-Some.numbers.now at.same
 
-pub hear_vector-requires-clause-width : goal.hear_vector-requires-clause-width
-hear_vector-requires-clause-width g c =
+pub hear_vector-mode-requires-clause-width : goal.hear_vector-mode-requires-clause-width
+hear_vector-mode-requires-clause-width g c =
     let s = world_state c.self.inside in
     let inside = subst (λ (x : GroupState). c.args.m < length x.members) (sym c.self.view_is) c.requires.there in
     let at = there (λ (p : SentPacket). p.vector) s.sent c.args.k c.in-Some.numbers.now c.in-Some.ensures in
@@ -89,18 +88,17 @@ hear_vector-requires-clause-width g c =
     ap length (c.in_ok-told.ensures ∙ at.same)
     ∙ fits s c.self.invariant c.args.k at.first at.last c.args.m inside old old c.index_mut-member.ensures.value
 
-pub hear_vector-requires-clause-members : goal.hear_vector-requires-clause-members
-hear_vector-requires-clause-members g c =
+pub hear_vector-mode-requires-clause-members : goal.hear_vector-mode-requires-clause-members
+hear_vector-mode-requires-clause-members g c =
     let s = world_state c.self.inside in
     let at = there (λ (p : SentPacket). p.vector) s.sent c.args.k c.in-Some.numbers.now c.in-Some.ensures in
     few_numbers s c.self.invariant c.args.k at.first at.last c.in_ok-told.told (c.in_ok-told.ensures ∙ at.same)
 
-pub unreachable-requires : goal.unreachable-requires
-unreachable-requires g c =
+pub hear_vector-mode-requires-clause-own : goal.hear_vector-mode-requires-clause-own
+hear_vector-mode-requires-clause-own g c =
     let s = world_state c.self.inside in
     let inside = subst (λ (x : GroupState). c.args.m < length x.members) (sym c.self.view_is) c.requires.there in
     let at = there (λ (p : SentPacket). p.vector) s.sent c.args.k c.in-Some.numbers.now c.in-Some.ensures in
     let old = c.index_mut-member.result.now in
-    not_refused_by s c.self.invariant c.args.k at.first at.last c.args.m inside old old
-    c.index_mut-member.ensures.value c.in_ok-told.told (c.in_ok-told.ensures ∙ at.same)
-    c.in_default-hear_vector.field-0 c.in_default-hear_vector.ensures.refused
+    no_more s c.self.invariant c.args.k at.first at.last c.args.m inside old old c.index_mut-member.ensures.value
+    c.in_ok-told.told (c.in_ok-told.ensures ∙ at.same)

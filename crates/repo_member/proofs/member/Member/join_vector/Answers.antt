@@ -2,7 +2,7 @@ use Rattle.std.proofs.Common.{◌≤◌, length, refl, sym, ap, ◌∙◌, subst
 use Rattle.std.specs.Prelude.{slice_index}
 use Rattle.repo_member.specs.Alone.{Alone}
 use Rattle.repo_member.proofs.MemberLemmas.{learns_is}
-use Rattle.repo_member.proofs.member.Member.learns.Goals as goal
+use Rattle.repo_member.proofs.member.Member.join_vector.Goals as goal
 
 pub invariant_of-self : goal.invariant_of-self
 invariant_of-self c =
