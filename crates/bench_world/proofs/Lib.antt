@@ -37,7 +37,6 @@ mod Resets
 mod RefusedMembers
 pub mod Names
 pub mod EventRuns
-mod ClientKeys
 mod Orders
 mod IssuedLemmas
 mod Stepping

@@ -136,6 +136,13 @@ impl Group {
         self.members.ring()
     }
 
+    /// The clients' names.
+    pub fn client_names(&self) -> &Roster
+        ensures names { result.now ≡ self.now.clients.names }
+    {
+        self.clients.names()
+    }
+
     /// The clients' keys: that of client `number` has that number.
     pub fn clients(&self) -> &KeyRing
         ensures { result.now ≡ self.now.clients.ring }

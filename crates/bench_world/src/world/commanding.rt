@@ -1,11 +1,10 @@
 // Commands.
 ghost use Rattle.std.specs.Prelude.{◌≡◌, ◌⊎◌, ◌+◌, ◌<◌, ◌≤◌, true, false, IsTrue, length, IfOk, IfErr, OnOk};
 ghost use Rattle.std.specs.Prelude.{OnErr};
-ghost use Rattle.repo_object.specs.Objects.{key_name, is_object_name};
+ghost use Rattle.repo_object.specs.Objects.{is_object_name};
 ghost use Rattle.repo_command.specs.Commands.{is_command, CommandIsSpelled};
 ghost use Rattle.group_model.specs.Limits.{IsShortInsertion};
 ghost use Rattle.group_model.specs.Steps.{after_issue, command_answer};
-ghost use Rattle.repo_member.specs.Groups.{client_at};
 ghost use Rattle.repo_member.specs.Commanded.{coded, order_of, order_made};
 ghost use Rattle.bench_world.specs.Serving.{keyed};
 ghost use Rattle.bench_world.specs.Worlds.{world_of};
@@ -16,9 +15,10 @@ ghost use Rattle.bench_world.specs.Runs.{IsStep};
 use super::World;
 use crate::event::{Happened, StepFault};
 use crate::issued::{IssuedCommand, IssuedCommands};
-use ndn_name::{Name, NameView};
+use ndn_name::Name;
 use repo_command::{Answer, Command, CommandRefusal, check_command, make_command};
 use repo_member::Group;
+use repo_object::key_name;
 use std::alloc::{AllocError, Global};
 
 impl World {
@@ -154,19 +154,6 @@ impl World {
     }
 }
 
-// The name of a client's key.
-fn client_key_name(alloc: Global, g: &Group, client: u32) -> Result<Name, AllocError>
-    requires { client < length g.now.clients.names }
-    ensures { IfOk result (λ name. name ≡ key_name (client_at g.now client)) }
-{
-    g.is_sound();
-    // The octets are those of a name, which is short, so only memory can be wanting.
-    let Ok(view) = NameView::read(g.clients().name(client), 0) else {
-        unreachable!()
-    };
-    Name::from_short(alloc, &view)
-}
-
 // The Interest of a client's command for a member.
 fn made(
     alloc: Global,
@@ -181,7 +168,7 @@ fn made(
     ensures { IfOk result (λ octets. octets.items ≡ order_made g.now m client command.now) }
 {
     g.is_sound();
-    let key_name = client_key_name(alloc, g, client)?;
+    let key_name = key_name(g.client_names().name(client))?;
     let octets = make_command(
         alloc,
         g.roster().name(m),
