@@ -1,5 +1,6 @@
 // Sync Interests that come from outside.
-ghost use Rattle.std.specs.Prelude.{◌≡◌, ◌⊎◌, ◌<◌, ◌≤◌, ◌^◌, true, false, Ok, Err, IfOk, IfErr, OnOk, OnErr, length, slice_index};
+ghost use Rattle.std.specs.Prelude.{◌≡◌, ◌⊎◌, ◌<◌, ◌≤◌, ◌^◌, true, false, Ok, Err, IfOk, IfErr, OnOk, OnErr};
+ghost use Rattle.std.specs.Prelude.{length, slice_index};
 ghost use Rattle.bench_net.specs.SentList.{was_sent};
 ghost use Rattle.svs_sync.specs.Suppression.{mode_of};
 ghost use Rattle.repo_member.specs.Groups.{node_limit};

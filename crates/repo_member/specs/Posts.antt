@@ -1,5 +1,6 @@
 -- A member's publications as it keeps them, so that what is withdrawn is found at once.
-use Rattle.std.specs.Prelude.{◌≡◌, ◌<◌, ℕ, ◌+◌, ◌-◌, true, false, List, [], map, Some, slice_get, slice_set, slice_index_or}
+use Rattle.std.specs.Prelude.{◌≡◌, ◌<◌, ℕ, ◌+◌, ◌-◌, true, false, List, [], map, Some}
+use Rattle.std.specs.Prelude.{slice_get, slice_set, slice_index_or}
 use Rattle.std.specs.List.{list_any}
 use Rattle.repo_object.specs.Objects.{Post as Published, withdraws_number}
 use Rattle.repo_object.specs.Objects.Post.{Offers, Withdraws}
