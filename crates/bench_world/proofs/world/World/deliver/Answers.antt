@@ -1,4 +1,4 @@
-use Rattle.std.proofs.Common.{◌≡◌, ◌<◌, length, List, None, sym, ap, ◌∙◌, subst, ◌+◌}
+use Rattle.std.proofs.Common.{◌≡◌, ◌<◌, ℕ, length, List, None, sym, ap, ◌∙◌, subst, ◌+◌}
 use Rattle.bench_net.specs.SentList.{SentPacket}
 use Rattle.group_model.specs.Member.{Member}
 use Rattle.group_model.specs.World.{World, sent_at, member}
