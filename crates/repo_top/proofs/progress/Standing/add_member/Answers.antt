@@ -1,4 +1,4 @@
-use Rattle.std.proofs.Common.{◌∙◌, ap, length, map, sym}
+use Rattle.std.proofs.Common.{rules, ◌≡◌, ◌∙◌, ap, length, map, sym}
 use Rattle.repo_member.specs.Groups.{GroupKeys}
 use Rattle.repo_top.specs.declared.progress.Standing.{Standing}
 use Rattle.script_story.specs.Mirrors.{mirror_begins}
@@ -7,10 +7,14 @@ use Rattle.repo_top.specs.Progressing.{mirrors_in, standing_keys}
 use Rattle.repo_top.proofs.MirrorWorlds.{begin_again}
 use Rattle.repo_top.proofs.progress.Standing.add_member.Goals as goal
 
-pub returns-in-Ok-clause-mirrors : goal.returns-in-Ok-clause-mirrors
-returns-in-Ok-clause-mirrors c =
+added : (c : goal.In_ok-map_err)
+    → c.add_member.new.self ≡ with_member_too c.args.node.now c.args.key.now c.in-Declaring.group
+added c = search rules
+
+pub returns-clause-mirrors : goal.returns-clause-mirrors
+returns-clause-mirrors c =
     let keys : GroupKeys = with_member_too c.args.node.now c.args.key.now c.in-Declaring.group in
-    ap (λ (k : GroupKeys). map (mirror_begins (length k.members.names)) c.in-Declaring.field-1.items) c.in-Ok.ensures.ok
+    ap (λ (k : GroupKeys). map (mirror_begins (length k.members.names)) c.in-Declaring.field-1.items) (added c)
     ∙ begin_again (length c.in-Declaring.group.members.names) (length keys.members.names) c.in-Declaring.field-1.items
     ∙ ap (λ (s : Standing). mirrors_begin (with_member_too c.args.node.now c.args.key.now (standing_keys s))
     (mirrors_in s)) (sym c.in-Declaring.is)
