@@ -5,10 +5,14 @@ use Rattle.std.proofs.lemmas.Bool.{true≢false, and_parts, or_left, or_right, o
 use Rattle.std.proofs.lemmas.Bool.{le-leb}
 use Rattle.std.specs.Prelude.{nat_le, is_some, IfSome, ◌==◌}
 use Rattle.std.specs.List.{filter, list_all}
-use Rattle.std.specs.Ordering.{nat_cmp, eq_by_cmp}
+use Rattle.std.specs.Ordering.{nat_cmp, eq_by_cmp, is_eq}
+use Rattle.std.specs.declared.cmp.Ordering.{Ordering}
+use Rattle.std.specs.declared.cmp.Ordering.TheVariants.{Less, Equal, Greater}
 use Rattle.repo_plan.specs.declared.part.Part.{Part}
 use Rattle.repo_plan.specs.declared.plan.Plan.TheInside.{Inside}
-use Rattle.sorted_lists.specs.SortedList.{keys, Rises, contains, insert_key, value_of, in_order}
+use Rattle.sorted_lists.specs.SortedList.{keys, IsBefore, Rises, contains, insert_key, value_of, in_order, by_order}
+use Rattle.sorted_lists.specs.SortedList.{without_key}
+use Rattle.sorted_lists.proofs.MapChanges.{none_value, without_absent}
 use Rattle.sorted_lists.specs.Range.{numbers_from}
 use Rattle.repo_plan.specs.Parts.{Pair, Shape, pair_cmp, part_cmp, part_of, pair_of, parts_of}
 use Rattle.repo_plan.specs.Parts.{IsShape, parts_behind, parts_told}
@@ -17,7 +21,7 @@ use Rattle.repo_plan.specs.Sound.{PlanIsSound, CanBeHeld}
 use Rattle.sorted_lists.specs.Runs.{Run, RunsState, Number, IsRuns, has, has_number, number_cmp}
 use Rattle.repo_plan.specs.PlanFields.{holdings, is_noted, are_noted, held_parts, hidden_pairs, IsRoomy, IsPlan}
 use Rattle.repo_plan.proofs.Orders.{exact_pairs, exact_parts}
-use Rattle.sorted_lists.proofs.Sets.{In, eq_same, eq_itself, rises_insert, rises_filter, rises_keys_filter}
+use Rattle.sorted_lists.proofs.Sets.{In, before_more, eq_same, eq_itself, rises_insert, rises_filter, rises_keys_filter}
 use Rattle.sorted_lists.proofs.Sets.{contains-insert_key, contains-filter, value_of-filter}
 use Rattle.sorted_lists.proofs.SameSets.{same_sets}
 use Rattle.repo_plan.proofs.Known.{from_numbers, counted}
@@ -28,11 +32,32 @@ use Rattle.repo_plan.proofs.Held.{number_of, same_part, tells, held_has, held_ri
 
 -- the lists of the records that are held
 abbrev pub shapes_of : Inside → List (Pair × Shape)
-shapes_of p = in_order pair_cmp p.shapes.entries
+shapes_of p = p.shapes.entries
 
 and_true : (a b : Bool) → b ≡ true → (a && b) ≡ a
 and_true true b h = h
 and_true false b h = refl
+
+-- the shapes without a publication's
+pub without_filter : (pair : Pair) (es : List (Pair × Shape)) → Rises pair_cmp (keys es)
+    → without_key pair_cmp pair es ≡ filter (λ e. not (eq_by_cmp pair_cmp pair e.0)) es
+without_filter pair [] r = refl
+without_filter pair (e ∷ es) r = go (pair_cmp pair e.0) refl (without_filter pair es r.1) where
+  test : Pair × Shape → Bool
+  test y = not (eq_by_cmp pair_cmp pair y.0)
+
+  absent : IsBefore pair_cmp pair (keys es) → without_key pair_cmp pair es ≡ es
+  absent b = without_absent exact_pairs.total pair es r.1 (none_value exact_pairs.total pair es b)
+
+  go : (o : Ordering) → pair_cmp pair e.0 ≡ o → without_key pair_cmp pair es ≡ filter test es
+      → by_order o (e ∷ es) es (e ∷ without_key pair_cmp pair es)
+      ≡ cond (not (is_eq o)) (e ∷ filter test es) (filter test es)
+  go Less c h =
+      ap (λ (ys : List (Pair × Shape)). e ∷ ys)
+      (sym (absent (before_more exact_pairs.total pair e.0 (keys es) c r.0)) ∙ h)
+  go Equal c h =
+      sym (absent (subst (λ (q : Pair). IsBefore pair_cmp q (keys es)) (sym (exact_pairs.same pair e.0 c)) r.0)) ∙ h
+  go Greater c h = ap (λ (ys : List (Pair × Shape)). e ∷ ys) h
 
 -- what a record tells that is held
 abbrev pub shape_or : Option Shape → Shape

@@ -5,6 +5,7 @@ ghost use Rattle.repo_plan.specs.Parts.{IsShape, pair_of};
 ghost use Rattle.repo_plan.specs.Sound.{PlanIsSound};
 
 mod claims;
+mod leaps;
 mod reserved;
 mod wanted;
 mod whole;
@@ -12,7 +13,8 @@ mod whole;
 use crate::part::Part;
 use crate::shape::Shape;
 pub use claims::{FetcherBusy, FetcherIdle};
-use sorted_lists::{Runs, table};
+pub use leaps::HasParts;
+use sorted_lists::{Runs, SortedMap, table};
 use std::alloc::{AllocError, Global};
 use std::collections::HashMap;
 use std::marker::Model;
@@ -31,7 +33,7 @@ pub struct Plan {
     // By publication, the numbers of the held parts of those that are not done.
     held: Runs<(u32, u16)>,
     // What each held record tells. A publication that is done and has no entry is hidden.
-    shapes: HashMap<(u32, u16), Shape>,
+    shapes: SortedMap<(u32, u16), Shape>,
     claims: [Option<Part>; 16],
     attempts: HashMap<Part, u32>,
     // There is room for so many more in each of the four.
@@ -74,7 +76,7 @@ impl Plan {
             known: vec![in alloc; 0; members]?,
             done: Runs::new(alloc),
             held: Runs::new(alloc),
-            shapes: HashMap::new(alloc),
+            shapes: SortedMap::new(alloc),
             claims: [None; 16],
             attempts: HashMap::new(alloc),
             spare: 0,
@@ -132,7 +134,7 @@ impl Plan {
         ensures shape { result ≡ shape_of self.now (publisher, seq) }
         ensures sized { IfSome result IsShape }
     {
-        table::value_of(&self.shapes, (publisher, seq))
+        self.shapes.get((publisher, seq))
     }
 
     /// Whether the record of a publication and every other part of it are held.

@@ -9,6 +9,7 @@ pub mod Entries
 pub mod RunOrder
 pub mod RunLists
 pub mod Numbers
+pub mod Onward
 pub mod RunNumbers
 pub mod SameSets
 pub mod Members

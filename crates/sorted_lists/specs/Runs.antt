@@ -1,5 +1,6 @@
 -- Sets of numbers, of several things each, as runs.
-use Rattle.std.specs.Prelude.{ℕ, ◌≡◌, ◌+◌, ◌-◌, map, Bool, true, ◌&&◌, Option, Some, None, if◌then◌else◌, List, [], ◌∷◌}
+use Rattle.std.specs.Prelude.{ℕ, ◌≡◌, ◌+◌, ◌-◌, ◌≤◌, ◌<◌, map, Bool, true, false, ◌&&◌, Option, Some, None}
+use Rattle.std.specs.Prelude.{if◌then◌else◌, List, [], ◌∷◌}
 use Rattle.std.specs.List.{list_any, flat_map}
 use Rattle.std.specs.Ordering.{nat_cmp, ordering_then, is_le, eq_by_cmp}
 use Rattle.std.specs.declared.cmp.Ordering.{Ordering}
@@ -78,3 +79,11 @@ pub record RunsState (P : Type 0) : Type 0 where
 -- whether a set has the number
 abbrev pub has_number : {P : Type 0} → (P → P → Ordering) → RunsState P → Number P → Bool
 has_number R s q = has (number_cmp R) s.runs q
+
+module _ {P : Type 0} (R : P → P → Ordering) where
+  -- the least number of a thing, from one on, that a set has; or nothing where it has none
+  abbrev pub IsNumberFrom : RunsState P → Number P → Option ℕ → Type 0
+  IsNumberFrom s q None = (n : ℕ) → q.1 ≤ n → has_number R s (q.0, n) ≡ false
+  IsNumberFrom s q (Some x) =
+      (q.1 ≤ x) × (has_number R s (q.0, x) ≡ true)
+      × ((n : ℕ) → q.1 ≤ n → n < x → has_number R s (q.0, n) ≡ false)

@@ -1,7 +1,9 @@
-ghost use Rattle.std.specs.Prelude.{ℕ, ◌≡◌, ◌+◌, ◌<◌, ◌≤◌, ◌||◌, ◌&&◌, [], true, false, not, length, OnOk};
+ghost use Rattle.std.specs.Prelude.{ℕ, ◌≡◌, ◌+◌, ◌<◌, ◌≤◌, ◌||◌, ◌&&◌, [], true, false, not, length, is_some};
+ghost use Rattle.std.specs.Prelude.{IfSome, OnOk};
 ghost use Rattle.std.specs.Ordering.{eq_by_cmp};
 ghost use Rattle.sorted_lists.specs.SortedList.{IsExact, without_key, last_up_to, first_from};
-ghost use Rattle.sorted_lists.specs.Runs.{IsRuns, Number, has, has_number, number_cmp, next, start_at, end_at};
+ghost use Rattle.sorted_lists.specs.Runs.{IsRuns, IsNumberFrom, Number, has, has_number, number_cmp, next, start_at};
+ghost use Rattle.sorted_lists.specs.Runs.{end_at};
 
 use crate::sorted_map::SortedMap;
 use std::alloc::{AllocError, Global};
@@ -66,6 +68,19 @@ impl<P: Ord + Copy> Runs<P> {
         }
     }
 
+    /// The least number of this thing, from this one on, that the set has. Two look-ups.
+    pub fn number_from(&self, number: (P, u16)) -> Option<u16>
+        ensures { IsNumberFrom P.cmp self.now number result }
+    {
+        if holds(&self.map, number) {
+            return Some(number.1);
+        }
+        match self.map.first_from(number) {
+            Some((first, _)) if first.0.cmp(&number.0).is_eq() => Some(first.1),
+            _ => None,
+        }
+    }
+
     /// Makes room for `n` more runs.
     pub fn reserve(&mut self, n: usize) -> Result<(), AllocError>
         ensures runs { self.new.runs ≡ self.old.runs }
@@ -83,10 +98,9 @@ impl<P: Ord + Copy> Runs<P> {
             ≡ (eq_by_cmp (number_cmp P.cmp) q number || has_number P.cmp self.old q) }
         ensures spare { self.old.spare ≤ self.new.spare + 1 }
     {
-        if holds(&self.map, number) {
+        let Some(first) = start_of(&self.map, number) else {
             return;
-        }
-        let first = start_of(&self.map, number);
+        };
         let last = take_end_of(&mut self.map, number);
         self.map.insert(first, last);
     }
@@ -119,14 +133,21 @@ fn holds<P: Ord + Copy>(runs: &SortedMap<(P, u16), (P, u16)>, number: (P, u16)) 
     }
 }
 
-// Where the run of the number begins once the set has it.
-fn start_of<P: Ord + Copy>(runs: &SortedMap<(P, u16), (P, u16)>, number: (P, u16)) -> (P, u16)
-    ensures { result
-        ≡ start_at (number_cmp P.cmp) next (last_up_to (number_cmp P.cmp) number runs.now.entries) number }
+// Where the run of the number begins once the set has it, unless it has it already.
+fn start_of<P: Ord + Copy>(
+    runs: &SortedMap<(P, u16), (P, u16)>,
+    number: (P, u16),
+) -> Option<(P, u16)>
+    requires exact { IsExact P.cmp }
+    requires set { IsRuns P.cmp runs.now.entries }
+    ensures lacks { is_some result ≡ not (has (number_cmp P.cmp) runs.now.entries number) }
+    ensures start { IfSome result (λ first. first
+        ≡ start_at (number_cmp P.cmp) next (last_up_to (number_cmp P.cmp) number runs.now.entries) number) }
 {
     match runs.last_up_to(number) {
-        Some((first, last)) if is_next(last, number) => first,
-        _ => number,
+        Some((_, last)) if number.cmp(&last).is_le() => None,
+        Some((first, last)) if is_next(last, number) => Some(first),
+        _ => Some(number),
     }
 }
 

@@ -22,7 +22,7 @@ impl Plan {
         if self.spare < n {
             self.done.reserve(n)?;
             self.held.reserve(n)?;
-            table::reserve(&mut self.shapes, n)?;
+            self.shapes.reserve(n)?;
             table::reserve(&mut self.attempts, n)?;
             self.spare = n;
         }
@@ -60,7 +60,7 @@ impl Plan {
         }
         let publication = (part.publisher, part.seq);
         note_shape(&mut self.shapes, publication, shape);
-        let told = told_by(table::value_of(&self.shapes, publication));
+        let told = told_by(self.shapes.get(publication));
         note_held(
             &mut self.done,
             &mut self.held,
@@ -79,7 +79,7 @@ impl Plan {
         let publication = (publisher, seq);
         self.spare -= 1;
         self.held.remove_all(publication);
-        table::remove(&mut self.shapes, publication);
+        self.shapes.remove(publication);
         self.done.insert(publication);
     }
 

@@ -142,7 +142,7 @@ impl Plan {
     }
 
     // Whether the part that lists this one is held, of a publication whose record is.
-    fn is_listed(&self, part: Part, shape: Shape) -> bool
+    pub(super) fn is_listed(&self, part: Part, shape: Shape) -> bool
         requires record { holds self.now (record_of part) ≡ true }
         ensures { result ≡ holds self.now (parent shape part) }
     {
@@ -207,7 +207,7 @@ fn is_behind(part: Part, after: Option<Part>) -> bool
 }
 
 // Whether a fetcher claims the part.
-fn is_claimed(claims: &[Option<Part>], part: Part) -> bool
+pub(super) fn is_claimed(claims: &[Option<Part>], part: Part) -> bool
     ensures { result ≡ list_any (is_claim_of part) claims.now }
 {
     for claim in claims {

@@ -1,29 +1,25 @@
 ghost use Rattle.std.specs.Prelude.{◌≡◌, ◌≤◌, ◌<◌, ◌+◌, ◌||◌, ◌&&◌, true};
 ghost use Rattle.std.specs.Ordering.{nat_cmp, eq_by_cmp};
-ghost use Rattle.std.specs.HashMap.{spare};
-ghost use Rattle.sorted_lists.specs.SortedList.{in_order};
 ghost use Rattle.repo_plan.specs.Plan.{with_shape};
 ghost use Rattle.repo_plan.specs.Parts.{Pair, pair_cmp};
 ghost use Rattle.sorted_lists.specs.Runs.{Number, IsRuns, has_number, number_cmp};
 ghost use Rattle.repo_plan.specs.PlanFields.{is_noted, are_noted};
 
 use crate::shape::Shape;
-use sorted_lists::{Runs, table};
-use std::collections::HashMap;
+use sorted_lists::{Runs, SortedMap};
 
 // Notes what a record tells, if the part that is held now is one.
 pub(super) fn note_shape(
-    shapes: &mut HashMap<(u32, u16), Shape>,
+    shapes: &mut SortedMap<(u32, u16), Shape>,
     publication: (u32, u16),
     shape: Option<Shape>,
 )
-    requires { 0 < spare shapes.old }
-    ensures entries { in_order pair_cmp shapes.new.entries
-        ≡ with_shape publication shape (in_order pair_cmp shapes.old.entries) }
-    ensures room { spare shapes.old ≤ spare shapes.new + 1 }
+    requires { 0 < shapes.old.spare }
+    ensures entries { shapes.new.entries ≡ with_shape publication shape shapes.old.entries }
+    ensures room { shapes.old.spare ≤ shapes.new.spare + 1 }
 {
     if let Some(shape) = shape {
-        table::set_value(shapes, publication, shape);
+        shapes.insert(publication, shape);
     }
 }
 
