@@ -1,21 +1,24 @@
 -- What an index has after its entries change.
-use Rattle.std.proofs.Common.{◌≡◌, ℕ, ◌==◌, Bool, true, false, cond, not, ◌&&◌, ◌||◌, List, [], ◌∷◌, ◌++◌, Option}
+use Rattle.std.proofs.Common.{◌≡◌, ◌⊎◌, inl, inr, ℕ, ◌==◌, Bool, true, false, cond, not, ◌&&◌, ◌||◌, List, [], ◌∷◌}
+use Rattle.std.proofs.Common.{◌++◌, Option}
 use Rattle.std.proofs.Common.{Some, None, refl, sym, ap, ◌∙◌, arith}
 use Rattle.std.specs.Prelude.{is_some}
 use Rattle.std.specs.Ordering.{eq_by_cmp, is_eq, nat_cmp, ordering_then}
 use Rattle.std.specs.declared.cmp.Ordering.{Ordering}
 use Rattle.std.specs.declared.cmp.Ordering.TheVariants.{Less, Equal, Greater}
+use Rattle.std.proofs.lemmas.Bool.{true≢false, and_parts, and_from, or_cases, or_left, or_right}
 use Rattle.std.proofs.lemmas.Bool.Decides.{nat_tests}
 use Rattle.repo_plan.specs.Parts.{Pair, pair_cmp}
 use Rattle.repo_plan.proofs.Orders.{exact_pairs}
 use Rattle.sorted_lists.specs.SortedList.{contains}
-use Rattle.sorted_lists.proofs.Sets.{eq_same}
+use Rattle.sorted_lists.proofs.Sets.{In, eq_same, eq_itself, in_append, append_left, append_right}
 use Rattle.repo_catalog.specs.declared.entry.Entry.{Entry}
 use Rattle.repo_catalog.specs.Entries.{publication_of, is_of, entry_of, lists, with_entry, without, without_all}
 use Rattle.repo_catalog.specs.Entries.{IsCatalogue}
-use Rattle.repo_catalog.specs.NameKeys.{Key, key_cmp, key_of, hash_of, has_hash, is_key}
+use Rattle.repo_catalog.specs.NameKeys.{Key, key_cmp, key_of, hash_of, has_hash, is_key, IsIndexOf}
+use Rattle.repo_catalog.proofs.KeyLemmas.{exact_keys}
 use Rattle.repo_catalog.proofs.LawLemmas.{adds_one, removes_one}
-use Rattle.repo_catalog.proofs.ManyLemmas.{removes_all, one_more_gone}
+use Rattle.repo_catalog.proofs.ManyLemmas.{removes_all, one_more_gone, entry_is_of}
 
 -- ---- keys are the same where hashes and publications are
 
@@ -121,3 +124,108 @@ is_key-missing gone p es q none =
     ∙ sym (ap (has_hash q.0)
     (removes_all (gone ++ p ∷ []) es q.1
     ∙ ap (λ (c : Bool). cond c None (entry_of q.1 es)) (one_more_gone gone p q.1)))
+
+-- ---- what has its key, and what waits
+
+pub same_number : (n : ℕ) → (n == n) ≡ true
+same_number n = grind (arith, nat_tests)
+
+-- the key of an entry, by its hash and its publication
+pub key_is : (es : List Entry) (q : Key) (e : Entry) → entry_of q.1 es ≡ Some e → has_hash q.0 (Some e) ≡ true
+    → eq_by_cmp key_cmp q (key_of e) ≡ true
+key_is es q e there hash =
+    eq_key q (key_of e)
+    ∙ and_from (q.0 == hash_of e.name) (eq_by_cmp pair_cmp q.1 (publication_of e)) hash
+    (ap (λ (p : Pair). eq_by_cmp pair_cmp p (publication_of e)) (entry_is_of q.1 es e there)
+    ∙ eq_itself exact_pairs (publication_of e))
+
+-- one that is added waits
+pub index_added : (e : Entry) (es : List Entry) (ks : List Key) (ws : List Pair) → IsCatalogue es
+    → lists (publication_of e) es ≡ false → IsIndexOf es ks ws
+    → IsIndexOf (with_entry e es) ks (ws ++ publication_of e ∷ [])
+index_added e es ks ws r missing i =
+    let with : (q : Key) → (eq_by_cmp key_cmp q (key_of e) || is_key es q) ≡ is_key (with_entry e es) q =
+    λ q. is_key-with e es q r missing in
+    record {
+      listed = λ q h. sym (with q) ∙ or_right (eq_by_cmp key_cmp q (key_of e)) (is_key es q) (i.listed q h);
+      found = λ q h. elim (or_cases (eq_by_cmp key_cmp q (key_of e)) (is_key es q) (with q ∙ h)) [
+        | inl new ↦
+            inr (append_right ws (publication_of e ∷ []) q.1
+            (inl (ap (λ (k : Key). k.1) (eq_same exact_keys q (key_of e) new))))
+        | inr old ↦ elim (i.found q old) [
+          | inl k ↦ inl k
+          | inr w ↦ inr (append_left ws (publication_of e ∷ []) q.1 w)
+        ]
+      ];
+    }
+
+-- some are removed, and their keys
+pub index_less : (es rest : List Entry) (ks ls : List Key) (ws : List Pair) (stays : Key → Bool)
+    → ((q : Key) → (stays q && is_key es q) ≡ is_key rest q)
+    → ((q : Key) → contains key_cmp ls q ≡ (stays q && contains key_cmp ks q)) → IsIndexOf es ks ws
+    → IsIndexOf rest ls ws
+index_less es rest ks ls ws stays less gone i = record {
+  listed = λ q h.
+      let both = and_parts (stays q) (contains key_cmp ks q) (sym (gone q) ∙ h) in
+      sym (less q) ∙ and_from (stays q) (is_key es q) both.0 (i.listed q both.1);
+  found = λ q h.
+      let both = and_parts (stays q) (is_key es q) (less q ∙ h) in
+      elim (i.found q both.1) [
+        | inl k ↦ inl (gone q ∙ and_from (stays q) (contains key_cmp ks q) both.0 k)
+        | inr w ↦ inr w
+      ];
+}
+
+pub index_same : (es zs : List Entry) (ks : List Key) (ws : List Pair) → ((q : Key) → is_key es q ≡ is_key zs q)
+    → IsIndexOf es ks ws → IsIndexOf zs ks ws
+index_same es zs ks ws same i =
+    record { listed = λ q h. sym (same q) ∙ i.listed q h; found = λ q h. i.found q (same q ∙ h) }
+
+-- the last one that waits
+last_waits : (ws : List Pair) (p q : Pair) → In q (ws ++ p ∷ []) → In q ws ⊎ (q ≡ p)
+last_waits ws p q w = elim (in_append ws (p ∷ []) q w) [
+  | inl earlier ↦ inl earlier
+  | inr last ↦ elim (let j : (q ≡ p) ⊎ ⊥ = last in j) [ inl same ↦ inr same | inr none ↦ absurd none ]
+]
+
+-- gets its key
+pub index_placed : (x : Entry) (p : Pair) (es : List Entry) (ks ls : List Key) (ws : List Pair)
+    → entry_of p es ≡ Some x
+    → ((q : Key) → contains key_cmp ls q ≡ (eq_by_cmp key_cmp q (key_of x) || contains key_cmp ks q))
+    → IsIndexOf es ks (ws ++ p ∷ []) → IsIndexOf es ls ws
+index_placed x p es ks ls ws there more i = record {
+  listed = λ q h. elim (or_cases (eq_by_cmp key_cmp q (key_of x)) (contains key_cmp ks q) (sym (more q) ∙ h)) [
+    | inl new ↦ ap (is_key es) (eq_same exact_keys q (key_of x) new) ∙ own
+    | inr old ↦ i.listed q old
+  ];
+  found = λ q h. elim (i.found q h) [
+    | inl k ↦ inl (more q ∙ or_right (eq_by_cmp key_cmp q (key_of x)) (contains key_cmp ks q) k)
+    | inr w ↦ elim (last_waits ws p q.1 w) [
+      | inl earlier ↦ inr earlier
+      | inr last ↦
+          let at : entry_of q.1 es ≡ Some x = ap (λ (z : Pair). entry_of z es) last ∙ there in
+          inl (more q
+          ∙ or_left (eq_by_cmp key_cmp q (key_of x)) (contains key_cmp ks q)
+          (key_is es q x at (sym (ap (has_hash q.0) at) ∙ h)))
+    ]
+  ];
+} where
+  own : is_key es (key_of x) ≡ true
+  own =
+      ap (λ (z : Pair). has_hash (hash_of x.name) (entry_of z es)) (sym (entry_is_of p es x there))
+      ∙ ap (has_hash (hash_of x.name)) there
+      ∙ same_number (hash_of x.name)
+
+-- or has no entry any more
+pub index_passed : (p : Pair) (es : List Entry) (ks : List Key) (ws : List Pair) → entry_of p es ≡ None
+    → IsIndexOf es ks (ws ++ p ∷ []) → IsIndexOf es ks ws
+index_passed p es ks ws none i = record {
+  listed = i.listed;
+  found = λ q h. elim (i.found q h) [
+    | inl k ↦ inl k
+    | inr w ↦ elim (last_waits ws p q.1 w) [
+      | inl earlier ↦ inr earlier
+      | inr last ↦ absurd (true≢false (sym h ∙ ap (has_hash q.0) (ap (λ (z : Pair). entry_of z es) last ∙ none)))
+    ]
+  ];
+}

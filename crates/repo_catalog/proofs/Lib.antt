@@ -6,6 +6,7 @@ pub mod ManyLemmas
 pub mod IndexLemmas
 pub mod MergeLemmas
 pub mod NamedLemmas
+pub mod SoughtLemmas
 pub mod PairLemmas
 mod RowLemmas
 mod SumLemmas

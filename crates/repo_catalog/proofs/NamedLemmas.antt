@@ -19,7 +19,8 @@ use Rattle.sorted_lists.proofs.TwoOrders.{nat_le}
 use Rattle.repo_catalog.specs.declared.entry.Entry.{Entry}
 use Rattle.repo_catalog.specs.Entries.{publication_of, is_of, entry_of, entry_has_name, is_named_from}
 use Rattle.repo_catalog.specs.Entries.{IsCatalogue}
-use Rattle.repo_catalog.specs.NameKeys.{Key, key_cmp, key_of, hash_of, has_hash, is_key, IsIndexOf, IsFirstFrom}
+use Rattle.repo_catalog.specs.NameKeys.{Key, key_cmp, key_of, hash_of, has_hash, is_key, IsFirstFrom}
+use Rattle.sorted_lists.specs.SortedList.{contains}
 use Rattle.repo_catalog.proofs.LawLemmas.{named}
 use Rattle.repo_catalog.proofs.ManyLemmas.{entry_is_of}
 use Rattle.repo_catalog.proofs.MergeLemmas.{IsAhead}
@@ -60,7 +61,7 @@ le_less a b c h l = go (pair_cmp a b) refl where
   go Equal e = ap is_le (exact_pairs.total.congr a b c e ∙ l)
   go Greater e = absurd (true≢false (sym h ∙ ap is_le e))
 
-not_less_le : (a b : Pair) → pair_cmp a b ≢ Less → is_le (pair_cmp b a) ≡ true
+pub not_less_le : (a b : Pair) → pair_cmp a b ≢ Less → is_le (pair_cmp b a) ≡ true
 not_less_le a b n = go (pair_cmp a b) refl where
   go : (o : Ordering) → pair_cmp a b ≡ o → is_le (pair_cmp b a) ≡ true
   go Less e = absurd (n e)
@@ -70,7 +71,7 @@ not_less_le a b n = go (pair_cmp a b) refl where
 less_not_le : (a b : Pair) → pair_cmp a b ≡ Less → is_le (pair_cmp b a) ≡ false
 less_not_le a b l = ap is_le (less_back exact_pairs.total a b l)
 
-before_in : (x : Entry) (es : List Entry) (e : Entry) → IsAhead x es → In e es
+pub before_in : (x : Entry) (es : List Entry) (e : Entry) → IsAhead x es → In e es
     → pair_cmp (publication_of x) (publication_of e) ≡ Less
 before_in x [] e b i = absurd i
 before_in x (y ∷ ys) e b (inl same) = ap (λ (z : Entry). pair_cmp (publication_of x) (publication_of z)) same ∙ b.0
@@ -147,7 +148,7 @@ module _ (p : Entry → Bool) where
       ap (λ (b : Bool). cond b (Some x) (find p xs)) (h x (inl refl) (before_in x xs e r.0 i))
       ∙ find_first xs e r.1 i t (λ f j. h f (inr j))
 
-  found_passes : (es : List Entry) (e : Entry) → find p es ≡ Some e → In e es × (p e ≡ true)
+  pub found_passes : (es : List Entry) (e : Entry) → find p es ≡ Some e → In e es × (p e ≡ true)
   found_passes [] e h = absurd cc
   found_passes (x ∷ xs) e h = go (found_passes xs e) (p x) refl h where
     go : (find p xs ≡ Some e → In e xs × (p e ≡ true)) → (b : Bool) → p x ≡ b → cond b (Some x) (find p xs) ≡ Some e
@@ -266,7 +267,10 @@ module _ (name : List Component) (from : Pair) (es : List Entry) (r : IsCatalogu
     pub behind : key_cmp first (hash_of name, from) ≢ Less
     pub least : (q : Key) → is_key es q ≡ true → key_cmp q first ≡ Less → key_cmp q (hash_of name, from) ≡ Less
 
-  pub next_key : (ks : List Key) (h : ℕ) (first : Key) → h ≡ hash_of name → IsIndexOf es ks
+  abbrev HasKeys : List Key → Type 0
+  HasKeys ks = (q : Key) → contains key_cmp ks q ≡ is_key es q
+
+  pub next_key : (ks : List Key) (h : ℕ) (first : Key) → h ≡ hash_of name → HasKeys ks
       → IsFirstFrom (h, from) ks first → IsNext first
   next_key ks h first same indexed next = record {
     there = sym (indexed first) ∙ next.there;
@@ -275,7 +279,7 @@ module _ (name : List Component) (from : Pair) (es : List Entry) (r : IsCatalogu
         subst (λ (n : ℕ). key_cmp q (n, from) ≡ Less) same (next.least q (indexed q ∙ t) l);
   }
 
-  pub next_entry : (ks : List Key) (h : ℕ) (first : Key) (x : Entry) → h ≡ hash_of name → IsIndexOf es ks
+  pub next_entry : (ks : List Key) (h : ℕ) (first : Key) (x : Entry) → h ≡ hash_of name → HasKeys ks
       → IsFirstFrom (h, from) ks first → first.0 ≡ h → entry_of first.1 es ≡ Some x
       → IsNext (hash_of name, publication_of x)
   next_entry ks h first x same indexed next hash there =

@@ -1,4 +1,4 @@
-ghost use Rattle.std.specs.Prelude.{◌≡◌, ◌-◌, ◌<◌, ◌≤◌, ◌^◌, ◌↔◌, [], not, max, length, option_map, find};
+ghost use Rattle.std.specs.Prelude.{◌≡◌, ◌-◌, ◌<◌, ◌≤◌, ◌^◌, ◌↔◌, [], not, max, length, reverse, option_map, find};
 ghost use Rattle.std.specs.Prelude.{Some, true, IfOk, OnOk, OnErr, IsTrue, vec_capacity};
 ghost use Rattle.std.specs.List.{sum_by};
 ghost use Rattle.std.specs.List.Sorted.{IsSearchInRange, IsBinarySearchResult};
@@ -10,6 +10,7 @@ ghost use Rattle.repo_catalog.specs.Entries.{is_named_from, with_entry, with_ent
 ghost use Rattle.repo_catalog.specs.Entries.{IsCatalogue, AreApart};
 ghost use Rattle.repo_catalog.specs.NameKeys.{hash_of};
 
+use crate::by_name::{first_indexed, first_waiting, lesser};
 use crate::entry::Entry;
 use crate::entry_row::EntryRow;
 use crate::merge::forget;
@@ -20,8 +21,8 @@ use ndn_name::NameView;
 use std::alloc::{AllocError, Global};
 use std::marker::Model;
 
-// So many entries are removed one by one. Each moves what stands behind it, which takes less than a test of each, and
-// the first entry moves nothing.
+// So many entries are added or removed one by one. Each moves what stands after it, which takes less than to take those
+// apart or to test each, and to remove the first entry moves nothing.
 const FEW: usize = 4;
 
 /// The objects that a member lists, in order of publisher and number, at most one for each pair of them, and room for
@@ -116,16 +117,46 @@ impl Catalogue {
         let Err(place) = self.place(entry.publisher, entry.seq) else {
             return false;
         };
-        self.names.insert(key_of(&entry));
+        self.names.wait((entry.publisher, entry.seq));
         self.sums.add(&entry);
         self.entries.insert(place, entry);
         true
     }
 
     /// Adds many entries as `add_reserved` does, in any order, in the room that was made for them. They are moved out
-    /// of `fresh`, which keeps its capacity. It takes no memory, and goes over them and over what stands behind the
-    /// least of them once.
+    /// of `fresh`, which keeps its capacity. It takes no memory. Where they are few, each moves what stands after it;
+    /// else it goes over them and over what stands after the least of them once.
     pub fn add_all_reserved(&mut self, fresh: &mut Vec<Entry>)
+        requires room { length fresh.old.items ≤ self.old.spare }
+        requires apart { AreApart fresh.old.items }
+        ensures entries { self.new.entries ≡ with_entries fresh.old.items self.old.entries }
+        ensures spare { self.new.spare ≡ self.old.spare - length fresh.old.items }
+        ensures moved { fresh.new.items ≡ [] }
+        ensures capacity { vec_capacity fresh.old ≤ vec_capacity fresh.new }
+    {
+        self.is_in_order();
+        if fresh.len() <= FEW {
+            self.add_each(fresh);
+        } else {
+            self.add_in_one_pass(fresh);
+        }
+    }
+
+    // The same, one by one.
+    fn add_each(&mut self, fresh: &mut Vec<Entry>)
+        requires { length fresh.old.items ≤ self.old.spare }
+        ensures entries { self.new.entries ≡ with_entries (reverse fresh.old.items) self.old.entries }
+        ensures spare { self.new.spare ≡ self.old.spare - length fresh.old.items }
+        ensures moved { fresh.new.items ≡ [] }
+        ensures capacity { vec_capacity fresh.old ≤ vec_capacity fresh.new }
+    {
+        while let Some(entry) = fresh.pop() {
+            self.add_reserved(entry);
+        }
+    }
+
+    // The same, in one pass over all that stands after the least of them.
+    fn add_in_one_pass(&mut self, fresh: &mut Vec<Entry>)
         requires room { length fresh.old.items ≤ self.old.spare }
         requires apart { AreApart fresh.old.items }
         ensures entries { self.new.entries ≡ with_entries fresh.old.items self.old.entries }
@@ -144,6 +175,15 @@ impl Catalogue {
         ensures removed { result ≡ lists (publisher, seq) self.old.entries }
         ensures left { self.new ≡ record self.old { entries = without (publisher, seq) self.old.entries } }
     {
+        self.order_names();
+        self.remove_one(publisher, seq)
+    }
+
+    // The same, whatever names wait.
+    fn remove_one(&mut self, publisher: u32, seq: u16) -> bool
+        ensures removed { result ≡ lists (publisher, seq) self.old.entries }
+        ensures left { self.new ≡ record self.old { entries = without (publisher, seq) self.old.entries } }
+    {
         let Ok(place) = self.place(publisher, seq) else {
             return false;
         };
@@ -155,11 +195,13 @@ impl Catalogue {
     }
 
     /// Removes the entries of many publications, which are in order, in one pass. Where they are few, only what stands
-    /// behind each is moved, and nothing else is read; behind the first entry nothing moves. It takes no memory.
+    /// after each is moved, and nothing else is read; after the first entry nothing moves. It takes no memory. The
+    /// names of entries that were added since the last removal are hashed.
     pub fn remove_all(&mut self, publications: &[(u32, u16)])
         requires { Rises pair_cmp publications.now }
         ensures { self.new ≡ record self.old { entries = without_all publications.now self.old.entries } }
     {
+        self.order_names();
         if publications.len() <= FEW {
             self.remove_each(publications);
         } else {
@@ -172,7 +214,7 @@ impl Catalogue {
         ensures { self.new ≡ record self.old { entries = without_all publications.now self.old.entries } }
     {
         for &(publisher, seq) in publications {
-            self.remove(publisher, seq);
+            self.remove_one(publisher, seq);
         }
     }
 
@@ -237,27 +279,25 @@ impl Catalogue {
         ensures ordered { IsCatalogue self.now.entries }
         ensures found { result ≡ option_map publication_of (find (is_named_from name.now from) self.now.entries) }
     {
-        let mut from = from;
-        while let Some((other, pair)) = self.names.first_from((hash, from)) {
-            if other != hash {
-                return None;
-            }
-            let entry = self.listed(pair);
-            if entry.name.view().compare(name).is_eq() {
-                return Some((entry.publisher, entry.seq));
-            }
-            from = (entry.publisher, u32::from(entry.seq) + 1);
-        }
-        None
+        let entries = self.entries.as_slice();
+        lesser(
+            first_indexed(&self.names, entries, name, hash, from),
+            first_waiting(self.names.waiting(), entries, name, from),
+        )
     }
 
-    // The entry of a publication that has one.
-    fn listed(&self, pair: (u32, u32)) -> &Entry
-        requires { lists pair self.now.entries ≡ true }
-        ensures { entry_of pair self.now.entries ≡ Some result.now }
+    // The entries are in order. Costs nothing, and is called for its clause.
+    fn is_in_order(&self)
+        ensures { IsCatalogue self.now.entries }
     {
-        let place = place_of(self.entries.as_slice(), pair).unwrap();
-        &self.entries.as_slice()[place]
+        let _ = &self.entries;
+    }
+
+    // Puts the names of all entries into the index.
+    fn order_names(&mut self)
+        ensures { self.new ≡ self.old }
+    {
+        self.names.order(self.entries.as_slice());
     }
 
     /// How many entries there are, and how many segments and octets their objects have together. The sums are kept as

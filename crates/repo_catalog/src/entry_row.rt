@@ -114,7 +114,7 @@ impl EntryRow {
         requires in_order { IsCatalogue self.old.items }
         requires fresh_in_order { IsCatalogue fresh.old.items }
         requires none_aside { aside.old.items ≡ [] }
-        requires indexed { IsIndexOf self.old.items names.old.keys }
+        requires indexed { IsIndexOf self.old.items names.old.keys names.old.waiting }
         requires summed { sums.old ≡ sums_of self.old.items }
         requires room { length self.old.items + length fresh.old.items ≤ self.old.capacity }
         requires room_aside { length self.old.items + length fresh.old.items ≤ vec_capacity aside.old }
@@ -123,7 +123,7 @@ impl EntryRow {
         ensures in_order { IsCatalogue self.new.items }
         ensures moved { fresh.new.items ≡ [] }
         ensures none_aside { aside.new.items ≡ [] }
-        ensures indexed { IsIndexOf self.new.items names.new.keys }
+        ensures indexed { IsIndexOf self.new.items names.new.keys names.new.waiting }
         ensures summed { sums.new ≡ sums_of self.new.items }
         ensures len { length self.new.items ≤ length self.old.items + length fresh.old.items }
         ensures room { self.old.capacity ≤ self.new.capacity }

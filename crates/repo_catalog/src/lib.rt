@@ -4,6 +4,7 @@
 //! What is promised of it: `docs/promises/repo_catalog.md`.
 #![tactic(auto)]
 
+mod by_name;
 mod catalogue;
 mod entry;
 mod entry_row;

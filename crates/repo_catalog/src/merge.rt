@@ -23,7 +23,7 @@ pub(crate) fn merge(
     requires in_order { IsCatalogue entries.old.items }
     requires fresh_in_order { IsCatalogue fresh.old.items }
     requires none_aside { aside.old.items ≡ [] }
-    requires indexed { IsIndexOf entries.old.items names.old.keys }
+    requires indexed { IsIndexOf entries.old.items names.old.keys names.old.waiting }
     requires summed { sums.old ≡ sums_of entries.old.items }
     requires room { length entries.old.items + length fresh.old.items ≤ vec_capacity entries.old }
     requires room_aside { length entries.old.items + length fresh.old.items ≤ vec_capacity aside.old }
@@ -32,7 +32,7 @@ pub(crate) fn merge(
     ensures in_order { IsCatalogue entries.new.items }
     ensures moved { fresh.new.items ≡ [] }
     ensures none_aside { aside.new.items ≡ [] }
-    ensures indexed { IsIndexOf entries.new.items names.new.keys }
+    ensures indexed { IsIndexOf entries.new.items names.new.keys names.new.waiting }
     ensures summed { sums.new ≡ sums_of entries.new.items }
     ensures len { length entries.new.items ≤ length entries.old.items + length fresh.old.items }
     ensures room { vec_capacity entries.old ≤ vec_capacity entries.new }
@@ -44,7 +44,7 @@ pub(crate) fn merge(
         let pair = (entry.publisher, u32::from(entry.seq));
         if let Err(place) = place_of(entries, pair) {
             set_aside(entries, place, aside);
-            names.insert(key_of(&entry));
+            names.wait((entry.publisher, entry.seq));
             sums.add(&entry);
             aside.push(entry).unwrap();
         }
@@ -90,9 +90,9 @@ pub(crate) fn forget(
 )
     requires rises { Rises pair_cmp publications.now }
     requires in_order { IsCatalogue entries.now }
-    requires indexed { IsIndexOf entries.now names.old.keys }
+    requires indexed { IsIndexOf entries.now names.old.keys names.old.waiting }
     requires summed { sums.old ≡ sums_of entries.now }
-    ensures indexed { IsIndexOf (without_all publications.now entries.now) names.new.keys }
+    ensures indexed { IsIndexOf (without_all publications.now entries.now) names.new.keys names.new.waiting }
     ensures summed { sums.new ≡ sums_of (without_all publications.now entries.now) }
     ensures room { names.old.spare ≤ names.new.spare }
 {

@@ -1,11 +1,14 @@
 // By what their objects are called, which publications a catalogue lists.
-ghost use Rattle.std.specs.Prelude.{◌≡◌, ◌+◌, ◌<◌, ◌≤◌, ◌||◌, ◌&&◌, [], true, not, OnOk, MatchOption};
+ghost use Rattle.std.specs.Prelude.{◌≡◌, ◌+◌, ◌<◌, ◌≤◌, ◌++◌, ◌∷◌, ◌&&◌, [], true, not, length, vec_capacity};
+ghost use Rattle.std.specs.Prelude.{OnOk, MatchOption};
 ghost use Rattle.std.specs.Ordering.{eq_by_cmp};
 ghost use Rattle.std.specs.declared.cmp.Ordering.TheVariants.{Less};
-ghost use Rattle.sorted_lists.specs.SortedList.{contains};
-ghost use Rattle.repo_catalog.specs.NameKeys.{Key, key_cmp, key_of, hash_of, IsFirstFrom};
+ghost use Rattle.sorted_lists.specs.SortedList.{keys, contains, Rises};
+ghost use Rattle.repo_catalog.specs.Entries.{IsCatalogue};
+ghost use Rattle.repo_catalog.specs.NameKeys.{Key, key_cmp, key_of, hash_of, IsIndexOf, IsFirstFrom};
 
 use crate::entry::Entry;
+use crate::search::place_of;
 use ndn_name::NameView;
 use sha2::{Digest, Sha256};
 use sorted_lists::SortedMap;
@@ -15,13 +18,18 @@ use std::marker::Model;
 // The hash of an object's name, then the publication. A number has 32 bits here, so that there is always one behind it.
 pub(crate) type Key = (u64, (u32, u32));
 
-// Keys in order, and room for more.
+// Keys in order, and publications that wait for theirs. What is added waits, and no name is hashed, until an entry is
+// removed, since names serve deletion alone. There is room for more.
 #[derive(Debug, Drop)]
 pub(crate) struct NameIndex {
     map: SortedMap<Key, ()>,
+    waiting: Vec<(u32, u16)>,
+    // There is room for so many more in both.
+    spare: usize,
 }
 
-// An index is seen as the list of its keys, beside the number of keys that there is room for.
+// An index is seen as the lists of its keys and of the publications that wait, beside the number of those that there is
+// room for.
 impl Model for NameIndex {
     ghost use Rattle.repo_catalog.specs.NameKeys.{KeyList};
 
@@ -37,35 +45,67 @@ impl Model for NameIndex {
 impl NameIndex {
     pub(crate) fn new(alloc: Global) -> NameIndex
         ensures keys { result.keys ≡ [] }
+        ensures waiting { result.waiting ≡ [] }
     {
         NameIndex {
             map: SortedMap::new(alloc),
+            waiting: Vec::new(alloc),
+            spare: 0,
         }
     }
 
-    // Makes room for so many more keys.
+    // Makes room for so many more publications.
     pub(crate) fn reserve(&mut self, n: usize) -> Result<(), AllocError>
         ensures keys { self.new.keys ≡ self.old.keys }
+        ensures waiting { self.new.waiting ≡ self.old.waiting }
         ensures grows { self.old.spare ≤ self.new.spare }
         ensures room { OnOk result (n ≤ self.new.spare) }
     {
-        self.map.reserve(n)
+        if self.spare < n {
+            let Some(all) = self.waiting.len().checked_add(n) else {
+                return Err(AllocError);
+            };
+            self.map.reserve(all)?;
+            self.waiting.reserve(n)?;
+            self.spare = n;
+        }
+        Ok(())
     }
 
-    // The index, which has room for one more, has the key from now on.
-    pub(crate) fn insert(&mut self, key: Key)
+    // The publication, for which there is room, waits from now on.
+    pub(crate) fn wait(&mut self, publication: (u32, u16))
         requires { 0 < self.old.spare }
-        ensures keys { (q : Key) → contains key_cmp self.new.keys q
-            ≡ (eq_by_cmp key_cmp q key || contains key_cmp self.old.keys q) }
-        ensures room { self.old.spare ≤ self.new.spare + 1 }
+        ensures keys { self.new.keys ≡ self.old.keys }
+        ensures waiting { self.new.waiting ≡ self.old.waiting ++ publication ∷ [] }
+        ensures room { self.old.spare ≡ self.new.spare + 1 }
     {
-        self.map.insert(key, ());
+        self.spare -= 1;
+        self.waiting.push(publication).unwrap();
+    }
+
+    // Puts the keys of all that wait in their places. It takes no memory.
+    pub(crate) fn order(&mut self, entries: &[Entry])
+        requires in_order { IsCatalogue entries.now }
+        requires indexed { IsIndexOf entries.now self.old.keys self.old.waiting }
+        ensures indexed { IsIndexOf entries.now self.new.keys self.new.waiting }
+        ensures none_waits { self.new.waiting ≡ [] }
+        ensures room { self.old.spare ≤ self.new.spare }
+    {
+        put_in_place(&mut self.map, &mut self.waiting, entries);
+    }
+
+    // The publications that wait.
+    pub(crate) fn waiting(&self) -> &[(u32, u16)]
+        ensures { result.now ≡ self.now.waiting }
+    {
+        &self.waiting
     }
 
     // The index has the key no more.
     pub(crate) fn remove(&mut self, key: Key)
         ensures keys { (q : Key) → contains key_cmp self.new.keys q
             ≡ (not (eq_by_cmp key_cmp q key) && contains key_cmp self.old.keys q) }
+        ensures waiting { self.new.waiting ≡ self.old.waiting }
         ensures room { self.old.spare ≤ self.new.spare }
     {
         self.map.remove(key);
@@ -80,6 +120,25 @@ impl NameIndex {
         match self.map.first_from(key) {
             Some((first, ())) => Some(first),
             None => None,
+        }
+    }
+}
+
+// Puts the keys of publications that wait into a map that has room for them. One that has no entry any more has none.
+fn put_in_place(map: &mut SortedMap<Key, ()>, waiting: &mut Vec<(u32, u16)>, entries: &[Entry])
+    requires in_order { IsCatalogue entries.now }
+    requires rises { Rises key_cmp (keys map.old.entries) }
+    requires indexed { IsIndexOf entries.now (keys map.old.entries) waiting.old.items }
+    requires room { length waiting.old.items ≤ map.old.spare }
+    ensures rises { Rises key_cmp (keys map.new.entries) }
+    ensures indexed { IsIndexOf entries.now (keys map.new.entries) waiting.new.items }
+    ensures none_waits { waiting.new.items ≡ [] }
+    ensures room { map.old.spare ≤ map.new.spare + length waiting.old.items }
+    ensures room_to_wait { vec_capacity waiting.old ≤ vec_capacity waiting.new }
+{
+    while let Some((publisher, seq)) = waiting.pop() {
+        if let Ok(place) = place_of(entries, (publisher, u32::from(seq))) {
+            map.insert(key_of(&entries[place]), ());
         }
     }
 }

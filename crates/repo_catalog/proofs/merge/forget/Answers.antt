@@ -1,4 +1,4 @@
-use Rattle.std.proofs.Common.{◌≡◌, ◌+◌, ◌&&◌, ◌∷◌, ◌++◌, arith, Bool, not, false, List, [], take, get_or, Some, None}
+use Rattle.std.proofs.Common.{◌≡◌, ◌+◌, ◌&&◌, ◌∷◌, ◌++◌, arith, not, false, List, [], take, get_or, Some, None}
 use Rattle.std.proofs.Common.{Ok, Err, sym, ap, subst, ◌∙◌}
 use Rattle.std.specs.Ordering.{eq_by_cmp}
 use Rattle.std.proofs.lemmas.List.{take_all, take_more}
@@ -8,18 +8,20 @@ use Rattle.repo_plan.specs.Parts.{Pair, pair_cmp}
 use Rattle.repo_plan.proofs.Orders.{exact_pairs}
 use Rattle.repo_catalog.specs.declared.entry.Entry.{Entry}
 use Rattle.repo_catalog.specs.Entries.{publication_of, entry_of, without_all}
-use Rattle.repo_catalog.specs.NameKeys.{Key, KeyList, key_cmp, key_of, has_hash, is_key, IsIndexOf}
+use Rattle.repo_catalog.specs.NameKeys.{Key, KeyList, key_cmp, key_of, is_key, IsIndexOf}
 use Rattle.repo_catalog.specs.Sums.{sums_of}
 use Rattle.repo_catalog.proofs.EntryLemmas.{found_place, entry_at, no_entry_between}
-use Rattle.repo_catalog.proofs.IndexLemmas.{is_key-listed, is_key-missing}
-use Rattle.repo_catalog.proofs.ManyLemmas.{removes_all, entry_is_of, without_none}
+use Rattle.repo_catalog.proofs.IndexLemmas.{is_key-listed, is_key-missing, index_less, index_same}
+use Rattle.repo_catalog.proofs.ManyLemmas.{entry_is_of, without_none}
 use Rattle.repo_catalog.proofs.SumLemmas.{is_behind, sums_with_one_gone, sums_with_none_gone}
 use Rattle.repo_catalog.proofs.merge.forget.Goals as goal
 use Rattle.repo_catalog.proofs.merge.forget.Goals.{in-Ok, in_default}
 
 pub loop-publisher-init : goal.loop-publisher-init
 loop-publisher-init c = record {
-  indexed = λ q. c.requires.indexed q ∙ sym (ap (has_hash q.0) (removes_all [] c.args.entries.now q.1));
+  indexed =
+      subst (λ (es : List Entry). IsIndexOf es c.args.names.now.keys c.args.names.now.waiting)
+      (sym (without_none c.args.entries.now)) c.requires.indexed;
   summed = c.requires.summed ∙ ap sums_of (sym (without_none c.args.entries.now));
   room = omega arith;
 }
@@ -50,15 +52,18 @@ loop-publisher-preserved c =
           let stays : contains pair_cmp (take i pairs) k ≡ false =
           ap (contains pair_cmp (take i pairs)) same ∙ is_behind (take i pairs) p in_order in
           record {
-            indexed = λ q.
-                ap (λ (l : KeyList). contains key_cmp l.keys q) w.names-is
-                ∙ w.remove.ensures.keys q
+            indexed =
+                subst (λ (l : KeyList). IsIndexOf (without_all (take (i + 1) pairs) es) l.keys l.waiting)
+                (sym w.names-is)
+                (subst (λ (ws : List Pair). IsIndexOf (without_all (take (i + 1) pairs) es) w.remove.new.self.keys ws)
+                (sym w.remove.ensures.waiting)
+                (index_less (without_all (take i pairs) es) (without_all (take (i + 1) pairs) es)
+                c.loop-publisher.names.keys w.remove.new.self.keys c.loop-publisher.names.waiting
+                (λ q. not (eq_by_cmp key_cmp q (key_of x)))
+                (λ q. is_key-listed (take i pairs) x k es q there of ∙ ap (λ (es : List Entry). is_key es q) all)
+                (λ q. w.remove.ensures.keys q
                 ∙ ap (λ (key : Key). not (eq_by_cmp key_cmp q key) && contains key_cmp c.loop-publisher.names.keys q)
-                w.key_of.ensures
-                ∙ ap (λ (b : Bool). not (eq_by_cmp key_cmp q (key_of x)) && b) (c.loop-publisher.invariant.indexed q)
-                ∙ is_key-listed (take i pairs) x k es q there of
-                ∙ ap (λ (z : Pair). is_key (without_all (take i pairs ++ z ∷ []) es) q) same
-                ∙ ap (λ (ps : List Pair). is_key (without_all ps es) q) (sym more);
+                w.key_of.ensures) c.loop-publisher.invariant.indexed));
             summed =
                 w.sums-is
                 ∙ w.subtract.ensures (without_all (take i pairs ++ k ∷ []) es)
@@ -73,12 +78,13 @@ loop-publisher-preserved c =
           (found_place es k (Err w.in_default.field-0) c.requires.in_order w.in_default.ensures.bound
           w.in_default.ensures.position) in
           record {
-            indexed = λ q.
-                ap (λ (l : KeyList). contains key_cmp l.keys q) w.names-is
-                ∙ c.loop-publisher.invariant.indexed q
-                ∙ is_key-missing (take i pairs) k es q none
-                ∙ ap (λ (z : Pair). is_key (without_all (take i pairs ++ z ∷ []) es) q) same
-                ∙ ap (λ (ps : List Pair). is_key (without_all ps es) q) (sym more);
+            indexed =
+                subst (λ (l : KeyList). IsIndexOf (without_all (take (i + 1) pairs) es) l.keys l.waiting)
+                (sym w.names-is)
+                (index_same (without_all (take i pairs) es) (without_all (take (i + 1) pairs) es)
+                c.loop-publisher.names.keys c.loop-publisher.names.waiting
+                (λ q. is_key-missing (take i pairs) k es q none ∙ ap (λ (es : List Entry). is_key es q) all)
+                c.loop-publisher.invariant.indexed);
             summed =
                 w.sums-is
                 ∙ c.loop-publisher.invariant.summed
@@ -90,7 +96,8 @@ loop-publisher-preserved c =
 
 pub returns-clause-indexed : goal.returns-clause-indexed
 returns-clause-indexed c =
-    subst (λ (ps : List Pair). IsIndexOf (without_all ps c.args.entries.now) c.loop-publisher.names.keys)
+    subst (λ (ps : List Pair). IsIndexOf (without_all ps c.args.entries.now) c.loop-publisher.names.keys
+    c.loop-publisher.names.waiting)
     (take_all c.loop-publisher.publisher-index c.args.publications.now (omega (arith, c.loop-publisher-test.false)))
     c.loop-publisher.invariant.indexed
 

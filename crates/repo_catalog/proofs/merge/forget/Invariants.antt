@@ -6,7 +6,7 @@ use Rattle.repo_catalog.proofs.merge.forget.Given as goal
 
 abbrev pub invariant-loop-publisher : goal.invariant-loop-publisher
 invariant-loop-publisher l = record {
-  indexed : IsIndexOf (without_all (take l.publisher-index l.publications) l.entries) l.names.keys;
+  indexed : IsIndexOf (without_all (take l.publisher-index l.publications) l.entries) l.names.keys l.names.waiting;
   summed : l.sums ≡ sums_of (without_all (take l.publisher-index l.publications) l.entries);
   room : l.initial.names.spare ≤ l.names.spare;
 }

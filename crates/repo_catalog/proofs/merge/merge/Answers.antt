@@ -1,21 +1,19 @@
-use Rattle.std.proofs.Common.{◌≡◌, ◌||◌, ◌++◌, ◌∷◌, ℕ, Bool, List, [], Option, Some, None, Ok, Err, reverse, take}
+use Rattle.std.proofs.Common.{◌≡◌, ◌++◌, ◌∷◌, ℕ, List, [], Option, Some, None, Ok, Err, reverse, take}
 use Rattle.std.proofs.Common.{length, get_or}
 use Rattle.std.proofs.Common.{sym, ap, subst, ◌∙◌, refl, arith}
 use Rattle.std.specs.Prelude.{is_some}
 use Rattle.std.specs.List.Sorted.{IsSearchInRange, IsBinarySearchResult}
 use Rattle.std.specs.Option.{option_or}
-use Rattle.std.specs.Ordering.{eq_by_cmp}
 use Rattle.std.proofs.lemmas.List.{append-nil, append_assoc, reverse-append}
 use Rattle.std.proofs.lemmas.List.Folds.{find-append}
-use Rattle.sorted_lists.specs.SortedList.{contains}
 use Rattle.repo_catalog.specs.declared.entry.Entry.{Entry}
 use Rattle.repo_catalog.specs.Entries.{publication_of, is_of, beside, entry_of, with_entry, with_entries, IsCatalogue}
-use Rattle.repo_catalog.specs.NameKeys.{Key, key_cmp, key_of, is_key}
+use Rattle.repo_catalog.specs.NameKeys.{IsIndexOf}
 use Rattle.repo_catalog.specs.Sums.{sums_of}
 use Rattle.repo_catalog.proofs.EntryLemmas.{found_place, entry_at, no_entry_between, with_entry_between}
 use Rattle.repo_catalog.proofs.EntryLemmas.{with_entry_rises}
 use Rattle.repo_catalog.proofs.EntryLemmas.{IsPlace}
-use Rattle.repo_catalog.proofs.IndexLemmas.{is_key-with}
+use Rattle.repo_catalog.proofs.IndexLemmas.{index_added}
 use Rattle.repo_catalog.proofs.LawLemmas.{entries_tell_all}
 use Rattle.repo_catalog.proofs.ManyLemmas.{adds_all, with_entries_rises, or_none}
 use Rattle.repo_catalog.proofs.MergeLemmas.{IsAhead, rest_rises, front_rises, rises_dropped, rises_joined, none_ahead}
@@ -38,7 +36,9 @@ loop-entry-init c =
       all = λ k.
           ap (λ (xs : List Entry). option_or (entry_of k xs) (entry_of k fs)) all
           ∙ sym (adds_all fs es k c.requires.in_order);
-      indexed = λ q. c.requires.indexed q ∙ ap (λ (xs : List Entry). is_key xs q) (sym all);
+      indexed =
+          subst (λ (xs : List Entry). IsIndexOf xs c.args.names.now.keys c.args.names.now.waiting) (sym all)
+          c.requires.indexed;
       summed = c.requires.summed ∙ ap sums_of (sym all);
       len = omega (arith, empty, c.args.aside.now.ok);
       room = omega arith;
@@ -111,12 +111,10 @@ loop-entry-preserved-in-Err c =
           ∙ taken_in (es ++ aside) fs x k before.in_order (none_ahead fs aside x ahead)
           ∙ ap (λ (xs : List Entry). option_or (entry_of k (es ++ aside)) (entry_of k xs)) (sym popped)
           ∙ before.all k;
-      indexed = λ q.
-          c.insert.ensures.keys q
-          ∙ ap (λ (key : Key). eq_by_cmp key_cmp q key || contains key_cmp c.loop-entry.names.keys q) c.key_of.ensures
-          ∙ ap (λ (b : Bool). eq_by_cmp key_cmp q (key_of x) || b) (before.indexed q)
-          ∙ is_key-with x (es ++ aside) q before.in_order (ap is_some missing)
-          ∙ ap (λ (xs : List Entry). is_key xs q) (sym whole);
+      indexed =
+          rw (whole, c.wait.ensures.keys, c.wait.ensures.waiting)
+          (index_added x (es ++ aside) c.loop-entry.names.keys c.loop-entry.names.waiting before.in_order
+          (ap is_some missing) before.indexed);
       summed = c.add.ensures (es ++ aside) before.summed ∙ sums_with x (es ++ aside) missing ∙ ap sums_of (sym whole);
       len =
           omega (
@@ -129,7 +127,7 @@ loop-entry-preserved-in-Err c =
       room = omega (arith, before.room, c.set_aside.ensures.room);
       room_aside = omega (arith, before.room_aside, c.set_aside.ensures.room_aside, c.push.ensures.capacity);
       room_fresh = omega (arith, before.room_fresh, c.pop.ensures.capacity);
-      names = omega (arith, before.names, c.insert.ensures.room, c.in-Some.ensures.len);
+      names = omega (arith, before.names, c.wait.ensures.room, c.in-Some.ensures.len);
     }
 
 pub loop-entry-preserved : goal.loop-entry-preserved

@@ -13,7 +13,7 @@ invariant-loop-entry l =
       ahead : IsCatalogue (l.fresh.items ++ reverse l.aside.items);
       all : (k : Pair) → option_or (entry_of k now) (entry_of k l.fresh.items)
           ≡ entry_of k (with_entries l.initial.fresh.items l.initial.entries.items);
-      indexed : IsIndexOf now l.names.keys;
+      indexed : IsIndexOf now l.names.keys l.names.waiting;
       summed : l.sums ≡ sums_of now;
       len : vec_len l.entries + vec_len l.aside + vec_len l.fresh
           ≤ vec_len l.initial.entries + vec_len l.initial.fresh;

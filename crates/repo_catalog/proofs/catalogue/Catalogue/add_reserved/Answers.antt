@@ -1,15 +1,11 @@
-use Rattle.std.proofs.Common.{◌≡◌, ◌||◌, Bool, List, not, sym, ap, subst, ◌∙◌, Ok, Err, arith}
+use Rattle.std.proofs.Common.{◌≡◌, not, sym, ap, subst, ◌∙◌, Ok, Err, arith}
 use Rattle.std.specs.Prelude.{is_some}
 use Rattle.std.specs.List.{insert}
-use Rattle.std.specs.Ordering.{eq_by_cmp}
-use Rattle.sorted_lists.specs.SortedList.{contains}
-use Rattle.repo_catalog.specs.declared.entry.Entry.{Entry}
 use Rattle.repo_catalog.specs.Entries.{EntryList, publication_of, lists, with_entry, IsCatalogue}
-use Rattle.repo_catalog.specs.NameKeys.{Key, key_cmp, key_of, is_key}
 use Rattle.repo_catalog.specs.Sums.{sums_of}
 use Rattle.repo_catalog.proofs.EntryLemmas.{found_place, entry_at, no_entry_between, with_entry_at, with_entry_between}
 use Rattle.repo_catalog.proofs.EntryLemmas.{with_entry_rises}
-use Rattle.repo_catalog.proofs.IndexLemmas.{is_key-with}
+use Rattle.repo_catalog.proofs.IndexLemmas.{index_added}
 use Rattle.repo_catalog.proofs.SumLemmas.{sums_with}
 use Rattle.repo_catalog.proofs.catalogue.Catalogue.add_reserved.Goals as goal
 
@@ -38,20 +34,18 @@ invariant_of-self-2 c =
     let place =
     found_place es (publication_of c.args.entry) (Err c.in-Err.place) c.in-Err.ensures.ordered c.in-Err.ensures.bound
     c.in-Err.ensures.position in
-    let inserted : c.insert-2.new.self.items ≡ insert es c.in-Err.place c.args.entry =
-    c.insert-2.ensures.items in
+    let inserted : c.insert.new.self.items ≡ insert es c.in-Err.place c.args.entry =
+    c.insert.ensures.items in
     let entries = inserted ∙ sym (with_entry_between c.args.entry es c.in-Err.place place) in
     let spare = ap (λ (l : EntryList). l.spare) c.self.view_is in
     let missing = no_entry_between (publication_of c.args.entry) es c.in-Err.place place in
     record {
       in_order = subst IsCatalogue (sym entries) (with_entry_rises c.args.entry es c.self.invariant.in_order);
       none_aside = c.self.invariant.none_aside;
-      indexed = λ q.
-          c.insert.ensures.keys q
-          ∙ ap (λ (key : Key). eq_by_cmp key_cmp q key || contains key_cmp c.self.inside.names.keys q) c.key_of.ensures
-          ∙ ap (λ (b : Bool). eq_by_cmp key_cmp q (key_of c.args.entry) || b) (c.self.invariant.indexed q)
-          ∙ is_key-with c.args.entry es q c.self.invariant.in_order (ap is_some missing)
-          ∙ ap (λ (xs : List Entry). is_key xs q) (sym entries);
+      indexed =
+          rw (entries, c.wait.ensures.keys, c.wait.ensures.waiting)
+          (index_added c.args.entry es c.self.inside.names.keys c.self.inside.names.waiting c.self.invariant.in_order
+          (ap is_some missing) c.self.invariant.indexed);
       summed =
           c.add.ensures es c.self.invariant.summed
           ∙ sums_with c.args.entry es missing
@@ -59,15 +53,15 @@ invariant_of-self-2 c =
       room =
           omega (
             arith,
-            c.insert-2.ensures.len,
-            c.insert-2.ensures.capacity,
+            c.insert.ensures.len,
+            c.insert.ensures.capacity,
             c.self.invariant.room,
             c.requires,
             spare,
           );
       room_aside =
-          omega (arith, c.insert-2.ensures.len, c.self.invariant.room_aside, c.requires, spare);
-      room_for_names = omega (arith, c.insert.ensures.room, c.self.invariant.room_for_names, c.requires, spare);
+          omega (arith, c.insert.ensures.len, c.self.invariant.room_aside, c.requires, spare);
+      room_for_names = omega (arith, c.wait.ensures.room, c.self.invariant.room_for_names, c.requires, spare);
     }
 
 pub returns-clause-added : goal.returns-clause-added
@@ -85,8 +79,8 @@ returns-clause-entries c =
     let place =
     found_place es (publication_of c.args.entry) (Err c.in-Err.place) c.in-Err.ensures.ordered c.in-Err.ensures.bound
     c.in-Err.ensures.position in
-    let inserted : c.insert-2.new.self.items ≡ insert es c.in-Err.place c.args.entry =
-    c.insert-2.ensures.items in
+    let inserted : c.insert.new.self.items ≡ insert es c.in-Err.place c.args.entry =
+    c.insert.ensures.items in
     inserted
     ∙ sym (with_entry_between c.args.entry es c.in-Err.place place)
     ∙ ap (λ (l : EntryList). with_entry c.args.entry l.entries) c.self.view_is

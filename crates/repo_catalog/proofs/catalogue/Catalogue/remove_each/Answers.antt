@@ -16,7 +16,7 @@ loop-publisher-preserved c =
     let i : ℕ = c.loop-publisher.publisher-index in
     let p : Pair = get_or pairs i (0, 0) in
     let es = c.args.self.now.entries in
-    c.remove.ensures.left
+    c.remove_one.ensures.left
     ∙ ap (λ (l : EntryList). record l { entries = without p l.entries }) c.loop-publisher.invariant
     ∙ ap (λ (xs : List Entry). record c.args.self.now { entries = xs })
     (without_one_more (take i pairs) p es

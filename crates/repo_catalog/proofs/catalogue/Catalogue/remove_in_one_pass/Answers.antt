@@ -1,7 +1,7 @@
 use Rattle.std.proofs.Common.{List, sym, ap, subst, ◌∙◌, arith}
 use Rattle.repo_catalog.specs.declared.entry.Entry.{Entry}
 use Rattle.repo_catalog.specs.Entries.{EntryList, without_all, IsCatalogue}
-use Rattle.repo_catalog.specs.NameKeys.{is_key}
+use Rattle.repo_catalog.specs.NameKeys.{IsIndexOf}
 use Rattle.repo_catalog.specs.Sums.{sums_of}
 use Rattle.repo_catalog.proofs.ManyLemmas.{without_all_rises}
 use Rattle.repo_catalog.proofs.catalogue.Catalogue.remove_in_one_pass.Goals as goal
@@ -14,10 +14,9 @@ invariant_of-self c =
     record {
       in_order = subst IsCatalogue (sym left) (without_all_rises pairs es c.self.invariant.in_order);
       none_aside = c.self.invariant.none_aside;
-      indexed = λ q.
-          c.forget.ensures.indexed q
-          ∙ ap (λ (xs : List Entry). is_key (without_all pairs xs) q) c.as_slice.ensures
-          ∙ ap (λ (xs : List Entry). is_key xs q) (sym left);
+      indexed =
+          subst (λ (xs : List Entry). IsIndexOf xs c.forget.new.names.keys c.forget.new.names.waiting)
+          (ap (λ (xs : List Entry). without_all pairs xs) c.as_slice.ensures ∙ sym left) c.forget.ensures.indexed;
       summed =
           c.forget.ensures.summed
           ∙ ap (λ (xs : List Entry). sums_of (without_all pairs xs)) c.as_slice.ensures

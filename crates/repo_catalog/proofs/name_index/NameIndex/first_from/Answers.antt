@@ -7,7 +7,7 @@ use Rattle.repo_catalog.proofs.name_index.NameIndex.first_from.Goals as goal
 pub returns-in-Some : goal.returns-in-Some
 returns-in-Some c =
     subst (λ (l : KeyList). IsFirstFrom c.args.key l.keys c.in-Some.first) c.self.view_is
-    (first_some c.args.key c.self.inside.map.entries _ c.self.invariant (sym c.in-Some.ensures.found))
+    (first_some c.args.key c.self.inside.map.entries _ c.self.invariant.in_order (sym c.in-Some.ensures.found))
 
 pub returns-in-None : goal.returns-in-None
 returns-in-None c = λ q there.

@@ -1,4 +1,4 @@
-use Rattle.std.proofs.Common.{◌≡◌, ◌&&◌, Bool, List, Some, not, sym, ap, subst, ◌∙◌, get_or, Ok, Err, arith}
+use Rattle.std.proofs.Common.{◌≡◌, ◌&&◌, List, Some, not, sym, ap, subst, ◌∙◌, get_or, Ok, Err, arith}
 use Rattle.std.specs.Prelude.{is_some}
 use Rattle.std.specs.List.{remove}
 use Rattle.std.specs.Ordering.{eq_by_cmp}
@@ -6,14 +6,14 @@ use Rattle.sorted_lists.specs.SortedList.{contains}
 use Rattle.repo_plan.specs.Parts.{Pair}
 use Rattle.repo_catalog.specs.declared.entry.Entry.{Entry}
 use Rattle.repo_catalog.specs.Entries.{EntryList, publication_of, entry_of, without, IsCatalogue}
-use Rattle.repo_catalog.specs.NameKeys.{Key, key_cmp, key_of, is_key}
+use Rattle.repo_catalog.specs.NameKeys.{Key, key_cmp, key_of, is_key, IsIndexOf}
 use Rattle.repo_catalog.specs.Sums.{sums_of}
 use Rattle.repo_catalog.proofs.EntryLemmas.{found_place, entry_at, no_entry_between, without_at, without_between}
 use Rattle.repo_catalog.proofs.EntryLemmas.{without_rises}
-use Rattle.repo_catalog.proofs.IndexLemmas.{is_key-without}
+use Rattle.repo_catalog.proofs.IndexLemmas.{is_key-without, index_less}
 use Rattle.repo_catalog.proofs.ManyLemmas.{entry_is_of}
 use Rattle.repo_catalog.proofs.SumLemmas.{sums_without}
-use Rattle.repo_catalog.proofs.catalogue.Catalogue.remove.Goals as goal
+use Rattle.repo_catalog.proofs.catalogue.Catalogue.remove_one.Goals as goal
 
 pub returns-in_default-clause-removed : goal.returns-in_default-clause-removed
 returns-in_default-clause-removed c =
@@ -53,15 +53,17 @@ invariant_of-self c =
     record {
       in_order = subst IsCatalogue (sym left) (without_rises k es c.in-Ok.ensures.ordered);
       none_aside = c.self.invariant.none_aside;
-      indexed = λ q.
-          c.remove.ensures.keys q
+      indexed =
+          rw (left, c.remove.ensures.waiting)
+          (index_less es (without k es) c.self.inside.names.keys c.remove.new.self.keys c.self.inside.names.waiting
+          (λ q. not (eq_by_cmp key_cmp q (key_of x)))
+          (λ q. is_key-without x es q (ap (λ (p : Pair). entry_of p es) (sym of) ∙ there)
+          ∙ ap (λ (p : Pair). is_key (without p es) q) (sym of))
+          (λ q. c.remove.ensures.keys q
           ∙ ap (λ (key : Key). not (eq_by_cmp key_cmp q key) && contains key_cmp c.self.inside.names.keys q)
-          c.key_of.ensures
-          ∙ ap (λ (b : Bool). not (eq_by_cmp key_cmp q (key_of x)) && b)
-          (c.self.invariant.indexed q ∙ ap (λ (l : EntryList). is_key l.entries q) c.self.view_is)
-          ∙ is_key-without x es q (ap (λ (p : Pair). entry_of p es) (sym of) ∙ there)
-          ∙ ap (λ (p : Pair). is_key (without p es) q) (sym of)
-          ∙ ap (λ (xs : List Entry). is_key xs q) (sym left);
+          c.key_of.ensures)
+          (subst (λ (l : EntryList). IsIndexOf l.entries c.self.inside.names.keys c.self.inside.names.waiting)
+          c.self.view_is c.self.invariant.indexed));
       summed =
           c.subtract.ensures (without k es)
           (c.self.invariant.summed
