@@ -6,6 +6,8 @@ use Rattle.repo_object.specs.declared.job.Job.{Job}
 use Rattle.repo_object.specs.declared.part_refusal.PartRefusal.{PartRefusal}
 use Rattle.repo_object.specs.Wants.{WantedPart}
 use Rattle.repo_object.specs.Verdict.{CheckedPart, ring_verdict, checked_part}
+use Rattle.fetch_work.specs.declared.link.Lending.{Lending}
+use Rattle.fetch_work.specs.declared.link.Lending.TheVariants as lent
 use Rattle.fetch_work.specs.declared.link.Reply.{Reply}
 use Rattle.fetch_work.specs.declared.link.Reply.TheVariants.{Lost, Came}
 
@@ -13,6 +15,12 @@ use Rattle.fetch_work.specs.declared.link.Reply.TheVariants.{Lost, Came}
 abbrev pub octets_that_came : Reply → Option (List ℕ)
 octets_that_came Lost = None
 octets_that_came (Came octets) = Some octets.now
+
+-- The octets that were lent.
+abbrev pub octets_lent : Lending → Option (List ℕ)
+octets_lent lent.Lost = None
+octets_lent (lent.Octets octets) = Some octets.now
+octets_lent (lent.Packet packet) = Some packet.now
 
 -- The part, where the verdict on its octets is that they pass.
 abbrev pub if_passed : Result Data PartRefusal → CheckedPart → Option CheckedPart

@@ -16,7 +16,7 @@ mod worker;
 
 pub use contents::digests;
 pub use laws::phases_are_alike;
-pub use link::{Link, Reply};
+pub use link::{Lending, Link, Reply};
 pub use outcome::PhaseOutcome;
 pub use phases::phase;
 pub use worker::Worker;

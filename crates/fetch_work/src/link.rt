@@ -1,8 +1,8 @@
 ghost use Rattle.std.specs.Prelude.{◌≡◌, ℕ, List, Option};
 ghost use Rattle.repo_object.specs.Wants.{WantedPart};
-ghost use Rattle.fetch_work.specs.Attempts.{octets_that_came};
+ghost use Rattle.fetch_work.specs.Attempts.{octets_that_came, octets_lent};
 
-use repo_object::Want;
+use repo_object::{Packet, Want};
 
 /// The answer to a question for a part.
 #[derive(Drop)]
@@ -11,6 +11,17 @@ pub enum Reply<'p> {
     Lost,
     /// These octets came. Nobody has checked them.
     Came(&'p [u8]),
+}
+
+/// What is lent for a part.
+#[derive(Drop)]
+pub enum Lending<'p> {
+    /// The question or its answer was lost.
+    Lost,
+    /// These octets came. Nobody has checked them.
+    Octets(&'p [u8]),
+    /// This packet came, which may be shared. Nobody has checked it.
+    Packet(&'p Packet),
 }
 
 /// What lends packets that are asked for.
@@ -23,4 +34,14 @@ pub trait Link {
     /// Asks for the part. Attempts at a part are counted from 1, over all its fetches.
     fn ask<'a>(&'a self, want: &Want, attempt: u32) -> Reply<'a>
         ensures { octets_that_came result ≡ answer self.now want.now attempt };
+
+    /// The same, for a link that has packets to share.
+    fn lend<'a>(&'a self, want: &Want, attempt: u32) -> Lending<'a>
+        ensures { octets_lent result ≡ answer self.now want.now attempt }
+    {
+        match self.ask(want, attempt) {
+            Reply::Lost => Lending::Lost,
+            Reply::Came(octets) => Lending::Octets(octets),
+        }
+    }
 }

@@ -2,10 +2,10 @@ ghost use Rattle.std.specs.Prelude.{◌≡◌, ◌+◌, ◌<◌, ◌≤◌, leng
 ghost use Rattle.repo_object.specs.Verdict.{ring_verdict};
 ghost use Rattle.fetch_work.specs.Attempts.{brings, job_at, CanBeTried, checked_reply, if_passed};
 
-use crate::link::{Link, Reply};
+use crate::link::{Lending, Link};
 use crate::trial::Trial;
 use ndn_sign::KeyRing;
-use repo_object::{Checked, Job, check_part};
+use repo_object::{Checked, Job, Packet, check_packet, check_part};
 
 // A link over which jobs are tried, and the ring that their packets are checked with.
 #[derive(Drop)]
@@ -38,16 +38,25 @@ fn try_job<'p, L: Link>(
     requires { CanBeTried (length ring.now) (before + 1) job.now }
     ensures { result ≡ brings (L.answer link.now) ring.now job.now before }
 {
-    match link.ask(&job.want, job.base + before + 1) {
-        Reply::Lost => None,
-        Reply::Came(octets) => checked(job, octets, ring),
+    match link.lend(&job.want, job.base + before + 1) {
+        Lending::Lost => None,
+        Lending::Octets(octets) => checked(job, octets, ring),
+        Lending::Packet(packet) => checked_packet(job, packet, ring),
     }
 }
 
-// The packet, where it passes for the job's want.
+// The octets, where they pass for the job's want.
 fn checked<'p>(job: &'p Job, octets: &'p [u8], ring: &'p KeyRing) -> Option<Checked<'p>>
     requires { job.now.want.part.publisher < length ring.now }
     ensures { result ≡ checked_reply job.now.want ring.now (Some octets.now) }
 {
     check_part(&job.want, octets, ring).ok()
+}
+
+// The same of a packet.
+fn checked_packet<'p>(job: &'p Job, packet: &'p Packet, ring: &'p KeyRing) -> Option<Checked<'p>>
+    requires { job.now.want.part.publisher < length ring.now }
+    ensures { result ≡ checked_reply job.now.want ring.now (Some packet.now) }
+{
+    check_packet(&job.want, packet, ring).ok()
 }

@@ -8,6 +8,7 @@ pub mod RowLemmas
 pub mod TableLemmas
 pub mod Written
 pub mod PacketSizes
+mod NameStarts
 pub mod WantLemmas
 pub mod Packing
 pub mod Passing
@@ -15,3 +16,6 @@ pub mod Publications
 pub mod Asking
 pub mod CutLemmas
 pub mod Telling
+pub mod ReadNames
+pub mod FieldLemmas
+pub mod PlaceLemmas

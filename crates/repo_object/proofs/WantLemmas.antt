@@ -3,7 +3,7 @@ use Rattle.std.proofs.Common.{◌≡◌, ℕ, ◌+◌, ◌^◌, ◌<◌, false, 
 use Rattle.std.proofs.Common.{drop, drop_at, drop-drop, append_assoc, Option, Some, None, option_map, Bor, refl, sym}
 use Rattle.std.proofs.Common.{ap}
 use Rattle.std.proofs.Common.{subst, ◌∙◌, arith}
-use Rattle.std.specs.Prelude.{IfSome, MatchOption}
+use Rattle.std.specs.Prelude.{◌≤◌, IfSome, MatchOption}
 use Rattle.std.specs.Array.{IsFirstChunk}
 use Rattle.std.proofs.lemmas.List.{append-nil, take_at, take_all}
 use Rattle.ndn_tlv.specs.Spelling.{head, element}
@@ -130,8 +130,8 @@ abbrev wanted_fields : Part → List Component → Option (List ℕ) → Option 
 wanted_fields part name digest lists interest =
     record { part = part; name = name; digest = digest; lists = lists; interest = interest }
 
-module _ (octets : List ℕ) (digest : Option (List ℕ)) (is : IsSpelled octets) (long : Long digest) (asked : ℕ)
-    (front named interest : List ℕ) (start end : ℕ) (has : Bool)
+module _ (octets : List ℕ) (digest : Option (List ℕ)) (is : IsSpelled octets) (short : length octets ≤ 900)
+    (long : Long digest) (asked : ℕ) (front named interest : List ℕ) (start end : ℕ) (has : Bool)
     (size : asked ≡ length octets + length (digest_component digest)) (begins : front ≡ interest_front asked)
     (goes_on : named ≡ front ++ octets) (ends : interest ≡ named ++ digest_component digest)
     (starts : start ≡ length front) (behind : end ≡ length named) (tells : has ≡ is_some digest) where
@@ -183,6 +183,7 @@ module _ (octets : List ℕ) (digest : Option (List ℕ)) (is : IsSpelled octets
         ∙ ap (λ (n : List Component). written_plain (asked_name n digest) false) (sym want_name)
         ∙ ap (λ (d : Option (List ℕ)).
         written_plain (asked_name (components (name_between interest start end)) d) false) (sym want_digest);
+    short = omega (arith, short, ap length between);
     in_order = omega (arith, starts, behind, ap length goes_on, length-append front octets);
     within = omega (arith, behind, ap length ends, length-append named (digest_component digest));
   }

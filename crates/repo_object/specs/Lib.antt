@@ -21,4 +21,8 @@ pub mod Said
 pub mod NameParts
 pub mod Wants
 pub mod Verdict
+pub mod Shown
+pub mod Packets
+pub mod Bodies
+pub mod Forms
 pub mod Cuts

@@ -9,6 +9,7 @@ use Rattle.ndn_interest.specs.WrittenInterest.{written_plain}
 use Rattle.repo_plan.specs.declared.part.Part.{Part}
 use Rattle.repo_plan.specs.declared.shape.Shape.{Shape}
 use Rattle.repo_plan.specs.Parts.{most_listed}
+use Rattle.repo_object.specs.NameParts.{IsSpelled}
 use Rattle.repo_object.specs.Objects.{record_name, segment_name}
 use Rattle.repo_object.specs.Publication.{Listed}
 
@@ -76,6 +77,12 @@ name_between interest start end = drop start (take end interest)
 abbrev pub digest_behind : List ℕ → ℕ → Bool → Option (List ℕ)
 digest_behind interest end has_digest = if has_digest then Some (drop (end + 2) interest) else None
 
+-- A name of these octets and a digest, if one is known, of which a want can be made.
+pub record IsExpected (octets : List ℕ) (digest : Option (List ℕ)) : Type 0 where
+  pub spelled : IsSpelled octets
+  pub short : length octets ≤ 900
+  pub long : IfSome digest (λ d. length d ≡ 32)
+
 -- The Interest is written of the name that stands between these places, and of the digest behind it.
 pub record WantIsWritten (interest : List ℕ) (start end : ℕ) (has_digest : Bool) : Type 0 where
   pub name : IsName (components (name_between interest start end))
@@ -83,5 +90,6 @@ pub record WantIsWritten (interest : List ℕ) (start end : ℕ) (has_digest : B
   pub digest : IfSome (digest_behind interest end has_digest) (λ digest. length digest ≡ 32)
   pub written : interest ≡ written_plain
       (asked_name (components (name_between interest start end)) (digest_behind interest end has_digest)) false
+  pub short : length (name_between interest start end) ≤ 900
   pub in_order : start ≤ end
   pub within : end ≤ length interest

@@ -1,39 +1,45 @@
 ghost use Rattle.std.specs.Prelude.{◌≡◌, ◌<◌, length, option_map, MatchResult, IfOk, IfSome, IsOk, Err};
 ghost use Rattle.sha2.specs.Sha256.{sha256};
+ghost use Rattle.repo_object.specs.Shown.{octets_shown};
 ghost use Rattle.repo_object.specs.Verdict.{ring_verdict, checked_part, IsChecked};
 
+use crate::packet::Packet;
 use crate::part_refusal::PartRefusal;
+use crate::shown::Shown;
 use crate::want::Want;
 use ndn_sign::KeyRing;
 use repo_plan::Part;
+use std::alloc::{AllocError, Global};
 use std::marker::Model;
 
 /// A packet that passed every check for a want, under the key of the want's publisher.
 ///
-/// Only [`check_part`] makes one.
+/// Only [`check_part`] and [`check_packet`] make one.
 #[derive(Debug, Drop)]
 pub struct Checked<'p> {
     want: &'p Want,
-    octets: &'p [u8],
+    shown: Shown<'p>,
     key_name: &'p [u8],
     key: &'p [u8],
 }
 
+// Whether its octets were checked as a packet shows in no clause.
 impl<'p> Model for Checked<'p> {
+    ghost use Rattle.repo_object.specs.Shown.{octets_shown};
     ghost use Rattle.repo_object.specs.Verdict.{CheckedPart, IsChecked};
 
     ghost Value = { CheckedPart };
 
     ghost view = { λ c. record {
       want = c.want.now;
-      octets = c.octets.now;
+      octets = octets_shown c.shown;
       key_name = c.key_name.now;
       key = c.key.now;
     } };
 
     ghost invariant = { λ c. IsChecked (record {
       want = c.want.now;
-      octets = c.octets.now;
+      octets = octets_shown c.shown;
       key_name = c.key_name.now;
       key = c.key.now;
     }) };
@@ -52,23 +58,64 @@ pub fn check_part<'p>(
         (λ refusal. ring_verdict want.now ring.now octets.now ≡ Err refusal) }
     ensures checked { IfOk result (λ checked. checked ≡ checked_part want.now ring.now octets.now) }
 {
-    want.check(octets, ring)?;
+    check(want, Shown::Octets(octets), ring)
+}
+
+/// The same of a packet, which may then be shared. Its digest isn't taken again.
+pub fn check_packet<'p>(
+    want: &'p Want,
+    packet: &'p Packet,
+    ring: &'p KeyRing,
+) -> Result<Checked<'p>, PartRefusal>
+    requires { want.now.part.publisher < length ring.now }
+    ensures verdict { MatchResult result
+        (λ _. IsOk (ring_verdict want.now ring.now packet.now))
+        (λ refusal. ring_verdict want.now ring.now packet.now ≡ Err refusal) }
+    ensures checked { IfOk result (λ checked. checked ≡ checked_part want.now ring.now packet.now) }
+{
+    check(want, Shown::Packet(packet), ring)
+}
+
+// The same of either.
+fn check<'p>(
+    want: &'p Want,
+    shown: Shown<'p>,
+    ring: &'p KeyRing,
+) -> Result<Checked<'p>, PartRefusal>
+    requires { want.now.part.publisher < length ring.now }
+    ensures verdict { MatchResult result
+        (λ _. IsOk (ring_verdict want.now ring.now (octets_shown shown.entry)))
+        (λ refusal. ring_verdict want.now ring.now (octets_shown shown.entry) ≡ Err refusal) }
+    ensures checked { IfOk result
+        (λ checked. checked ≡ checked_part want.now ring.now (octets_shown shown.entry)) }
+{
+    want.check_shown(&shown, ring)?;
     let publisher = want.part().publisher;
     Ok(Checked {
         want,
-        octets,
+        shown,
         key_name: ring.name(publisher),
         key: ring.key(publisher),
     })
 }
 
 impl<'p> Checked<'p> {
-    /// The packet.
+    /// The packet's octets.
     pub fn octets(&self) -> &'p [u8]
         ensures same { result.now ≡ self.now.octets }
         ensures passed { IsChecked self.now }
     {
-        self.octets
+        self.shown.octets()
+    }
+
+    /// The packet, which is shared where it was checked as one, and else made of the octets that were checked.
+    pub fn to_packet(&self, alloc: Global) -> Result<Packet, AllocError>
+        ensures { IfOk result (λ packet. packet ≡ self.now.octets) }
+    {
+        match self.shown {
+            Shown::Octets(octets) => Packet::new(alloc, octets.to_vec(alloc)?, self.want.digest()),
+            Shown::Packet(packet) => packet.share(alloc),
+        }
     }
 
     /// The packet's digest, where the want tells it: the check compared it.

@@ -4,17 +4,19 @@
 //! What is promised of it: `docs/promises/repo_object.md`.
 #![tactic(auto)]
 
+mod body;
 mod checked;
 mod contents;
 mod cutting;
-mod digested;
 mod digests_view;
+mod expected;
 mod job;
 mod laws;
 mod listing_view;
 mod name_parts;
 mod names;
 mod object;
+mod packet;
 mod packets;
 mod part_refusal;
 mod record;
@@ -22,13 +24,14 @@ mod record_fault;
 mod record_fields;
 mod record_types;
 mod record_view;
+mod shown;
 mod verdict;
 mod want;
 
-pub use checked::{Checked, check_part};
+pub use checked::{Checked, check_packet, check_part};
 pub use cutting::{CutFault, cut};
-pub use digested::Digested;
 pub use digests_view::DigestsView;
+pub use expected::Expected;
 pub use job::Job;
 pub use laws::{
     cut_pieces_are_the_content, each_kind_has_its_own_table, index_packets_are_read_so,
@@ -42,7 +45,8 @@ pub use names::{NODE_NAME_LIMIT, key_name};
 pub use object::{
     CONTENT_LIMIT, MOST_LISTED, OBJECT_NAME_LIMIT, Object, SEGMENT_LIMIT, is_object_name,
 };
-pub use packets::{digested_packets_of, packet_of, packets_of, record_packet, withdrawal_packet};
+pub use packet::Packet;
+pub use packets::{packet_of, packets_of, shared_packets_of, withdrawal_packet};
 pub use part_refusal::PartRefusal;
 pub use record::{Listing, Record, is_record, read_index, read_record};
 pub use record_fault::RecordFault;

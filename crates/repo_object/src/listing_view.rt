@@ -7,6 +7,7 @@ ghost use Rattle.repo_object.specs.Formats.{IsListing};
 ghost use Rattle.repo_object.specs.Wants.{listed_in, want_index, want_segment};
 
 use crate::digests_view::DigestsView;
+use crate::expected::Expected;
 use crate::want::{Want, listed_in};
 use ndn_name::{Name, NameView};
 use repo_plan::{Part, Shape};
@@ -86,6 +87,27 @@ impl<'p> ListingView<'p> {
         listed_in(self.segments, k)
     }
 
+    /// What an index packet must be that the record lists, of a node of a group.
+    pub fn index<'w>(&'w self, part: Part, node: &'w Name, group: &'w Name) -> Expected<'w>
+        requires indexed { IsTrue (is_indexed self.now.segments) }
+        requires index { 0 < part.part }
+        requires listed { part.part ≤ length self.now.digests }
+        requires node { length (encoding node.now) ≤ node_name_limit }
+        requires group { length (encoding group.now) ≤ node_name_limit }
+        ensures { result ≡ want_index part self.now node.now group.now }
+    {
+        let digest = self.digests.get(usize::from(part.part - 1)).unwrap();
+        Expected::of_index(part, self.segments, digest, node, group)
+    }
+
+    /// What a segment must be whose digest the record or an index packet lists.
+    pub fn segment<'w>(&'w self, part: Part, digest: &'w [u8; 32]) -> Expected<'w>
+        requires segment { (shape_of_segments self.now.segments).index < part.part }
+        ensures { result ≡ want_segment part (shape_of_segments self.now.segments) self.now.name digest.now }
+    {
+        Expected::of_segment(part, self.shape(), &self.name, digest)
+    }
+
     /// The want of an index packet that the record lists, of a node of a group.
     pub fn want_index(
         &self,
@@ -101,8 +123,7 @@ impl<'p> ListingView<'p> {
         requires group { length (encoding group.now) ≤ node_name_limit }
         ensures { IfOk result (λ want. want ≡ want_index part self.now node.now group.now) }
     {
-        let digest = self.digests.get(usize::from(part.part - 1)).unwrap();
-        Want::of_index(alloc, part, self.segments, digest, node, group)
+        self.index(part, node, group).to_want(alloc)
     }
 
     /// The want of a segment, whose digest is listed by the record or by an index packet.
@@ -116,6 +137,6 @@ impl<'p> ListingView<'p> {
         ensures { IfOk result (λ want. want
             ≡ want_segment part (shape_of_segments self.now.segments) self.now.name digest.now) }
     {
-        Want::of_segment(alloc, part, self.shape(), &self.name, digest)
+        self.segment(part, digest).to_want(alloc)
     }
 }

@@ -1,4 +1,6 @@
-ghost use Rattle.std.specs.Prelude.{◌≡◌, ◌+◌, ◌≤◌, ◌<◌, ◌++◌, length, OnOk};
+ghost use Rattle.std.specs.Prelude.{◌≡◌, ◌≢◌, ◌+◌, ◌≤◌, ◌<◌, ◌++◌, ℕ, List, length, OnOk, MatchOption};
+ghost use Rattle.std.specs.Str.{bytes_eq};
+ghost use Rattle.ndn_tlv.specs.Spelling.{element};
 ghost use Rattle.repo_object.specs.NameParts.{numbered, spelled};
 
 use ndn_packet::{element_len, number_field_len};
@@ -28,6 +30,25 @@ impl NameParts<'_> {
     {
         let numbers = number_len(SEQUENCE_NUM, self.seq) + number_len(SEGMENT, self.segment);
         self.first.len() + self.second.len() + numbers
+    }
+
+    // Whether these are the name's octets. It takes no memory.
+    pub(crate) fn is(&self, octets: &[u8]) -> bool
+        ensures { result ≡ bytes_eq octets.now (spelled self.now) }
+    {
+        let Some(rest) = after(octets, self.first) else {
+            return false;
+        };
+        let Some(rest) = after(rest, self.second) else {
+            return false;
+        };
+        let Some(rest) = after_number(rest, SEQUENCE_NUM as u8, self.seq) else {
+            return false;
+        };
+        let Some(rest) = after_number(rest, SEGMENT as u8, self.segment) else {
+            return false;
+        };
+        rest.is_empty()
     }
 
     // Appends the name's octets.
@@ -60,5 +81,39 @@ fn put_number(writer: &mut Writer, typ: u32, number: Option<u16>) -> Result<(), 
     match number {
         Some(n) => writer.put_number(typ, u64::from(n)),
         None => Ok(()),
+    }
+}
+
+// What comes after this prefix, where the octets begin so.
+fn after<'o>(octets: &'o [u8], prefix: &[u8]) -> Option<&'o [u8]>
+    ensures { MatchOption result ((rest : List ℕ) → octets.now ≢ prefix.now ++ rest)
+        (λ rest. octets.now ≡ prefix.now ++ rest.now) }
+{
+    octets.strip_prefix(prefix)
+}
+
+// What comes after this component, where the octets begin so.
+fn after_component<'o>(octets: &'o [u8], typ: u8, value: &[u8]) -> Option<&'o [u8]>
+    requires typ { typ < 253 }
+    requires short { length value.now < 253 }
+    ensures { MatchOption result ((rest : List ℕ) → octets.now ≢ element typ value.now ++ rest)
+        (λ rest. octets.now ≡ element typ value.now ++ rest.now) }
+{
+    let Some(rest) = after(octets, &[typ, value.len() as u8]) else {
+        return None;
+    };
+    after(rest, value)
+}
+
+// What comes after the component of this type that is a number, where there is one and the octets begin so.
+fn after_number(octets: &[u8], typ: u8, number: Option<u16>) -> Option<&[u8]>
+    requires { typ < 253 }
+    ensures { MatchOption result ((rest : List ℕ) → octets.now ≢ numbered typ number ++ rest)
+        (λ rest. octets.now ≡ numbered typ number ++ rest.now) }
+{
+    match number {
+        None => Some(octets),
+        Some(n) if n < 256 => after_component(octets, typ, &(n as u8).to_be_bytes()),
+        Some(n) => after_component(octets, typ, &n.to_be_bytes()),
     }
 }

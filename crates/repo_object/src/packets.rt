@@ -1,23 +1,24 @@
 ghost use Rattle.std.specs.Prelude.{◌≡◌, ◌+◌, ◌-◌, ◌*◌, ◌≤◌, ◌<◌, [], ◌∷◌, ◌++◌, length, map};
-ghost use Rattle.std.specs.Prelude.{option_map, slice_get, IfOk, None, if◌then◌else◌};
+ghost use Rattle.std.specs.Prelude.{option_map, slice_get, IsOk, IfOk, None, if◌then◌else◌};
 ghost use Rattle.std.specs.List.{All};
 ghost use Rattle.sha2.specs.Sha256.{sha256};
 ghost use Rattle.ndn_name.specs.Names.{encoding};
 ghost use Rattle.ndn_packet.specs.Outer.{packet_limit};
+ghost use Rattle.ndn_data.specs.Data.{data_of};
 ghost use Rattle.ndn_data.specs.WrittenData.{written_data};
 ghost use Rattle.repo_plan.specs.Parts.{most_listed, index_packets, shape_of_segments};
 ghost use Rattle.repo_object.specs.Limits.{node_name_limit, object_name_limit, segment_limit, content_limit};
 ghost use Rattle.repo_object.specs.Objects.{publisher, IsContent};
 ghost use Rattle.repo_object.specs.Objects.Post.{Offers, Withdraws};
-ghost use Rattle.repo_object.specs.Publication.{packets, packet_at, record_packet, record_content, index_content};
+ghost use Rattle.repo_object.specs.Publication.{packets, packet_at, record_content, index_content};
 ghost use Rattle.repo_object.specs.Publication.{index_contents, segment_packet, segment_packets_from, packets_under};
 ghost use Rattle.repo_object.specs.Publication.{listed_by, is_indexed, count_listed};
 ghost use Rattle.repo_object.specs.Records.{listed_record};
 
 use crate::contents::{index_content, listing_content, withdrawal_content};
-use crate::digested::Digested;
 use crate::names::{key_name, record_name, segment_name};
 use crate::object::{MOST_LISTED, Object};
+use crate::packet::Packet;
 use ndn_data::write_signed;
 use ndn_name::{Name, PacketWriteFault};
 use repo_plan::Shape;
@@ -38,24 +39,21 @@ pub fn packets_of(
     ensures { IfOk result (λ made. map (λ packet. packet.items) made.items
         ≡ packets (publisher node.now group.now key.now) seq (Offers object.now)) }
 {
-    let made = digested_packets_of(alloc, object, seq, node, group, key)?;
-    let mut packets = Vec::with_capacity(alloc, made.len())?;
-    for packet in made {
-        let (octets, _) = packet.into_parts();
-        packets.push(octets)?;
-    }
-    Ok(packets)
+    octets_of(
+        alloc,
+        &shared_packets_of(alloc, object, seq, node, group, key)?,
+    )
 }
 
-/// The same, each with its digest: those that are listed are the ones that the record and the index packets list.
-pub fn digested_packets_of(
+/// The same as packets that can be shared, with their digests: the record and the index packets list those of others.
+pub fn shared_packets_of(
     alloc: Global,
     object: &Object,
     seq: u16,
     node: &Name,
     group: &Name,
     key: &[u8],
-) -> Result<Vec<Digested>, AllocError>
+) -> Result<Vec<Packet>, AllocError>
     requires node { length (encoding node.now) ≤ node_name_limit }
     requires group { length (encoding group.now) ≤ node_name_limit }
     ensures { IfOk result (λ made. made.items
@@ -63,7 +61,7 @@ pub fn digested_packets_of(
 {
     let (record, mut indexes, mut segments) = made(alloc, object, seq, node, group, key)?;
     let mut packets = Vec::with_capacity(alloc, 1 + indexes.len() + segments.len())?;
-    packets.push(Digested::new(record, None))?;
+    packets.push(Packet::new(alloc, record, None)?)?;
     packets.append(&mut indexes)?;
     packets.append(&mut segments)?;
     Ok(packets)
@@ -101,29 +99,6 @@ pub fn packet_of(
     segment_alone(alloc, object, i, &key_name, key)
 }
 
-/// The packet of the record of an object's publication, where the digests that it lists are at hand: those of the index
-/// packets, or of the segments' packets where there are none. No other packet is made.
-pub fn record_packet(
-    alloc: Global,
-    object: &Object,
-    digests: &[[u8; 32]],
-    seq: u16,
-    node: &Name,
-    group: &Name,
-    key: &[u8],
-) -> Result<Vec<u8>, AllocError>
-    requires count { length digests.now ≡ count_listed (length object.now.contents) }
-    requires node { length (encoding node.now) ≤ node_name_limit }
-    requires group { length (encoding group.now) ≤ node_name_limit }
-    ensures { IfOk result (λ packet. packet.items ≡ record_packet (publisher node.now group.now key.now) seq
-        (listed_record object.now.name (length object.now.contents) digests.now)) }
-{
-    let key_name = key_name(node)?;
-    let name = record_name(node, group, seq)?;
-    let count = object.contents().len() as u16;
-    listing_packet(alloc, &name, object.name(), count, digests, &key_name, key)
-}
-
 /// The packet of the record by which a node of a group withdraws, with its publication of number `seq`, what it
 /// published under an earlier number, signed with the node's key. It is the only packet of the publication.
 pub fn withdrawal_packet(
@@ -138,8 +113,9 @@ pub fn withdrawal_packet(
     requires earlier { withdrawn < seq }
     requires node { length (encoding node.now) ≤ node_name_limit }
     requires group { length (encoding group.now) ≤ node_name_limit }
-    ensures { IfOk result (λ packet. packet.items ∷ []
+    ensures made { IfOk result (λ packet. packet.items ∷ []
         ≡ packets (publisher node.now group.now key.now) seq (Withdraws withdrawn)) }
+    ensures data { IfOk result (λ packet. IsOk (data_of packet.items)) }
 {
     let content = withdrawal_content(alloc, withdrawn)?;
     let name = record_name(node, group, seq)?;
@@ -155,11 +131,12 @@ fn made(
     node: &Name,
     group: &Name,
     key: &[u8],
-) -> Result<(Vec<u8>, Vec<Digested>, Vec<Digested>), AllocError>
+) -> Result<(Vec<u8>, Vec<Packet>, Vec<Packet>), AllocError>
     requires node { length (encoding node.now) ≤ node_name_limit }
     requires group { length (encoding group.now) ≤ node_name_limit }
-    ensures { IfOk result (λ made. made.0.items ∷ (made.1.items ++ made.2.items)
+    ensures made { IfOk result (λ made. made.0.items ∷ (made.1.items ++ made.2.items)
         ≡ packets (publisher node.now group.now key.now) seq (Offers object.now)) }
+    ensures data { IfOk result (λ made. IsOk (data_of made.0.items)) }
 {
     let key_name = key_name(node)?;
     let name = record_name(node, group, seq)?;
@@ -174,7 +151,7 @@ fn made(
 }
 
 // Those that the record lists: the index packets where there are some, and else the segments.
-fn listed<'m>(segments: &'m [Digested], indexes: &'m [Digested]) -> &'m [Digested]
+fn listed<'m>(segments: &'m [Packet], indexes: &'m [Packet]) -> &'m [Packet]
     requires { length indexes.now ≡ index_packets (length segments.now) }
     ensures same { result.now ≡ (if is_indexed (length segments.now) then indexes.now else segments.now) }
     ensures count { length result.now ≡ count_listed (length segments.now) }
@@ -185,13 +162,24 @@ fn listed<'m>(segments: &'m [Digested], indexes: &'m [Digested]) -> &'m [Digeste
     indexes
 }
 
+// The octets of packets, copied.
+fn octets_of(alloc: Global, packets: &[Packet]) -> Result<Vec<Vec<u8>>, AllocError>
+    ensures { IfOk result (λ copied. map (λ octets. octets.items) copied.items ≡ packets.now) }
+{
+    let mut copied = Vec::with_capacity(alloc, packets.len())?;
+    for packet in packets {
+        copied.push(packet.octets().to_vec(alloc)?)?;
+    }
+    Ok(copied)
+}
+
 // The digests of packets.
-fn digests_of(alloc: Global, packets: &[Digested]) -> Result<Vec<[u8; 32]>, AllocError>
+fn digests_of(alloc: Global, packets: &[Packet]) -> Result<Vec<[u8; 32]>, AllocError>
     ensures { IfOk result (λ digests. digests.items ≡ map sha256 packets.now) }
 {
     let mut digests = Vec::with_capacity(alloc, packets.len())?;
     for packet in packets {
-        digests.push(*packet.digest())?;
+        digests.push(packet.digest())?;
     }
     Ok(digests)
 }
@@ -206,7 +194,7 @@ fn segments_from(
     contents: &[Vec<u8>],
     key_name: &Name,
     key: &[u8],
-) -> Result<Vec<Digested>, AllocError>
+) -> Result<Vec<Packet>, AllocError>
     requires name { length (encoding name.now) ≤ object_name_limit }
     requires last { last < segment_limit }
     requires numbers { first + length contents.now ≤ segment_limit }
@@ -219,8 +207,9 @@ fn segments_from(
     let mut packets = Vec::with_capacity(alloc, contents.len())?;
     for (i, content) in contents.iter().enumerate() {
         let number = first + i as u16;
-        let packet = numbered_packet(alloc, name, last, number, content, key_name, key)?;
-        packets.push(Digested::new(packet, None))?;
+        let octets = numbered_packet(alloc, name, last, number, content, key_name, key)?;
+        let packet = Packet::new(alloc, octets, None)?;
+        packets.push(packet)?;
     }
     Ok(packets)
 }
@@ -229,10 +218,10 @@ fn segments_from(
 fn index_packets(
     alloc: Global,
     name: &Name,
-    segments: &[Digested],
+    segments: &[Packet],
     key_name: &Name,
     key: &[u8],
-) -> Result<Vec<Digested>, AllocError>
+) -> Result<Vec<Packet>, AllocError>
     requires name { length (encoding name.now) ≤ 404 }
     requires few { length segments.now ≤ segment_limit }
     requires key_name { length (encoding key_name.now) ≤ 205 }
@@ -244,8 +233,9 @@ fn index_packets(
     let last = count.saturating_sub(1);
     let mut packets = Vec::with_capacity(alloc, usize::from(count))?;
     for k in 0..count {
-        let packet = index_packet(alloc, name, last, k, listed_by(segments, k), key_name, key)?;
-        packets.push(Digested::new(packet, None))?;
+        let octets = index_packet(alloc, name, last, k, listed_by(segments, k), key_name, key)?;
+        let packet = Packet::new(alloc, octets, None)?;
+        packets.push(packet)?;
     }
     Ok(packets)
 }
@@ -313,7 +303,7 @@ fn index_packet(
     name: &Name,
     last: u16,
     k: u16,
-    listed: &[Digested],
+    listed: &[Packet],
     key_name: &Name,
     key: &[u8],
 ) -> Result<Vec<u8>, AllocError>
@@ -322,8 +312,9 @@ fn index_packet(
     requires number { k < segment_limit }
     requires few { length listed.now ≤ most_listed }
     requires key_name { length (encoding key_name.now) ≤ 205 }
-    ensures { IfOk result (λ packet. packet.items
+    ensures written { IfOk result (λ packet. packet.items
         ≡ segment_packet key_name.now key.now name.now last k (index_content (map sha256 listed.now))) }
+    ensures data { IfOk result (λ packet. IsOk (data_of packet.items)) }
 {
     let digests = digests_of(alloc, listed)?;
     let content = index_content(alloc, &digests)?;
@@ -343,8 +334,9 @@ fn numbered_packet(
     requires name { length (encoding name.now) ≤ 404 }
     requires content { length content.now ≤ content_limit }
     requires key_name { length (encoding key_name.now) ≤ 205 }
-    ensures { IfOk result (λ packet. packet.items
+    ensures written { IfOk result (λ packet. packet.items
         ≡ segment_packet key_name.now key.now name.now last i content.now) }
+    ensures data { IfOk result (λ packet. IsOk (data_of packet.items)) }
 {
     let name = segment_name(name.clone()?, i)?;
     write_packet(alloc, &name, Some(u64::from(last)), content, key_name, key)
@@ -365,8 +357,9 @@ fn listing_packet(
     requires few { segments ≤ segment_limit }
     requires count { length digests.now ≡ count_listed segments }
     requires key_name { length (encoding key_name.now) ≤ 205 }
-    ensures { IfOk result (λ packet. packet.items ≡ written_data name.now None
+    ensures written { IfOk result (λ packet. packet.items ≡ written_data name.now None
         (record_content (listed_record object.now segments digests.now)) key_name.now key.now) }
+    ensures data { IfOk result (λ packet. IsOk (data_of packet.items)) }
 {
     let content = listing_content(alloc, object, segments, digests)?;
     write_packet(alloc, name, None, &content, key_name, key)
@@ -382,8 +375,11 @@ fn write_packet(
     key: &[u8],
 ) -> Result<Vec<u8>, AllocError>
     requires { length (written_data name.now last content.now key_name.now key.now) ≤ packet_limit }
-    ensures { IfOk result
+    ensures written { IfOk result
         (λ packet. packet.items ≡ written_data name.now last content.now key_name.now key.now) }
+    ensures data { IfOk result (λ packet. IsOk (data_of packet.items)) }
 {
+    name.is_sound();
+    key_name.is_sound();
     write_signed(alloc, name, last, content, key_name, key).map_err(PacketWriteFault::only_memory)
 }

@@ -1,34 +1,36 @@
 ghost use Rattle.std.specs.Prelude.{◌≡◌, ◌<◌, ◌==◌, ◌||◌, not, length, MatchResult, Ok, Err};
 ghost use Rattle.ndn_data.specs.Data.{data_seen};
 ghost use Rattle.repo_object.specs.Records.{record_of};
+ghost use Rattle.repo_object.specs.Shown.{octets_shown};
 ghost use Rattle.repo_object.specs.Verdict.{is_all_signed, locates, names_key, is_signed_by, may_say};
 ghost use Rattle.repo_object.specs.Verdict.{lists_as_many, is_well_said, packet_verdict, key_at};
 
+use crate::expected::Expected;
 use crate::part_refusal::PartRefusal;
 use crate::record::is_index;
 use crate::record_view::RecordView;
-use crate::want::Want;
+use crate::shown::Shown;
 use ndn_data::DataView;
 use ndn_name::NameView;
 use ndn_packet::SIGNATURE_HMAC_WITH_SHA256;
 use ndn_sign::KeyRing;
 use repo_plan::Part;
 
-// Whether octets that are this packet are what is expected, under the key that the ring has at that number.
+// Whether what is shown, which is this packet, is what is expected, under the key that the ring has at that number.
 pub(crate) fn judge(
-    want: &Want,
+    want: &Expected<'_>,
     ring: &KeyRing,
     number: u32,
-    octets: &[u8],
+    shown: &Shown<'_>,
     view: &DataView<'_>,
 ) -> Result<(), PartRefusal>
     requires { number < length ring.now }
     ensures { MatchResult result
-        (λ _. packet_verdict want.now (key_at ring.now number).name (key_at ring.now number).key octets.now
-        (data_seen view.now)
+        (λ _. packet_verdict want.now (key_at ring.now number).name (key_at ring.now number).key
+        (octets_shown shown.now) (data_seen view.now)
         ≡ Ok (data_seen view.now))
-        (λ refusal. packet_verdict want.now (key_at ring.now number).name (key_at ring.now number).key octets.now
-        (data_seen view.now)
+        (λ refusal. packet_verdict want.now (key_at ring.now number).name (key_at ring.now number).key
+        (octets_shown shown.now) (data_seen view.now)
         ≡ Err refusal) }
 {
     if !is_all_signed(view) {
@@ -37,7 +39,7 @@ pub(crate) fn judge(
     if !want.has_name(view) {
         return Err(PartRefusal::OtherName);
     }
-    if !want.has_digest(octets) {
+    if !want.has_digest(shown) {
         return Err(PartRefusal::OtherDigest);
     }
     if !names_key(ring.name(number), view) {
@@ -85,7 +87,7 @@ fn is_signed_by(ring: &KeyRing, number: u32, view: &DataView<'_>) -> bool
 
 // Whether a record's content is one that the publication may have, and an index packet's lists as many digests as it
 // has to.
-fn is_well_said(want: &Want, view: &DataView<'_>) -> bool
+fn is_well_said(want: &Expected<'_>, view: &DataView<'_>) -> bool
     ensures { result ≡ is_well_said want.now (data_seen view.now) }
 {
     may_say(want.part(), view.content) && lists_as_many(want.lists(), view.content)

@@ -11,17 +11,18 @@ ghost use Rattle.repo_object.specs.NameParts.{spelled, IsSpelled};
 ghost use Rattle.repo_object.specs.Wants.{wanted_part, want_record, want_index, want_segment, listed_in};
 ghost use Rattle.repo_object.specs.Wants.{interest_front};
 ghost use Rattle.repo_object.specs.Wants.{digest_component};
+ghost use Rattle.repo_object.specs.Shown.{octets_shown};
 ghost use Rattle.repo_object.specs.Verdict.{data_has_name, has_digest, ring_verdict};
 
+use crate::expected::Expected;
 use crate::name_parts::NameParts;
 use crate::object::MOST_LISTED;
 use crate::part_refusal::PartRefusal;
 use crate::record::Record;
-use crate::verdict::judge;
-use ndn_data::DataView;
-use ndn_name::{Name, NameView};
+use crate::shown::Shown;
+use ndn_name::Name;
 use ndn_packet::{DIGEST_ELEMENT_LEN, element_len};
-use ndn_sign::{KeyRing, digest as digest_of};
+use ndn_sign::KeyRing;
 use ndn_tlv::{Writer, types};
 use repo_plan::{Part, Shape};
 use std::alloc::{AllocError, Global};
@@ -66,13 +67,7 @@ pub fn want_record(alloc: Global, part: Part, node: &Name, group: &Name) -> Resu
     requires group { length (encoding group.now) ≤ node_name_limit }
     ensures { IfOk result (λ want. want ≡ want_record part node.now group.now) }
 {
-    let name = NameParts {
-        first: node.octets(),
-        second: group.octets(),
-        seq: Some(part.seq),
-        segment: None,
-    };
-    Want::written(alloc, part, None, &name, None)
+    Expected::record(part, node, group).to_want(alloc)
 }
 
 /// The want of an index packet that a record lists, of a publication of that node in that group.
@@ -98,7 +93,7 @@ pub fn want_index(
         unreachable!()
     };
     let digest = &digests[usize::from(part.part - 1)];
-    Want::of_index(alloc, part, *segments, digest, node, group)
+    Expected::of_index(part, *segments, digest, node, group).to_want(alloc)
 }
 
 /// The want of a segment of an object of this name, whose publication has this shape. Its record or one of its index
@@ -114,65 +109,12 @@ pub fn want_segment(
     requires name { length (encoding name.now) ≤ object_name_limit }
     ensures { IfOk result (λ want. want ≡ want_segment part shape name.now digest.now) }
 {
-    Want::of_segment(alloc, part, shape, &name.view(), digest)
+    Expected::of_segment(part, shape, &name.view(), digest).to_want(alloc)
 }
 
 impl Want {
-    // The want of an index packet of this digest, of a publication of so many segments.
-    pub(crate) fn of_index(
-        alloc: Global,
-        part: Part,
-        segments: u16,
-        digest: &[u8; 32],
-        node: &Name,
-        group: &Name,
-    ) -> Result<Want, AllocError>
-        requires index { 0 < part.part }
-        requires node { length (encoding node.now) ≤ node_name_limit }
-        requires group { length (encoding group.now) ≤ node_name_limit }
-        ensures { IfOk result (λ want. want ≡ wanted_part part
-            (segment_name (record_name node.now group.now part.seq) (part.part - 1)) (Some digest.now)
-            (Some (listed_in segments (part.part - 1)))) }
-    {
-        let k = part.part - 1;
-        let name = NameParts {
-            first: node.octets(),
-            second: group.octets(),
-            seq: Some(part.seq),
-            segment: Some(k),
-        };
-        Want::written(
-            alloc,
-            part,
-            Some(listed_in(segments, k)),
-            &name,
-            Some(digest),
-        )
-    }
-
-    // The want of a segment of this digest.
-    pub(crate) fn of_segment(
-        alloc: Global,
-        part: Part,
-        shape: Shape,
-        name: &NameView<'_>,
-        digest: &[u8; 32],
-    ) -> Result<Want, AllocError>
-        requires segment { shape.index < part.part }
-        requires name { length (encoding name.now) ≤ object_name_limit }
-        ensures { IfOk result (λ want. want ≡ want_segment part shape name.now digest.now) }
-    {
-        let name = NameParts {
-            first: name.octets(),
-            second: &[],
-            seq: None,
-            segment: Some(part.part - shape.index - 1),
-        };
-        Want::written(alloc, part, None, &name, Some(digest))
-    }
-
     // The want of a packet of this name and digest.
-    fn written(
+    pub(crate) fn written(
         alloc: Global,
         part: Part,
         lists: Option<u16>,
@@ -225,11 +167,13 @@ impl Want {
         digest.first_chunk()
     }
 
-    // How many digests the packet has to list, if it is an index packet.
-    pub(crate) fn lists(&self) -> Option<u16>
-        ensures { result ≡ self.now.lists }
+    // What it says of the packet.
+    fn expected(&self) -> Expected<'_>
+        ensures { result ≡ self.now }
     {
-        self.lists
+        let (front, _) = self.interest.split_at(self.name_end);
+        let (_, name) = front.split_at(self.name_start);
+        Expected::kept(self.part, self.lists, name, self.digest())
     }
 
     /// Whether the octets are the packet that is wanted, under the key that the ring has at its publisher's number, or
@@ -240,27 +184,17 @@ impl Want {
             (λ _. IsOk (ring_verdict self.now ring.now octets.now))
             (λ refusal. ring_verdict self.now ring.now octets.now ≡ Err refusal) }
     {
-        let data = DataView::read(octets)?;
-        judge(self, ring, self.part.publisher, octets, &data)
+        self.check_shown(&Shown::Octets(octets), ring)
     }
 
-    // Whether the packet has the wanted name.
-    pub(crate) fn has_name(&self, view: &DataView<'_>) -> bool
-        ensures { result ≡ data_has_name self.now.name (data_seen view.now) }
+    // The same of what is shown.
+    pub(crate) fn check_shown(&self, shown: &Shown<'_>, ring: &KeyRing) -> Result<(), PartRefusal>
+        requires { self.now.part.publisher < length ring.now }
+        ensures { MatchResult result
+            (λ _. IsOk (ring_verdict self.now ring.now (octets_shown shown.now)))
+            (λ refusal. ring_verdict self.now ring.now (octets_shown shown.now) ≡ Err refusal) }
     {
-        let (front, _) = self.interest.split_at(self.name_end);
-        let (_, name) = front.split_at(self.name_start);
-        view.name.octets() == name
-    }
-
-    // Whether the octets have the wanted digest, where one is known.
-    pub(crate) fn has_digest(&self, octets: &[u8]) -> bool
-        ensures { result ≡ has_digest self.now.digest octets.now }
-    {
-        match self.digest() {
-            Some(digest) => digest_of(octets) == *digest,
-            None => true,
-        }
+        self.expected().check_shown(shown, ring)
     }
 }
 

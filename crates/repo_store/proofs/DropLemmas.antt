@@ -1,6 +1,6 @@
 -- What is left where the parts of publications are dropped.
-use Rattle.std.proofs.Common.{◌≡◌, ◌≢◌, ℕ, ◌+◌, ◌<◌, ◌≤◌, Bool, true, false, cond, not, inl, inr, List, [], ◌∷◌}
-use Rattle.std.proofs.Common.{length, get_or, drop, Some, None, refl, sym, ap, subst, ◌∙◌, arith}
+use Rattle.std.proofs.Common.{◌≡◌, ◌≢◌, ℕ, ◌+◌, ◌-◌, ◌*◌, ◌<◌, ◌≤◌, Bool, true, false, cond, not, inl, inr, List, []}
+use Rattle.std.proofs.Common.{◌∷◌, length, get_or, drop, Some, None, refl, sym, ap, subst, ◌∙◌, arith}
 use Rattle.std.specs.Ordering.{nat_cmp, is_le, eq_by_cmp}
 use Rattle.std.specs.declared.cmp.Ordering.{Ordering}
 use Rattle.std.specs.declared.cmp.Ordering.TheVariants.{Less, Equal, Greater}
@@ -10,7 +10,7 @@ use Rattle.std.proofs.lemmas.List.Filters.{length-filter_both}
 use Rattle.sorted_lists.specs.SortedList.{by_order, keys, Rises, without_key, first_from}
 use Rattle.sorted_lists.specs.Members.{In}
 use Rattle.sorted_lists.proofs.Orders.{then_second}
-use Rattle.sorted_lists.proofs.TwoOrders.{first_le, then_then, nat_le}
+use Rattle.sorted_lists.proofs.TwoOrders.{first_le, then_then, nat_le, less_nat}
 use Rattle.sorted_lists.proofs.Sets.{eq_same, eq_itself}
 use Rattle.sorted_lists.proofs.MapChanges.{length-without}
 use Rattle.sorted_lists.proofs.RunOrder.{Le, lt_not_le, in_without, first_is, none_from_on}
@@ -35,6 +35,17 @@ pub record Dropping (pair : Pair) (old now : KeptState) : Type 0 where
   pub outside : held_outside pair now.held ≡ held_outside pair old.held
   pub same : AreSame old now
   pub spare : now.spare ≡ old.spare
+  pub few : length old.held ≤ length now.held + 65536
+  pub by_number : (h : Held) → In h now.held → is_in pair h.0 ≡ true → length old.held ≤ length now.held + h.0.part
+
+pub dropping_none : (pair : Pair) (k : KeptState) → Dropping pair k k
+dropping_none pair k = record {
+  outside = refl;
+  same = λ h i. refl;
+  spare = refl;
+  few = omega arith;
+  by_number = λ h i inside. omega arith;
+}
 
 -- a part of the publication goes, and what is outside of it stays
 outside_without : (pair : Pair) (t : Part) (held : List Held) → is_in pair t ≡ true
@@ -52,17 +63,6 @@ outside_without pair t (h ∷ held) inside = go (part_cmp t h.0) refl (outside_w
       sym (ap (λ (b : Bool). cond (not b) (h ∷ left) left)
       (ap (is_in pair) (sym (exact_parts.same t h.0 e)) ∙ inside))
   go Greater e same = ap (λ (xs : List Held). cond (not (is_in pair h.0)) (h ∷ xs) xs) same
-
-pub dropping_more : (pair : Pair) (old now new : KeptState) (t : Part) → is_in pair t ≡ true
-    → Rises part_cmp (keys now.held) → new.held ≡ without_key part_cmp t now.held → AreSame now new
-    → new.spare ≡ now.spare → Dropping pair old now → Dropping pair old new
-dropping_more pair old now new t inside rises held same spare d = record {
-  outside = ap (held_outside pair) held ∙ outside_without pair t now.held inside ∙ d.outside;
-  same =
-      λ h i.
-      same h i ∙ d.same h (in_without exact_parts t now.held rises h (subst (In h) held i)).0;
-  spare = spare ∙ d.spare;
-}
 
 -- ---- the end
 
@@ -92,6 +92,55 @@ first_up_to pair t inside less =
     (ap is_le (then_then (nat_cmp pair.0 t.publisher) (nat_cmp pair.1 t.seq) (nat_cmp 0 t.part)
     ∙ then_second (pair_cmp pair (pair_of t)) (nat_cmp 0 t.part) tied)
     ∙ nat_le 0 t.part (omega arith))
+
+-- of two parts of a publication the later has the greater number
+later_part : (pair : Pair) (t u : Part) → is_in pair t ≡ true → is_in pair u ≡ true → PartLe t u → (u ≡ t → ⊥)
+    → t.part < u.part
+later_part pair t u t_inside u_inside le other = go (part_cmp t u) refl le where
+  tied : pair_cmp (pair_of t) (pair_of u) ≡ Equal
+  tied =
+      ap (λ (p : Pair). pair_cmp p (pair_of u)) (sym (eq_same exact_pairs pair (pair_of t) t_inside))
+      ∙ ap (pair_cmp pair) (sym (eq_same exact_pairs pair (pair_of u) u_inside))
+      ∙ exact_pairs.itself pair
+
+  by_part : part_cmp t u ≡ nat_cmp t.part u.part
+  by_part =
+      then_then (nat_cmp t.publisher u.publisher) (nat_cmp t.seq u.seq) (nat_cmp t.part u.part)
+      ∙ then_second (pair_cmp (pair_of t) (pair_of u)) (nat_cmp t.part u.part) tied
+
+  go : (o : Ordering) → part_cmp t u ≡ o → is_le o ≡ true → t.part < u.part
+  go Less e h = less_nat t.part u.part (sym by_part ∙ e)
+  go Equal e h = absurd (other (sym (exact_parts.same t u e)))
+  go Greater e h = absurd cc
+
+-- the first part that is left goes: by its number, so many at most went before it
+pub dropping_more : (pair : Pair) (old now new : KeptState) (x : Held) → is_in pair x.0 ≡ true → x.0.part < 65536
+    → Rises part_cmp (keys now.held) → first_from part_cmp (first_of pair) now.held ≡ Some x
+    → new.held ≡ without_key part_cmp x.0 now.held → AreSame now new → new.spare ≡ now.spare → Dropping pair old now
+    → Dropping pair old new
+dropping_more pair old now new x inside small rises is held same spare d =
+    let found = first_is exact_parts (first_of pair) now.held rises x is in
+    let there = value_there exact_parts now.held x rises found.is_in in
+    let fewer : length new.held + 1 ≡ length now.held =
+    ap (λ (es : List Held). length es + 1) held ∙ length-without exact_parts.total x.0 x.1 now.held rises there in
+    let before = d.by_number x found.is_in inside in
+    record {
+      outside = ap (held_outside pair) held ∙ outside_without pair x.0 now.held inside ∙ d.outside;
+      same =
+          λ h i.
+          same h i ∙ d.same h (in_without exact_parts x.0 now.held rises h (subst (In h) held i)).0;
+      spare = spare ∙ d.spare;
+      few = omega (arith, fewer, before, small);
+      by_number =
+          λ h i within.
+          let was = in_without exact_parts x.0 now.held rises h (subst (In h) held i) in
+          let high : PartLe x.0 h.0 =
+          elim (found.others h was.0) [
+            | inl less ↦ absurd (first_up_to pair h.0 within less)
+            | inr after ↦ after
+          ] in
+          omega (arith, fewer, before, later_part pair x.0 h.0 inside within high was.1);
+    }
 
 all_outside : (pair : Pair) (old now : KeptState) → Dropping pair old now
     → ((h : Held) → In h now.held → is_in pair h.0 ≡ true → ⊥) → now.held ≡ held_outside pair old.held
@@ -129,14 +178,15 @@ pub record DroppingAll (pairs : List Pair) (i : ℕ) (old now : KeptState) : Typ
   pub left : held_outside_all (drop i pairs) now.held ≡ held_outside_all pairs old.held
   pub same : AreSame old now
   pub spare : now.spare ≡ old.spare
+  pub few : length old.held ≤ length now.held + (length pairs - (length pairs - i)) * 65536
 
 pub dropping_all_none : (pairs : List Pair) (k : KeptState) → DroppingAll pairs 0 k k
-dropping_all_none pairs k = record { left = refl; same = λ h i. refl; spare = refl }
+dropping_all_none pairs k = record { left = refl; same = λ h i. refl; spare = refl; few = omega arith }
 
 pub dropping_all_more : (pairs : List Pair) (i : ℕ) (d : Pair) (old now new : KeptState) → i < length pairs
     → new.held ≡ held_outside (get_or pairs i d) now.held → AreSame now new → new.spare ≡ now.spare
-    → DroppingAll pairs i old now → DroppingAll pairs (i + 1) old new
-dropping_all_more pairs i d old now new low held same spare all = record {
+    → length now.held ≤ length new.held + 65536 → DroppingAll pairs i old now → DroppingAll pairs (i + 1) old new
+dropping_all_more pairs i d old now new low held same spare few all = record {
   left =
       ap (held_outside_all (drop (i + 1) pairs)) held
       ∙ sym (outside_more (get_or pairs i d) (drop (i + 1) pairs) now.held)
@@ -146,6 +196,7 @@ dropping_all_more pairs i d old now new low held same spare all = record {
       same h j
       ∙ all.same h (in_filtered (λ (o : Held). not (is_in (get_or pairs i d) o.0)) now.held h (subst (In h) held j)).0;
   spare = spare ∙ all.spare;
+  few = omega (arith, few, all.few, low);
 }
 
 pub dropping_all_end : (pairs : List Pair) (i : ℕ) (old now : KeptState) → length pairs ≤ i

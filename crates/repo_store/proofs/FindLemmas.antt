@@ -14,7 +14,7 @@ use Rattle.ndn_name.specs.CanonicalOrder.{IsPrefix}
 use Rattle.ndn_name.proofs.Encodings.{encoding-same}
 use Rattle.ndn_name.proofs.Prefixes.{prefix-octets, prefix-encoding}
 use Rattle.repo_store.proofs.NameLemmas.{satisfied, full-octets, octets-full}
-use Rattle.repo_store.proofs.ReadNames.{name_of-read}
+use Rattle.repo_object.proofs.ReadNames.{name_of-read}
 use Rattle.sorted_lists.specs.SortedList.{Rises, keys}
 use Rattle.sorted_lists.specs.Members.{In}
 use Rattle.sorted_lists.specs.Least.{Passes}
@@ -25,8 +25,8 @@ use Rattle.repo_plan.specs.Parts.{part_cmp}
 use Rattle.repo_plan.proofs.Orders.{exact_parts}
 use Rattle.repo_store.specs.declared.names.Names.{Names}
 use Rattle.repo_store.specs.Served.{satisfies}
-use Rattle.repo_store.specs.Places.{IsPacket}
-use Rattle.repo_store.specs.Kept.{packet_name, Slots, at, octets_at, Held, entries_of, KeptState}
+use Rattle.repo_object.specs.Packets.{IsPacket, packet_name}
+use Rattle.repo_store.specs.Kept.{Slots, at, octets_at, Held, entries_of, KeptState}
 use Rattle.repo_store.specs.Slots.{is_full_name, has_full_name, KeptIsSound}
 use Rattle.repo_store.specs.Indexes.{name_of, asks, is_asked, held_part, lesser, IsFirstOf, satisfies_held}
 use Rattle.repo_store.specs.NameLayers.{IsIndexOf, is_kept, is_kept_and_asked}

@@ -16,7 +16,8 @@ use Rattle.sorted_lists.proofs.Members.{same_itself}
 use Rattle.sorted_lists.proofs.LeastOnes.{first_of_same}
 use Rattle.repo_plan.proofs.Orders.{exact_parts}
 use Rattle.repo_store.specs.declared.kept.Sought.{Sought}
-use Rattle.repo_store.specs.Kept.{packet_name, front_of, Slots, at, octets_at, Held}
+use Rattle.repo_object.specs.Packets.{packet_name}
+use Rattle.repo_store.specs.Kept.{front_of, Slots, at, octets_at, Held}
 use Rattle.repo_store.specs.Slots.{AreSlots, is_full_name, has_full_name, is_sought, is_sought_at}
 use Rattle.repo_store.specs.Indexes.{held_part, IsFirstOf}
 use Rattle.repo_store.proofs.NameLemmas.{digest_element}

@@ -1,4 +1,3 @@
-pub mod ReadNames
 pub mod IndexLemmas
 pub mod AskedLemmas
 pub mod NameLayerLemmas
@@ -6,7 +5,6 @@ pub mod FrontLemmas
 pub mod SlotLemmas
 pub mod KeptLemmas
 pub mod DropLemmas
-pub mod PlaceLemmas
 pub mod NameLemmas
 pub mod StoreLemmas
 pub mod FullNameLemmas

@@ -22,7 +22,7 @@ use Rattle.repo_plan.proofs.Orders.{exact_parts}
 use Rattle.repo_store.specs.declared.kept.Fronted.{Fronted}
 use Rattle.repo_store.specs.declared.kept.Sought.{Sought}
 use Rattle.repo_store.specs.declared.kept.Kept.TheInside.{Inside}
-use Rattle.repo_store.specs.Places.{IsPacket}
+use Rattle.repo_object.specs.Packets.{IsPacket}
 use Rattle.repo_store.specs.Kept.{front_of, Slots, at, octets_at, front_at, Held, KeptState}
 use Rattle.repo_store.specs.Slots.{IsHeldIn, AreSlots, KeepsOne, fronted_cmp, fronted, AreFronts, IsUsed, is_sought}
 use Rattle.repo_store.specs.Slots.{is_sought_at, IsKeptIn, IsKept, KeptIsSound}

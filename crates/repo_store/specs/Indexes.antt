@@ -14,7 +14,8 @@ use Rattle.repo_plan.specs.declared.part.Part.{Part}
 use Rattle.repo_plan.specs.Parts.{part_cmp}
 use Rattle.repo_store.specs.declared.index.Index.{Index}
 use Rattle.repo_store.specs.Served.{satisfies}
-use Rattle.repo_store.specs.Kept.{packet_name, Slots, at, octets_at, Held}
+use Rattle.repo_object.specs.Packets.{packet_name}
+use Rattle.repo_store.specs.Kept.{Slots, at, octets_at, Held}
 
 -- ---- orders
 

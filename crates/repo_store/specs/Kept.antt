@@ -1,20 +1,8 @@
 -- How packets are kept, each different one once, in slots.
-use Rattle.std.specs.Prelude.{ℕ, List, [], map, take, slice_index_or, Option, None, unwrap_or, Result, Ok, Err}
+use Rattle.std.specs.Prelude.{ℕ, List, [], map, take, slice_index_or, Option, None, unwrap_or}
 use Rattle.std.specs.Int.{w64, from_be_bytes}
 use Rattle.sha2.specs.Sha256.{sha256}
-use Rattle.ndn_name.specs.declared.fault.PacketFault.{PacketFault}
-use Rattle.ndn_name.specs.Names.{encoding}
-use Rattle.ndn_data.specs.Data.{Data, data_of}
 use Rattle.repo_plan.specs.declared.part.Part.{Part}
-
--- The value of the name of what was read as Data.
-abbrev pub name_octets : Result Data PacketFault → List ℕ
-name_octets (Ok d) = encoding d.name
-name_octets (Err fault) = []
-
--- The value of a packet's name.
-unfoldable pub packet_name : List ℕ → List ℕ
-packet_name octets = name_octets (data_of octets)
 
 -- The front of a digest: its first eight octets, as a number.
 unfoldable pub front_of : List ℕ → ℕ

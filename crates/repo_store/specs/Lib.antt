@@ -3,10 +3,10 @@ pub use Rattle.ndn_interest.specs.Interest
 pub use Rattle.ndn_data.specs.Data
 pub use Rattle.sorted_lists.specs.SortedList
 pub use Rattle.repo_plan.specs.Parts
+pub use Rattle.repo_object.specs.Packets
 pub mod StoreList
 pub mod Served
 pub mod Answers
-pub mod Places
 pub mod Kept
 pub mod Slots
 pub mod Indexes

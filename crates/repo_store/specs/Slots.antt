@@ -20,8 +20,8 @@ use Rattle.repo_store.specs.declared.kept.Sought.{Sought}
 use Rattle.repo_store.specs.declared.kept.Sought.TheVariants.{Octets, FullName}
 use Rattle.repo_store.specs.declared.kept.Kept.TheInside.{Inside}
 use Rattle.repo_store.specs.StoreList.{is_in_any}
-use Rattle.repo_store.specs.Places.{IsPacket}
-use Rattle.repo_store.specs.Kept.{packet_name, Slots, at, octets_at, front_at, Held, KeptState}
+use Rattle.repo_object.specs.Packets.{IsPacket, packet_name}
+use Rattle.repo_store.specs.Kept.{Slots, at, octets_at, front_at, Held, KeptState}
 
 -- ---- slots
 

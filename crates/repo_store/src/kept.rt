@@ -1,18 +1,18 @@
-ghost use Rattle.std.specs.Prelude.{◌≡◌, ◌↔◌, ℕ, ◌+◌, ◌-◌, ◌<◌, ◌≤◌, [], Some, length, max, not, IsTrue, is_some};
-ghost use Rattle.std.specs.Prelude.{OnOk, OnErr};
+ghost use Rattle.std.specs.Prelude.{◌≡◌, ◌↔◌, ℕ, ◌+◌, ◌-◌, ◌*◌, ◌<◌, ◌≤◌, [], Some, length, max, not, IsTrue, is_some};
+ghost use Rattle.std.specs.Prelude.{OnOk, OnErr, option_map};
 ghost use Rattle.std.specs.Prelude.{true, MatchOption, IsSome};
 ghost use Rattle.slab.specs.Slab.{HasRoomFor};
 ghost use Rattle.sorted_lists.specs.SortedList.{keys, contains, value_of, with_value, without_key};
 ghost use Rattle.sorted_lists.specs.Members.{In};
 ghost use Rattle.repo_plan.specs.Parts.{part_cmp};
 ghost use Rattle.repo_store.specs.StoreList.{different_octets};
-ghost use Rattle.repo_store.specs.Kept.{at, octets_at, front_at, entries_of};
+ghost use Rattle.sha2.specs.Sha256.{sha256};
+ghost use Rattle.repo_store.specs.Kept.{front_of, at, octets_at, front_at, entries_of};
 ghost use Rattle.repo_store.specs.Slots.{KeptIsSound, KeepsOne, IsUsed, AreSame, held_outside, held_outside_all};
 ghost use Rattle.repo_store.specs.Slots.{is_sought, is_sought_at, has_full_name, IsNextOf, IsKeptIn, IsPut};
-ghost use Rattle.repo_store.specs.Places.{IsPacket};
 ghost use Rattle.repo_store.specs.Indexes.{name_of, lesser, IsFirstOf};
 
-use crate::packet::{Packet, front_of};
+use repo_object::Packet;
 use repo_plan::Part;
 use slab::Slab;
 use sorted_lists::SortedMap;
@@ -74,7 +74,8 @@ impl Sought<'_> {
     {
         match self {
             Sought::Octets(octets) => packet.octets() == *octets,
-            Sought::FullName(digest, name) => packet.digest() == *digest && packet.name() == *name,
+            Sought::FullName(digest, name) => packet.digest().as_slice() == *digest
+                && packet.name() == *name,
         }
     }
 }
@@ -126,7 +127,14 @@ impl Kept {
         self.slot_of(part).is_some()
     }
 
-    // The octets of the packet in a slot.
+    // The packet in a slot.
+    pub(crate) fn packet(&self, slot: usize) -> Option<&Packet>
+        ensures { option_map (λ p. p.now) result ≡ at self.now.slots slot }
+    {
+        self.packets.get(slot)
+    }
+
+    // Its octets.
     pub(crate) fn octets(&self, slot: usize) -> &[u8]
         ensures { result.now ≡ octets_at self.now.slots slot }
     {
@@ -201,8 +209,7 @@ impl Kept {
     // Puts a packet under its part, where room was made. The answer is the packet's slot, or `None` where there is a
     // packet of the part already, which then stays. The room counts as used all the same.
     pub(crate) fn put(&mut self, part: Part, packet: Packet) -> Option<usize>
-        requires spare { 0 < self.old.spare }
-        requires packet { IsPacket packet }
+        requires { 0 < self.old.spare }
         ensures { MatchOption result
             ((contains part_cmp (keys self.old.held) part ≡ true)
             × (self.new ≡ record self.old { spare = self.old.spare - 1 }))
@@ -212,7 +219,7 @@ impl Kept {
             self.spare -= 1;
             return None;
         }
-        let front = packet.front();
+        let front = front_in(&packet);
         let found = self.first_of_front(front, &Sought::Octets(packet.octets()));
         let slot = keep(&mut self.packets, packet, found);
         self.parts.insert(part, slot);
@@ -224,6 +231,7 @@ impl Kept {
     // Drops the parts of these publications, and gives their number.
     pub(crate) fn drop_all(&mut self, pairs: &[(u32, u16)]) -> usize
         ensures number { result + length self.new.held ≡ length self.old.held }
+        ensures few { result ≤ length pairs.now * 65536 }
         ensures held { self.new.held ≡ held_outside_all pairs.now self.old.held }
         ensures same { AreSame self.old self.new }
         ensures spare { self.new.spare ≡ self.old.spare }
@@ -239,6 +247,7 @@ impl Kept {
     // The same of one publication.
     fn drop_pair(&mut self, pair: (u32, u16))
         ensures held { self.new.held ≡ held_outside pair self.old.held }
+        ensures few { length self.old.held ≤ length self.new.held + 65536 }
         ensures same { AreSame self.old self.new }
         ensures spare { self.new.spare ≡ self.old.spare }
     {
@@ -258,11 +267,12 @@ impl Kept {
     // Drops a part, and its packet where no other part has it.
     fn drop_part(&mut self, part: Part, slot: usize)
         requires { In (part, slot) self.old.held }
+        ensures number { part.part < 65536 }
         ensures held { self.new.held ≡ without_key part_cmp part self.old.held }
         ensures same { AreSame self.old self.new }
         ensures spare { self.new.spare ≡ self.old.spare }
     {
-        let front = self.packets.get(slot).unwrap().front();
+        let front = front_in(self.packets.get(slot).unwrap());
         self.parts.remove(part);
         self.fronts.remove(Fronted { front, slot, part });
         if !is_used(&self.fronts, front, slot) {
@@ -320,4 +330,20 @@ pub(crate) fn lesser(a: Option<Held>, b: Option<Held>) -> Option<Held>
         (None, _) => b,
         _ => a,
     }
+}
+
+// The front of a packet's digest.
+fn front_in(packet: &Packet) -> u64
+    ensures { result ≡ front_of (sha256 packet.now) }
+{
+    front_of(&packet.digest())
+}
+
+// The first eight octets of a digest, as a number.
+#[tactic(auto, unfolding(crate::specs::Kept::front_of))]
+fn front_of(digest: &[u8]) -> u64
+    requires { 8 ≤ length digest.now }
+    ensures { result ≡ front_of digest.now }
+{
+    u64::from_be_bytes(*digest.first_chunk().unwrap())
 }

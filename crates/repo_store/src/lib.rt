@@ -8,7 +8,6 @@ mod index;
 mod kept;
 mod laws;
 mod names;
-mod packet;
 mod store;
 
 pub use laws::{

@@ -1,6 +1,5 @@
-ghost use Rattle.std.specs.Prelude.{◌≡◌, ◌-◌, ◌<◌, [], length, max, not, option_map, Ok, Err, IsOk, IfOk};
+ghost use Rattle.std.specs.Prelude.{◌≡◌, ◌-◌, ◌*◌, ◌<◌, ◌≤◌, [], length, max, not, option_map, Ok, Err, IsOk, IfOk};
 ghost use Rattle.std.specs.Prelude.{OnOk, OnErr, MatchResult};
-ghost use Rattle.sha2.specs.Sha256.{sha256};
 ghost use Rattle.ndn_data.specs.Data.{data_of};
 ghost use Rattle.sorted_lists.specs.SortedList.{keys, contains, value_of};
 ghost use Rattle.repo_plan.specs.Parts.{part_cmp};
@@ -13,10 +12,9 @@ ghost use Rattle.repo_store.specs.Served.{served};
 
 use crate::kept::{Held, Kept, lesser};
 use crate::names::Names;
-use crate::packet::Packet;
 use ndn_interest::InterestView;
 use ndn_name::{NameView, PacketFault};
-use ndn_sign::digest;
+use repo_object::Packet;
 use repo_plan::Part;
 use std::alloc::{AllocError, Global};
 use std::marker::Model;
@@ -90,6 +88,14 @@ impl Store {
         Some(self.kept.octets(slot))
     }
 
+    /// The packet of a part, which may be shared with another holder.
+    pub fn packet(&self, part: Part) -> Option<&Packet>
+        ensures { option_map (λ packet. packet.now) result ≡ value_of part_cmp self.now.packets part }
+    {
+        let slot = self.kept.slot_of(part)?;
+        self.kept.packet(slot)
+    }
+
     /// Puts a packet that reads as Data under its part. What is spare stays so.
     ///
     /// The answer is `false` where there is a packet of the part already, which then stays.
@@ -105,12 +111,13 @@ impl Store {
         if self.kept.has(part) {
             return Ok(false);
         }
-        let octets = octets.to_vec(self.names.allocator())?;
+        let alloc = self.names.allocator();
+        let packet = Packet::new(alloc, octets.to_vec(alloc)?, None)?;
         let Some(room) = self.kept.spare().checked_add(1) else {
             return Err(AllocError);
         };
         self.reserve(room)?;
-        Ok(self.put_reserved(part, octets))
+        Ok(self.put_shared(part, packet))
     }
 
     /// Makes room for `n` packets, unless there is room for so many already.
@@ -138,27 +145,19 @@ impl Store {
           spare = self.old.spare - 1;
         } }
     {
-        let digest = digest(&octets);
-        self.put_reserved_with_digest(part, octets, &digest)
+        self.put_shared(part, Packet::alone(octets))
     }
 
-    /// As `put_reserved`, for a caller that has the packet's digest already.
-    pub fn put_reserved_with_digest(
-        &mut self,
-        part: Part,
-        octets: Vec<u8>,
-        digest: &[u8; 32],
-    ) -> bool
+    /// The same of a packet that others may hold too: no octets are copied.
+    pub fn put_shared(&mut self, part: Part, packet: Packet) -> bool
         requires spare { 0 < self.old.spare }
-        requires is_data { IsOk (data_of octets.items) }
-        requires digest { digest.now ≡ sha256 octets.items }
         ensures fresh { result ≡ not (contains part_cmp (keys self.old.packets) part) }
         ensures put { self.new ≡ record {
-          packets = with_packet part octets.items self.old.packets;
+          packets = with_packet part packet self.old.packets;
           spare = self.old.spare - 1;
         } }
     {
-        match self.kept.put(part, Packet::of_data(octets, digest)) {
+        match self.kept.put(part, packet) {
             Some(slot) => {
                 self.names.put((part, slot));
                 true
@@ -203,19 +202,20 @@ impl Store {
     }
 
     /// Drops the packets of a publication's parts, and gives their number. It takes no memory.
-    pub fn drop_parts(&mut self, publisher: u32, seq: u16) -> usize
+    pub fn drop_parts(&mut self, publisher: u32, seq: u16) -> u32
         ensures number { result ≡ length (packets_in (publisher, seq) self.old.packets) }
         ensures dropped { self.new ≡ record self.old {
           packets = packets_outside (publisher, seq) self.old.packets;
         } }
     {
-        self.drop_all(&[(publisher, seq)])
+        self.drop_all(&[(publisher, seq)]) as u32
     }
 
     /// The same for many publications, which takes one pass over what is in order of its name. A publication may stand
-    /// twice.
+    /// twice. Each has at most 65,536 parts.
     pub fn drop_all(&mut self, pairs: &[(u32, u16)]) -> usize
         ensures number { result ≡ length (packets_in_any pairs.now self.old.packets) }
+        ensures few { result ≤ length pairs.now * 65536 }
         ensures dropped { self.new ≡ record self.old {
           packets = packets_outside_all pairs.now self.old.packets;
         } }

@@ -66,4 +66,4 @@ returns c =
     λ ds. IfOk c.index_packet.result (λ packet.
     packet.items ≡ segment_packet keyed key c.args.name.now (c.args.shape.index - 1) k (index_content (map sha256
     ds))) in
-    subst P segments c.index_packet.ensures
+    subst P segments c.index_packet.ensures.written

@@ -25,8 +25,9 @@ loop-k-preserved c =
     ∙ ap (λ (ps : List (List ℕ)). Some (index_content (map sha256 ps))) (sym c.listed_by.ensures.same)) in
     let more =
     segments_more keyed key name last contents c.loop-k.packets.items
-    (segment_packets_from keyed key name last 0 contents) k k content c.new.result
-    (omega (arith, low, index-count segments)) at (c.new.ensures ∙ c.in_ok-packet.ensures) c.loop-k.invariant in
+    (segment_packets_from keyed key name last 0 contents) k k content c.in_ok-packet.packet
+    (omega (arith, low, index-count segments)) at (c.in_ok-packet.ensures ∙ c.in_ok-octets.ensures.written)
+    c.loop-k.invariant in
     ap (λ (ps : List (List ℕ)). ps ++ segment_packets_from keyed key name last (k + 1) (drop (k + 1) contents))
     c.in_ok-push.ensures.items
     ∙ more

@@ -49,8 +49,8 @@ listing_packet-requires-clause-key_name c =
       key_name-size c.args.node.now c.requires.node,
     )
 
-pub returns : goal.returns
-returns c =
+pub returns-clause-made : goal.returns-clause-made
+returns-clause-made c =
     let who : Publisher = publisher c.args.node.now c.args.group.now c.args.key.now in
     let object = c.args.object.now in
     let keyed = c.in_ok-key_name.key_name in
@@ -72,7 +72,7 @@ returns c =
     (c.listed.ensures.same
     ∙ ap (λ (ps : List (List ℕ)). cond (is_indexed (length ps)) c.deref-3.result.now ps) c.deref-2.ensures.value
     ∙ ap (λ (ps : List (List ℕ)). cond (is_indexed (length segments)) ps segments) c.deref-3.ensures.value)
-    (c.in_ok-record.ensures
+    (c.in_ok-record.ensures.written
     ∙ ap (λ (n : List Component).
     written_data name None (record_content (listed_record n (length contents) c.deref-4.result.now)) keyed key)
     (c.name-3.ensures.same ∙ sym c.name.ensures.same)

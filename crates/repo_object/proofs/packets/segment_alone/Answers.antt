@@ -54,7 +54,7 @@ returns c =
     let same_last : length contents - 1 ≡ last = omega (arith, long, length-map contents items) in
     let none : 0 + i ≡ i = omega arith in
     let made =
-    c.in_ok-packet.ensures
+    c.in_ok-packet.ensures.written
     ∙ ap (λ (n : List Component). segment_packet keyed key n (length contents - 1) i c.deref.result.now)
     c.name.ensures.same
     ∙ ap (λ (n : ℕ). segment_packet keyed key object.name n i c.deref.result.now) same_last

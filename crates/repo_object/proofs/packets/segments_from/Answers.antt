@@ -26,11 +26,11 @@ loop-i-preserved c =
     let key = c.args.key.now in
     let name = c.args.name.now in
     let made = c.loop-i.packets.items in
-    let packet = c.new.result in
+    let packet = c.in_ok-packet.packet in
     let at = content_is c.args.contents.now i content (omega arith) c.index-contents-i.is in
     let written =
-    c.new.ensures
-    ∙ c.in_ok-packet.ensures
+    c.in_ok-packet.ensures
+    ∙ c.in_ok-octets.ensures.written
     ∙ ap (segment_packet keyed key name last (first + i)) c.deref.ensures.value in
     let more =
     segments_more keyed key name last contents made (segment_packets_from keyed key name last first contents) (first

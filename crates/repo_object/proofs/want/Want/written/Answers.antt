@@ -6,7 +6,7 @@ use Rattle.repo_object.proofs.want.Want.written.Goals as goal
 pub invariant_of-result : goal.invariant_of-result
 invariant_of-result c =
     want_written (spelled c.args.name.now)
-    (option_map (λ (d : Bor (List ℕ)). d.now) c.args.digest) c.requires.name
+    (option_map (λ (d : Bor (List ℕ)). d.now) c.args.digest) c.requires.name c.requires.short
     (lent_long c.args.digest c.requires.digest) (c.len.result + c.digest_len.result) c.in_ok-writer.writer
     c.put.new.writer c.finish.result.items (length c.octets-name_start.result.now) (length c.octets-name_end.result.now)
     c.is_some.result (omega (arith, c.len.ensures, c.digest_len.ensures.exact)) c.in_ok-writer.ensures
@@ -18,7 +18,7 @@ invariant_of-result c =
 pub returns : goal.returns
 returns c =
     want_is (spelled c.args.name.now)
-    (option_map (λ (d : Bor (List ℕ)). d.now) c.args.digest) c.requires.name
+    (option_map (λ (d : Bor (List ℕ)). d.now) c.args.digest) c.requires.name c.requires.short
     (lent_long c.args.digest c.requires.digest) (c.len.result + c.digest_len.result) c.in_ok-writer.writer
     c.put.new.writer c.finish.result.items (length c.octets-name_start.result.now) (length c.octets-name_end.result.now)
     c.is_some.result (omega (arith, c.len.ensures, c.digest_len.ensures.exact)) c.in_ok-writer.ensures

@@ -12,7 +12,7 @@ pub loop-pair-preserved : goal.loop-pair-preserved
 loop-pair-preserved c =
     dropping_all_more c.args.pairs.now c.loop-pair.pair-index (0, 0) c.args.self.now c.loop-pair.self
     c.drop_pair.new.self c.loop-pair-test.true c.drop_pair.ensures.held c.drop_pair.ensures.same
-    c.drop_pair.ensures.spare c.loop-pair.invariant
+    c.drop_pair.ensures.spare c.drop_pair.ensures.few c.loop-pair.invariant
 
 pub overflow_sub-result : goal.overflow_sub-result
 overflow_sub-result c =
@@ -39,3 +39,9 @@ returns-clause-held c =
 
 pub returns-clause-sound : goal.returns-clause-sound
 returns-clause-sound c = subst KeptIsSound c.self.view_is (sound_seen c.self.inside c.self.invariant)
+
+pub returns-clause-few : goal.returns-clause-few
+returns-clause-few c =
+    let seen = ap (λ (k : KeptState). length k.held) c.self.view_is in
+    let left = ap (λ (k : KeptState). length k.held) c.self-2.view_is in
+    omega (arith, c.len.ensures.len, c.len-before.ensures.len, c.loop-pair.invariant.few, seen, left)

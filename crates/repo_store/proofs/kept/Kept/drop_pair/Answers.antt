@@ -8,8 +8,12 @@ use Rattle.repo_plan.proofs.Orders.{exact_parts}
 use Rattle.repo_plan.proofs.Changes.{pair_test}
 use Rattle.repo_store.specs.Kept.{Held, KeptState}
 use Rattle.sorted_lists.proofs.RunOrder.{first_is}
-use Rattle.repo_store.proofs.DropLemmas.{first_of, dropped_none, dropped_other, dropping_more, fewer_held}
+use Rattle.repo_store.proofs.DropLemmas.{first_of, dropping_none, dropped_none, dropped_other, dropping_more}
+use Rattle.repo_store.proofs.DropLemmas.{fewer_held}
 use Rattle.repo_store.proofs.kept.Kept.drop_pair.Goals as goal
+
+pub loop-part-init : goal.loop-part-init
+loop-part-init c = dropping_none c.args.pair c.args.self.now
 
 pub returns-then-ne-clause-held : goal.returns-then-ne-clause-held
 returns-then-ne-clause-held c =
@@ -42,12 +46,15 @@ loop-part-smaller c =
 
 pub loop-part-preserved : goal.loop-part-preserved
 loop-part-preserved c =
+    let x : Held = (c.in-Some.part, c.in-Some.slot) in
     let held = ap (λ (s : KeptState). s.held) c.self.view_is in
     let test = c.ne.ensures ∙ ap not (pair_test (c.in-Some.part.publisher, c.in-Some.part.seq) c.args.pair) in
-    dropping_more c.args.pair c.args.self.now c.loop-part.self c.drop_part.new.self c.in-Some.part
-    (not-false (is_in c.args.pair c.in-Some.part) (sym test ∙ c.if-ne.false))
-    (subst (λ (es : List Held). Rises part_cmp (keys es)) held c.self.invariant.in_order) c.drop_part.ensures.held
-    c.drop_part.ensures.same c.drop_part.ensures.spare c.loop-part.invariant
+    dropping_more c.args.pair c.args.self.now c.loop-part.self c.drop_part.new.self x
+    (not-false (is_in c.args.pair c.in-Some.part) (sym test ∙ c.if-ne.false)) c.drop_part.ensures.number
+    (subst (λ (es : List Held). Rises part_cmp (keys es)) held c.self.invariant.in_order)
+    (subst (λ (es : List Held). first_from part_cmp (first_of c.args.pair) es ≡ Some x) held
+    (sym c.in-Some.ensures.found)) c.drop_part.ensures.held c.drop_part.ensures.same c.drop_part.ensures.spare
+    c.loop-part.invariant
 
 pub returns-clause-held : goal.returns-clause-held
 returns-clause-held c =

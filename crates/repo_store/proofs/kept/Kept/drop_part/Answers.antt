@@ -19,12 +19,12 @@ invariant_of-self c =
     let k = c.self.inside in
     let h : Held = (c.args.part, c.args.slot) in
     let there : In h k.parts.entries = subst (λ (s : KeptState). In h s.held) (sym c.self.view_is) c.requires in
-    let front : c.front-front.result ≡ front_at k.packets.slots c.args.slot =
-    c.front-front.ensures
+    let front : c.front_in-front.result ≡ front_at k.packets.slots c.args.slot =
+    c.front_in-front.ensures
     ∙ ap (λ (o : Option (List ℕ)). front_of (sha256 (unwrap_or o [])))
     (sym (ap option_copied c.unwrap.ensures) ∙ c.get.ensures) in
     let gone =
-    unused_gone k c.self.invariant h there c.front-front.result c.remove.new.self.entries
+    unused_gone k c.self.invariant h there c.front_in-front.result c.remove.new.self.entries
     c.remove-2.new.self.entries front c.remove.ensures.entries c.remove-2.ensures.entries
     c.remove-then-not-is_used.new.self.slots c.if-not-is_used.ensures c.remove-then-not-is_used.ensures.updates.changed
     (λ s n. c.remove-then-not-is_used.ensures.updates.others s n) in
@@ -45,12 +45,12 @@ invariant_of-self-else-not-is_used c =
     let k = c.self.inside in
     let h : Held = (c.args.part, c.args.slot) in
     let there : In h k.parts.entries = subst (λ (s : KeptState). In h s.held) (sym c.self.view_is) c.requires in
-    let front : c.front-front.result ≡ front_at k.packets.slots c.args.slot =
-    c.front-front.ensures
+    let front : c.front_in-front.result ≡ front_at k.packets.slots c.args.slot =
+    c.front_in-front.ensures
     ∙ ap (λ (o : Option (List ℕ)). front_of (sha256 (unwrap_or o [])))
     (sym (ap option_copied c.unwrap.ensures) ∙ c.get.ensures) in
     let gone =
-    used_gone k c.self.invariant h there c.front-front.result c.remove.new.self.entries c.remove-2.new.self.entries
+    used_gone k c.self.invariant h there c.front_in-front.result c.remove.new.self.entries c.remove-2.new.self.entries
     front c.remove.ensures.entries c.remove-2.ensures.entries c.if-not-is_used.ensures in
     record {
       in_order = gone.in_order;
@@ -67,12 +67,12 @@ returns-then-not-is_used-clause-same c =
     let k = c.self.inside in
     let h : Held = (c.args.part, c.args.slot) in
     let there : In h k.parts.entries = subst (λ (s : KeptState). In h s.held) (sym c.self.view_is) c.requires in
-    let front : c.front-front.result ≡ front_at k.packets.slots c.args.slot =
-    c.front-front.ensures
+    let front : c.front_in-front.result ≡ front_at k.packets.slots c.args.slot =
+    c.front_in-front.ensures
     ∙ ap (λ (o : Option (List ℕ)). front_of (sha256 (unwrap_or o [])))
     (sym (ap option_copied c.unwrap.ensures) ∙ c.get.ensures) in
     let gone =
-    unused_gone k c.self.invariant h there c.front-front.result c.remove.new.self.entries
+    unused_gone k c.self.invariant h there c.front_in-front.result c.remove.new.self.entries
     c.remove-2.new.self.entries front c.remove.ensures.entries c.remove-2.ensures.entries
     c.remove-then-not-is_used.new.self.slots c.if-not-is_used.ensures c.remove-then-not-is_used.ensures.updates.changed
     (λ s n. c.remove-then-not-is_used.ensures.updates.others s n) in

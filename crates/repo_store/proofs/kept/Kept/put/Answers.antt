@@ -24,13 +24,13 @@ invariant_of-self-2 c =
     let h : Held = (c.args.part, slot) in
     let sought : Sought = Octets c.octets.result in
     let first =
-    subst (λ (s : KeptState). IsFirstOf s.held (is_sought_at s.slots c.front-front.result sought)
+    subst (λ (s : KeptState). IsFirstOf s.held (is_sought_at s.slots c.front_in-front.result sought)
     c.first_of_front-found.result)
     (sym c.self.view_is) c.first_of_front-found.ensures in
     let keeps =
-    keeps_one k.parts.entries c.front-front.result sought octets c.first_of_front-found.result k.packets
-    c.keep-slot.new.packets slot c.self.invariant.slots c.front-front.ensures
-    (λ o. ap (pointwise nat_eq o) c.octets.ensures) first c.keep-slot.ensures.kept in
+    keeps_one k.parts.entries c.front_in-front.result sought octets c.first_of_front-found.result k.packets
+    c.keep-slot.new.packets slot c.self.invariant.slots c.front_in-front.ensures
+    (λ o. ap (pointwise nat_eq o) c.octets.ensures.same) first c.keep-slot.ensures.kept in
     let fresh =
     none_where exact_parts k.parts.entries c.args.part
     (ap (λ (s : KeptState). contains part_cmp (keys s.held) c.args.part) c.self.view_is
@@ -39,7 +39,7 @@ invariant_of-self-2 c =
     let are = c.self.invariant.slots in
     let new = c.keep-slot.new.packets.slots in
     let more = with_value part_cmp c.args.part slot k.parts.entries in
-    let place : Fronted = record { front = c.front-front.result; slot = slot; part = c.args.part } in
+    let place : Fronted = record { front = c.front_in-front.result; slot = slot; part = c.args.part } in
     record {
       in_order =
           subst (λ (es : List Held). Rises part_cmp (keys es)) (sym c.insert.ensures.entries)
@@ -49,18 +49,18 @@ invariant_of-self-2 c =
           (rises_with_value exact_fronts place tt k.fronts.entries c.self.invariant.fronts_in_order);
       slots =
           subst (AreSlots new) (sym c.insert.ensures.entries)
-          (slots_more k.packets.slots new octets k.parts.entries more h are keeps gains c.requires.packet);
+          (slots_more k.packets.slots new octets k.parts.entries more h are keeps gains c.octets.ensures.packet);
       fronts =
           subst (λ (es : List Held). AreFronts new es (keys c.insert-2.new.self.entries)) (sym c.insert.ensures.entries)
           (subst (λ (fs : List (Fronted × Unit {0})). AreFronts new more (keys fs)) (sym c.insert-2.ensures.entries)
-          (fronts_more k.packets.slots new octets k.parts.entries more h are keeps gains c.front-front.result
+          (fronts_more k.packets.slots new octets k.parts.entries more h are keeps gains c.front_in-front.result
           k.fronts.entries
-          c.front-front.ensures c.self.invariant.fronts));
+          c.front_in-front.ensures c.self.invariant.fronts));
       room_of_packets =
           c.keep-slot.ensures.room (k.spare - 1)
           (omega (
             arith,
-            c.requires.spare,
+            c.requires,
             c.self.invariant.room_of_packets,
             ap (λ (s : KeptState). s.spare) c.self.view_is,
           ));
@@ -76,13 +76,13 @@ returns c =
     let h : Held = (c.args.part, slot) in
     let sought : Sought = Octets c.octets.result in
     let first =
-    subst (λ (s : KeptState). IsFirstOf s.held (is_sought_at s.slots c.front-front.result sought)
+    subst (λ (s : KeptState). IsFirstOf s.held (is_sought_at s.slots c.front_in-front.result sought)
     c.first_of_front-found.result)
     (sym c.self.view_is) c.first_of_front-found.ensures in
     let keeps =
-    keeps_one k.parts.entries c.front-front.result sought octets c.first_of_front-found.result k.packets
-    c.keep-slot.new.packets slot c.self.invariant.slots c.front-front.ensures
-    (λ o. ap (pointwise nat_eq o) c.octets.ensures) first c.keep-slot.ensures.kept in
+    keeps_one k.parts.entries c.front_in-front.result sought octets c.first_of_front-found.result k.packets
+    c.keep-slot.new.packets slot c.self.invariant.slots c.front_in-front.ensures
+    (λ o. ap (pointwise nat_eq o) c.octets.ensures.same) first c.keep-slot.ensures.kept in
     record {
       fresh = sym c.has.ensures ∙ c.if-has.false;
       held =

@@ -1,9 +1,0 @@
-use Rattle.std.proofs.Common.{◌≡◌, length}
-use Rattle.repo_store.specs.Places.{first_of_type}
-use Rattle.repo_store.proofs.packet.first_of_type.Given as goal
-
-abbrev pub invariant-loop-element : goal.invariant-loop-element
-invariant-loop-element l = first_of_type l.typ l.rest.items ≡ first_of_type l.typ l.fn.elements.items
-
-abbrev pub decreases-loop-element : goal.decreases-loop-element
-decreases-loop-element l = length l.rest.items
