@@ -1,6 +1,6 @@
 -- Packets that are stored once all that came is taken, and the contents of what becomes whole by them.
 use Rattle.std.proofs.Common.{◌≡◌, ◌<◌, ◌+◌, ◌++◌, take, ℕ, zero, suc, Bor, Bool, true, false, cond, List, [], ◌∷◌}
-use Rattle.std.proofs.Common.{map, length, get_or}
+use Rattle.std.proofs.Common.{map, length, get_or, slice_get}
 use Rattle.std.proofs.Common.{refl, sym, ap, ◌∙◌, subst, Option, Some, None, option_map, is_some, arith}
 use Rattle.std.specs.Prelude.{IfSome}
 use Rattle.std.specs.Option.{option_and_then}
@@ -17,7 +17,8 @@ use Rattle.repo_plan.specs.Plan.{PlanState, shape_of}
 use Rattle.repo_plan.proofs.Orders.{exact_parts}
 use Rattle.repo_object.specs.Publication.{RecordSays, shape_said}
 use Rattle.repo_object.specs.Publication.RecordSays.{Lists, WithdrawsNumber}
-use Rattle.repo_object.specs.Verdict.{said_in}
+use Rattle.repo_object.specs.declared.job.Job.{Job}
+use Rattle.repo_object.specs.Verdict.{CheckedPart, said_in}
 use Rattle.repo_store.specs.StoreList.{with_packet}
 use Rattle.repo_catalog.specs.declared.entry.Entry.{Entry}
 use Rattle.repo_holdings.specs.Records.{Packet}
@@ -28,8 +29,7 @@ use Rattle.repo_holdings.specs.Contents.{IsOver, IsToldBy, IsDigestIn}
 use Rattle.repo_holdings.specs.declared.holdings.whole.Whole.{Whole}
 use Rattle.repo_holdings.specs.WholeContents.{joined, AreContentsIn, IsWholeIn}
 use Rattle.repo_holdings.specs.Gaining.{AreTied}
-use Rattle.repo_holdings.specs.Taking.{came, with_fetched, with_all_fetched, PartsDiffer}
-use Rattle.repo_holdings.specs.declared.holdings.taking.Tried.{Tried}
+use Rattle.repo_holdings.specs.Taking.{with_fetched, what_came, with_what_came, PartsDiffer}
 use Rattle.repo_holdings.proofs.ContentLemmas.{flat_append, append_nothing}
 use Rattle.repo_holdings.proofs.GainingLemmas.{contains-value, put_here, shape_stored}
 use Rattle.repo_holdings.proofs.FreshLemmas.{StayStored, fetched_stays}
@@ -46,35 +46,42 @@ missing_apart packets u octets q other none = go (contains part_cmp (keys packet
       ∙ ap (λ (b : Bool). cond b (Some octets) (value_of part_cmp packets q)) other
       ∙ none
 
-other_at : (xs : List Tried) (u : Part) (i : ℕ) (d : Tried)
-    → contains part_cmp (map (λ (x : Tried). x.part) xs) u ≡ false
-    → i < length xs → eq_by_cmp part_cmp u (get_or xs i d).part ≡ false
+abbrev pub job_part : Job → Part
+job_part job = job.want.part
+
+other_at : (jobs : List Job) (u : Part) (i : ℕ) (d : Job) → contains part_cmp (map job_part jobs) u ≡ false
+    → i < length jobs → eq_by_cmp part_cmp u (get_or jobs i d).want.part ≡ false
 other_at [] u i d h low = absurd (omega (arith, low))
-other_at (x ∷ xs) u zero d h low = (or_parts (eq_by_cmp part_cmp u x.part) _ h).0
-other_at (x ∷ xs) u (suc i) d h low =
-    other_at xs u i d (or_parts (eq_by_cmp part_cmp u x.part) _ h).1 (omega (arith, low))
+other_at (job ∷ jobs) u zero d h low = (or_parts (eq_by_cmp part_cmp u job.want.part) _ h).0
+other_at (job ∷ jobs) u (suc i) d h low =
+    other_at jobs u i d (or_parts (eq_by_cmp part_cmp u job.want.part) _ h).1 (omega (arith, low))
 
 -- a packet that came for a part of which none was stored
-pub fetched_at : (xs : List Tried) (packets : List Packet) (i : ℕ) (d : Tried) (octets : List ℕ)
-    → PartsDiffer (map (λ (x : Tried). x.part) xs) → i < length xs
-    → value_of part_cmp packets (get_or xs i d).part ≡ None → (came (get_or xs i d)).packet ≡ Some octets
-    → value_of part_cmp (with_all_fetched (map came xs) packets) (get_or xs i d).part ≡ Some octets
-fetched_at [] packets i d octets differ low none packet = absurd (omega (arith, low))
-fetched_at (x ∷ xs) packets zero d octets differ low none packet =
-    fetched_stays (map came xs) (with_fetched x.part (came x).packet packets) x.part octets
-    (ap (λ (o : Option (List ℕ)). value_of part_cmp (with_fetched x.part o packets) x.part) packet
-    ∙ put_here packets x.part octets (contains-value packets x.part ∙ ap is_some none))
-fetched_at (x ∷ xs) packets (suc i) d octets differ low none packet =
-    fetched_at xs (with_fetched x.part (came x).packet packets) i d octets differ.1 (omega (arith, low))
-    (still (came x).packet) packet where
-      other : eq_by_cmp part_cmp (get_or xs i d).part x.part ≡ false
+pub came_at : (jobs : List Job) (parts : List (Option CheckedPart)) (packets : List Packet) (i : ℕ) (d : Job)
+    (c : CheckedPart) → PartsDiffer (map job_part jobs) → i < length jobs
+    → value_of part_cmp packets (get_or jobs i d).want.part ≡ None → slice_get parts i ≡ Some (Some c)
+    → value_of part_cmp (with_what_came jobs parts packets) (get_or jobs i d).want.part ≡ Some c.octets
+came_at [] parts packets i d c differ low none there = absurd (omega (arith, low))
+came_at (job ∷ jobs) [] packets i d c differ low none there = absurd cc
+came_at (job ∷ jobs) (part ∷ parts) packets zero d c differ low none there =
+    let is : part ≡ Some c = cc in
+    fetched_stays (what_came jobs parts) (with_fetched job.want.part (option_map (λ k. k.octets) part) packets)
+    job.want.part c.octets
+    (ap (λ (o : Option CheckedPart).
+    value_of part_cmp (with_fetched job.want.part (option_map (λ k. k.octets) o) packets) job.want.part) is
+    ∙ put_here packets job.want.part c.octets (contains-value packets job.want.part ∙ ap is_some none))
+came_at (job ∷ jobs) (part ∷ parts) packets (suc i) d c differ low none there =
+    came_at jobs parts (with_fetched job.want.part (option_map (λ k. k.octets) part) packets) i d c differ.1
+    (omega (arith, low)) (still (option_map (λ k. k.octets) part)) there where
+      other : eq_by_cmp part_cmp (get_or jobs i d).want.part job.want.part ≡ false
       other =
-          eq_turned exact_parts (get_or xs i d).part x.part
-          ∙ other_at xs x.part i d differ.0 (omega (arith, low))
+          eq_turned exact_parts (get_or jobs i d).want.part job.want.part
+          ∙ other_at jobs job.want.part i d differ.0 (omega (arith, low))
 
-      still : (o : Option (List ℕ)) → value_of part_cmp (with_fetched x.part o packets) (get_or xs i d).part ≡ None
+      still : (o : Option (List ℕ))
+          → value_of part_cmp (with_fetched job.want.part o packets) (get_or jobs i d).want.part ≡ None
       still None = none
-      still (Some more) = missing_apart packets x.part more (get_or xs i d).part other none
+      still (Some more) = missing_apart packets job.want.part more (get_or jobs i d).want.part other none
 
 -- ---- contents of what becomes whole
 

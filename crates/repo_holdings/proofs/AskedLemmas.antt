@@ -1,7 +1,7 @@
 -- What a part that a member asks for tells of what is stored.
 use Rattle.std.proofs.Common.{◌≡◌, inl, inr, ℕ, Bool, List, ◌-◌, ◌≤◌, ◌<◌, true, false, cond, ◌&&◌, ◌==◌}
 use Rattle.std.proofs.Common.{refl, sym, ap, ◌∙◌, subst, Option, Some, None, option_map, is_some, length, arith}
-use Rattle.std.specs.Prelude.{nat_le, slice_index, IsSome}
+use Rattle.std.specs.Prelude.{nat_le, slice_index, IsSome, IfSome}
 use Rattle.std.specs.Option.{option_and_then}
 use Rattle.std.proofs.lemmas.Bool.{true≢false, and_parts, or_cases, leb-true, le-leb, cases_lt, eqb-false, eqb-true}
 use Rattle.std.proofs.lemmas.Bool.{false_from_ne_true}
@@ -23,7 +23,7 @@ use Rattle.repo_holdings.specs.Records.{Packet}
 use Rattle.repo_holdings.specs.Listed.{object_said, listing_in, stored_at, said_at, listing_at, listed_shape}
 use Rattle.repo_holdings.specs.StoredParents.{index_at, index_count, lists_at, ListsAsMany, HasParent}
 use Rattle.repo_holdings.specs.declared.told.Told.{Told}
-use Rattle.repo_holdings.specs.Gaining.{AreTied, told_of, shape_told}
+use Rattle.repo_holdings.specs.Gaining.{AreTied, told_of, shape_told, told_shape}
 use Rattle.repo_holdings.proofs.GainingLemmas.{shape_stored, shape_listed, held_value, listing_says}
 
 -- ---- what records tell
@@ -54,6 +54,17 @@ shape_sized octets told h = go (said_in octets) refl h where
   go (Some (WithdrawsNumber seq)) p t =
       let is : told_of (WithdrawsNumber seq) ≡ told = cc in
       subst (λ (x : Told). IsShape (shape_told x)) is (told_sized octets (WithdrawsNumber seq) p)
+
+-- which parts the publication of a part has, as its packet tells
+pub told_shape_sized : (t : Part) (octets : List ℕ) → IfSome (told_shape t octets) IsShape
+told_shape_sized t octets = go (t.part == 0) where
+  sized : (o : Option Told) → option_map told_of (said_in octets) ≡ o → IfSome (option_map shape_told o) IsShape
+  sized None h = tt
+  sized (Some told) h = shape_sized octets told h
+
+  go : (b : Bool) → IfSome (option_map shape_told (cond b (option_map told_of (said_in octets)) None)) IsShape
+  go true = sized (option_map told_of (said_in octets)) refl
+  go false = tt
 
 -- ---- what lists a part that is asked for
 

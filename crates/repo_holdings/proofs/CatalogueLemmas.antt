@@ -22,7 +22,8 @@ use Rattle.repo_catalog.specs.Entries.{publication_of, entry_of, with_entry, wit
 use Rattle.repo_holdings.specs.KeptValues.{with_kept, kept_values}
 use Rattle.repo_holdings.specs.Records.{Packet, records_in}
 use Rattle.repo_holdings.specs.Listed.{listing_in, listing_at, stored_at, said_at, listed_shape, shapes_in}
-use Rattle.repo_holdings.specs.Listed.{packet_content, entry_listed, are_stored, entry_of_listing, whole_at, entry_at}
+use Rattle.repo_object.specs.Packets.{packet_content}
+use Rattle.repo_holdings.specs.Listed.{entry_listed, are_stored, entry_of_listing, whole_at, entry_at}
 use Rattle.repo_holdings.specs.Listed.{is_withdrawn, entries_in, alone_catalogue}
 use Rattle.repo_holdings.specs.Gaining.{with_listed}
 use Rattle.repo_holdings.proofs.SortedMaps.{same_map, rises_kept, value_of-kept}

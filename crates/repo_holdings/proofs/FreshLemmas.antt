@@ -26,12 +26,13 @@ use Rattle.repo_catalog.specs.Entries.{IsCatalogue}
 use Rattle.repo_catalog.proofs.EntryLemmas.{with_entry_rises}
 use Rattle.repo_catalog.proofs.LawLemmas.{adds_one, removes_one, entries_tell_all}
 use Rattle.repo_catalog.proofs.ManyLemmas.{adds_all, apart_more, with_entries_rises, removes_all, without_all_rises}
+use Rattle.repo_object.specs.Packets.{packet_content}
 use Rattle.repo_holdings.specs.declared.changes.Change.{Change}
 use Rattle.repo_holdings.specs.declared.changes.Change.TheVariants.{Nothing, Lists, Removes}
 use Rattle.repo_holdings.specs.declared.told.Told.{Told}
 use Rattle.repo_holdings.specs.declared.told.Told.TheVariants.{Object, Withdrawal}
 use Rattle.repo_holdings.specs.Records.{Packet}
-use Rattle.repo_holdings.specs.Listed.{stored_at, listing_in, listed_shape, packet_content, stored_content, are_stored}
+use Rattle.repo_holdings.specs.Listed.{stored_at, listing_in, listed_shape, stored_content, are_stored}
 use Rattle.repo_holdings.specs.Listed.{entry_of_listing, entry_listed, whole_at, is_withdrawn, entry_at}
 use Rattle.repo_holdings.specs.Listed.{alone_catalogue}
 use Rattle.repo_holdings.specs.declared.contents.ContentsDigest.{ContentsDigest}

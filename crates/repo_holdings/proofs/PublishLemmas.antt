@@ -29,7 +29,7 @@ use Rattle.repo_holdings.specs.Listed.{is_withdrawn}
 use Rattle.repo_holdings.specs.StoredParents.{index_count, lists_at, ListsAsMany}
 use Rattle.repo_holdings.specs.Gaining.{KeepsOthers, told_of, shape_told, told_shape}
 use Rattle.repo_holdings.specs.Changing.{withdraws_too}
-use Rattle.repo_holdings.specs.NewPublications.{as_parts, with_packets, IsNew, ListInTurn, ListsTheOthers}
+use Rattle.repo_holdings.specs.NewPublications.{as_parts, with_packets, IsNew, ListInTurn, ArePackets}
 use Rattle.repo_holdings.specs.HoldingsState.{HoldingsState, held_plan}
 use Rattle.repo_holdings.specs.HoldingsFields.{state, IsHoldings}
 use Rattle.repo_holdings.proofs.HoldingsLemmas.{plan_is}
@@ -222,7 +222,7 @@ first_listing (octets ∷ behind) = listing_in octets
 -- from part `x` on: all, or those behind the record, which is stored
 pub record AreToCome (told : Told) (l : Option Listed) (pair : Pair) (x : ℕ) (rest : List (List ℕ))
     (stored : List Packet) : Type 0 where
-  pub all : x ≡ 0 → ListsTheOthers told rest
+  pub all : x ≡ 0 → ArePackets told rest
   pub first : x ≡ 0 → first_listing rest ≡ l
   pub turn : 0 < x → ListInTurn l x rest
   pub recorded : 0 < x → listing_at stored pair ≡ l
@@ -278,7 +278,7 @@ module _ (told : Told) (l : Option Listed) (pair : Pair) (x : ℕ) (octets : Lis
         ∙ come.recorded (omega (arith, eqb-false x 0 p))
 
 -- at first all are to come
-pub all_to_come : (told : Told) (pair : Pair) (made : List (List ℕ)) (stored : List Packet) → ListsTheOthers told made
+pub all_to_come : (told : Told) (pair : Pair) (made : List (List ℕ)) (stored : List Packet) → ArePackets told made
     → AreToCome told (first_listing made) pair 0 made stored
 all_to_come told pair made stored lists = record {
   all = λ e. lists;
@@ -288,20 +288,20 @@ all_to_come told pair made stored lists = record {
 }
 
 -- how many there are
-pub count_packets : (told : Told) (made : List (List ℕ)) → ListsTheOthers told made
+pub count_packets : (told : Told) (made : List (List ℕ)) → ArePackets told made
     → length made ≡ parts_behind (shape_told told) + 1
 count_packets told [] lists = absurd lists
 count_packets told (octets ∷ behind) lists = omega (arith, lists.1.0)
 
 -- its shape is one that a record may tell
-pub packets_sized : (told : Told) (made : List (List ℕ)) → ListsTheOthers told made → IsShape (shape_told told)
+pub packets_sized : (told : Told) (made : List (List ℕ)) → ArePackets told made → IsShape (shape_told told)
 packets_sized told [] lists = absurd lists
 packets_sized told (octets ∷ behind) lists = shape_sized octets told lists.0
 
 -- ---- the packets of the whole publication
 
 module _ (packets after : List Packet) (pair : Pair) (made : List (List ℕ)) (told : Told)
-    (absent : contains part_cmp (keys packets) (part_of pair 0) ≡ false) (lists : ListsTheOthers told made)
+    (absent : contains part_cmp (keys packets) (part_of pair 0) ≡ false) (lists : ArePackets told made)
     (puts : after ≡ with_packets (as_parts pair 0 made) packets) where
   abbrev pub first_octets : List (List ℕ) → List ℕ
   first_octets [] = []
@@ -310,7 +310,7 @@ module _ (packets after : List Packet) (pair : Pair) (made : List (List ℕ)) (t
   -- its record is stored
   record_stored : stored_at after pair 0 ≡ Some (first_octets made)
   record_stored = ap (λ (es : List Packet). stored_at es pair 0) puts ∙ go made lists where
-    go : (made : List (List ℕ)) → ListsTheOthers told made
+    go : (made : List (List ℕ)) → ArePackets told made
         → stored_at (with_packets (as_parts pair 0 made) packets) pair 0 ≡ Some (first_octets made)
     go [] h = absurd h
     go (octets ∷ behind) h =
@@ -320,7 +320,7 @@ module _ (packets after : List Packet) (pair : Pair) (made : List (List ℕ)) (t
 
   first_told : option_map told_of (said_in (first_octets made)) ≡ Some told
   first_told = go made lists where
-    go : (made : List (List ℕ)) → ListsTheOthers told made
+    go : (made : List (List ℕ)) → ArePackets told made
         → option_map told_of (said_in (first_octets made)) ≡ Some told
     go [] h = absurd h
     go (octets ∷ behind) h = h.0

@@ -3,11 +3,13 @@ pub use Rattle.ndn_data.specs.Data
 pub use Rattle.sorted_lists.specs.SortedList
 pub use Rattle.repo_plan.specs.Parts
 pub use Rattle.repo_plan.specs.Plan
+pub use Rattle.repo_plan.specs.Leaps
 pub use Rattle.repo_plan.specs.Sound
 pub use Rattle.repo_plan.specs.Calls
 pub use Rattle.repo_object.specs.Limits
 pub use Rattle.repo_object.specs.Publication
 pub use Rattle.repo_object.specs.Wants
+pub use Rattle.repo_object.specs.Packets
 pub use Rattle.repo_object.specs.Verdict
 pub use Rattle.repo_store.specs.StoreList
 pub use Rattle.repo_store.specs.Served

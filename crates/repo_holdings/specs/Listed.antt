@@ -1,19 +1,18 @@
 -- Which publications stored packets are: what their records say, which objects are stored wholly, and which of those
 -- are not withdrawn.
 use Rattle.std.specs.Prelude.{ℕ, ◌+◌, [], Bool, false, List, map, length, Option, Some, None}
-use Rattle.std.specs.Prelude.{option_map, is_some, unwrap_or, Result, Ok, Err, if◌then◌else◌}
+use Rattle.std.specs.Prelude.{option_map, is_some, unwrap_or, if◌then◌else◌}
 use Rattle.std.specs.List.{flat_map, list_all, list_any}
 use Rattle.std.specs.Option.{option_and_then}
 use Rattle.std.specs.Ordering.{eq_by_cmp}
 use Rattle.sha2.specs.Sha256.{sha256}
-use Rattle.ndn_name.specs.declared.fault.PacketFault.{PacketFault}
-use Rattle.ndn_data.specs.Data.{Data, data_of}
 use Rattle.sorted_lists.specs.Range.{numbers_from}
 use Rattle.sorted_lists.specs.SortedList.{value_of}
 use Rattle.repo_plan.specs.Parts.{Pair, pair_cmp, part_cmp, part_of, parts_behind, shape_of_segments}
 use Rattle.repo_plan.specs.declared.shape.Shape.{Shape}
 use Rattle.repo_object.specs.Publication.{Listed, RecordSays, shape_said}
 use Rattle.repo_object.specs.Publication.RecordSays.{Lists, WithdrawsNumber}
+use Rattle.repo_object.specs.Packets.{packet_content}
 use Rattle.repo_object.specs.Verdict.{said_in}
 use Rattle.repo_catalog.specs.declared.entry.Entry.{Entry}
 use Rattle.repo_holdings.specs.KeptValues.{kept_values}
@@ -75,14 +74,6 @@ abbrev pub is_withdrawal : List Packet → Pair → Bool
 is_withdrawal packets pair = is_some (option_and_then (withdrawn_by pair) (said_at packets pair))
 
 -- ---- contents
-
--- the content of a packet
-abbrev pub content_read : Result Data PacketFault → List ℕ
-content_read (Ok d) = d.content
-content_read (Err fault) = []
-
-abbrev pub packet_content : List ℕ → List ℕ
-packet_content octets = content_read (data_of octets)
 
 -- the content of a publication's part
 abbrev pub stored_content : List Packet → Pair → ℕ → List ℕ

@@ -1,8 +1,6 @@
 -- Publications that are held from their beginning on.
-use Rattle.std.specs.Prelude.{◌≡◌, ℕ, ◌+◌, ◌-◌, true, false, List, [], ◌∷◌, length, Option, Some, option_map, IsOk}
-use Rattle.std.specs.List.{All}
+use Rattle.std.specs.Prelude.{◌≡◌, ℕ, ◌+◌, ◌-◌, true, false, List, [], ◌∷◌, length, Option, Some, option_map}
 use Rattle.std.specs.Option.{option_and_then}
-use Rattle.ndn_data.specs.Data.{data_of}
 use Rattle.repo_plan.specs.Parts.{Pair, part_of, parts_behind}
 use Rattle.repo_plan.specs.Plan.{PlanState, knows, holds, hides, is_claimed}
 use Rattle.repo_object.specs.Publication.{Listed}
@@ -32,17 +30,13 @@ ListInTurn l x [] = Unit {0}
 ListInTurn l x (octets ∷ more) =
     ListsAsMany octets (option_and_then (index_count x) l) × ListInTurn l (x + 1) more
 
--- the first packet is a record that tells this, and the others are those behind it
-abbrev pub ListsTheOthers : Told → List (List ℕ) → Type 0
-ListsTheOthers told [] = ⊥
-ListsTheOthers told (octets ∷ behind) =
+-- the packets of a publication that is told of so, the record, the index packets, and then the segments: the first is a
+-- record that tells this, and the others are those after it
+abbrev pub ArePackets : Told → List (List ℕ) → Type 0
+ArePackets told [] = ⊥
+ArePackets told (octets ∷ behind) =
     (option_map told_of (said_in octets) ≡ Some told)
     × ((length behind ≡ parts_behind (shape_told told)) × ListInTurn (listing_in octets) 1 behind)
-
--- the packets of a publication that is told of so: the record, the index packets, and then the segments
-pub record ArePackets (told : Told) (made : List (List ℕ)) : Type 0 where
-  pub read : All (λ octets. IsOk (data_of octets)) made
-  pub lists : ListsTheOthers told made
 
 -- a known publication of which the plan has nothing
 pub record IsNew (plan : PlanState) (pair : Pair) : Type 0 where

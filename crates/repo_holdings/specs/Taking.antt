@@ -7,6 +7,8 @@ use Rattle.repo_plan.specs.declared.part.Part.{Part}
 use Rattle.repo_plan.specs.Parts.{Pair, pair_cmp, part_cmp, pair_of}
 use Rattle.sorted_lists.specs.SortedList.{contains, value_of, with_value}
 use Rattle.repo_plan.specs.Plan.{PlanState, holds, hides, is_asked, is_claimed, attempts_of}
+use Rattle.repo_object.specs.declared.job.Job.{Job}
+use Rattle.repo_object.specs.Verdict.{CheckedPart}
 use Rattle.repo_store.specs.StoreList.{with_packet}
 use Rattle.repo_catalog.specs.declared.entry.Entry.{Entry}
 use Rattle.repo_catalog.specs.Entries.{with_entries, without_all, AreApart, IsCatalogue}
@@ -64,6 +66,16 @@ pub record AreTakable (plan : PlanState) (packets : List Packet) (xs : List Trie
 abbrev pub with_all_fetched : List Fetched → List Packet → List Packet
 with_all_fetched [] stored = stored
 with_all_fetched (x ∷ xs) stored = with_all_fetched xs (with_fetched x.part x.packet stored)
+
+-- the parts of jobs, with the checked packets that came for them
+abbrev pub what_came : List Job → List (Option CheckedPart) → List Fetched
+what_came (job ∷ jobs) (part ∷ parts) =
+    record { part = job.want.part; packet = option_map (λ c. c.octets) part; attempts = 0 } ∷ what_came jobs parts
+what_came _ _ = []
+
+-- stored packets with all that came for jobs
+abbrev pub with_what_came : List Job → List (Option CheckedPart) → List Packet → List Packet
+with_what_came jobs parts stored = with_all_fetched (what_came jobs parts) stored
 
 -- attempts with all that were made
 abbrev pub with_all_tries : List Fetched → List (Part × ℕ) → List (Part × ℕ)

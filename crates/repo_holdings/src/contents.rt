@@ -1,12 +1,15 @@
 // The contents of publications, joined, and their digests.
-ghost use Rattle.std.specs.Prelude.{◌≡◌, ◌≤◌, length, IsSomeAnd};
+ghost use Rattle.std.specs.Prelude.{◌≡◌, ◌≤◌, length, option_map, IfSome, IsSomeAnd};
 ghost use Rattle.std.specs.List.{All};
 ghost use Rattle.sha2.specs.Sha256.{sha256};
-ghost use Rattle.repo_plan.specs.Parts.{IsShape};
-ghost use Rattle.repo_holdings.specs.Listed.{whole_at, packet_content, contents_joined};
+ghost use Rattle.sorted_lists.specs.SortedList.{value_of};
+ghost use Rattle.repo_plan.specs.Parts.{IsShape, part_cmp};
+ghost use Rattle.repo_object.specs.Packets.{packet_content};
+ghost use Rattle.repo_holdings.specs.Listed.{whole_at, contents_joined};
 ghost use Rattle.repo_holdings.specs.Contents.{IsOver, IsDigestIn};
 
 use ndn_data::DataView;
+use repo_object::Checked;
 use repo_plan::{Part, Shape};
 use repo_store::Store;
 use sha2::{Digest, Sha256};
@@ -56,19 +59,29 @@ fn contents_digest(store: &Store, publisher: u32, seq: u16, shape: Shape) -> (u6
             seq,
             part: shape.index + 1 + x,
         };
-        let content = content_of(store.get(part).unwrap_or(&[]));
+        let content = stored_content(store, part).unwrap_or(&[]);
         octets += content.len() as u64;
         digest.update(content);
     }
     (octets, digest.finalize())
 }
 
-// The content of a packet.
-pub(crate) fn content_of(packet: &[u8]) -> &[u8]
-    ensures exact { result.now ≡ packet_content packet.now }
+// The content of a packet that is stored as this part.
+pub(crate) fn stored_content(store: &Store, part: Part) -> Option<&[u8]>
+    ensures exact { option_map (λ content. content.now) result
+        ≡ option_map packet_content (value_of part_cmp store.now.packets part) }
+    ensures short { IfSome result (λ content. length content.now ≤ 8800) }
+{
+    let packet = store.packet(part)?;
+    Some(packet.content())
+}
+
+// The content of a packet that came.
+pub(crate) fn content_of<'a>(checked: &Checked<'a>) -> &'a [u8]
+    ensures exact { result.now ≡ packet_content checked.now.octets }
     ensures short { length result.now ≤ 8800 }
 {
-    match DataView::read(packet) {
+    match DataView::read(checked.octets()) {
         Ok(data) => data.content,
         Err(_) => &[],
     }

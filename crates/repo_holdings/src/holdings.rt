@@ -19,6 +19,7 @@ mod whole;
 use crate::notes::Notes;
 use ndn_name::PacketFault;
 use repo_catalog::{Catalogue, Entry};
+use repo_object::Packet;
 use repo_plan::{Part, Plan};
 use repo_store::Store;
 use std::alloc::{AllocError, Global};
@@ -128,11 +129,18 @@ impl Holdings {
         self.store.len()
     }
 
-    /// The packet of a part that is held. It takes no memory.
+    /// The octets of the packet of a part that is held. It takes no memory.
     pub fn packet(&self, part: Part) -> Option<&[u8]>
         ensures { option_map (λ octets. octets.now) result ≡ value_of part_cmp self.now.store part }
     {
         self.store.get(part)
+    }
+
+    /// The packet of a part that is held, which may be shared. It takes no memory.
+    pub fn stored(&self, part: Part) -> Option<&Packet>
+        ensures { option_map (λ packet. packet.now) result ≡ value_of part_cmp self.now.store part }
+    {
+        self.store.packet(part)
     }
 
     /// Puts what waits in order of the packets' names, so that it is found faster. Nothing that is held changes. It

@@ -1,14 +1,12 @@
 // What records tell of their publications, and packets that come.
-ghost use Rattle.std.specs.Prelude.{◌≡◌, Some, option_map, IsOk, IsSome, IfSome, IfOk, List};
-ghost use Rattle.sha2.specs.Sha256.{sha256};
-ghost use Rattle.ndn_data.specs.Data.{data_of};
+ghost use Rattle.std.specs.Prelude.{◌≡◌, Some, option_map, IsSome, IfOk, List};
 ghost use Rattle.repo_object.specs.Verdict.{said_in};
-ghost use Rattle.repo_holdings.specs.Records.{Packet};
+ghost use Rattle.repo_holdings.specs.Records.{Packet as Stored};
 ghost use Rattle.repo_holdings.specs.StoredParents.{lists_at, ListsAsMany};
 ghost use Rattle.repo_holdings.specs.Gaining.{told_of, told_in, shape_told, IsArrival};
 
 use ndn_name::Name;
-use repo_object::{Digested, RecordView};
+use repo_object::{Packet, RecordView};
 use repo_plan::{Part, Shape};
 use std::alloc::{AllocError, Global};
 
@@ -50,28 +48,21 @@ impl Told {
 /// A packet that came for a part, and what it tells, if it is a record.
 #[derive(Drop)]
 pub struct Arrival {
-    pub packet: Digested,
+    pub packet: Packet,
     pub told: Option<Told>,
 }
 
 impl Arrival {
-    /// The packet that came for a part and passed for it, with its digest, if that is known.
-    pub fn new(
-        alloc: Global,
-        part: Part,
-        octets: &[u8],
-        digest: Option<&[u8; 32]>,
-    ) -> Result<Arrival, AllocError>
-        requires data { IsOk (data_of octets.now) }
-        requires digest { IfSome digest (λ digest. digest.now ≡ sha256 octets.now) }
-        requires record_part { part.part ≡ 0 → IsSome (said_in octets.now) }
-        ensures octets { IfOk result (λ arrival. arrival.packet ≡ octets.now) }
-        ensures told { IfOk result (λ arrival. arrival.told ≡ told_in part octets.now) }
-        ensures arrival { IfOk result (λ arrival. (packets : List Packet)
-            → ListsAsMany octets.now (lists_at packets part)
+    /// The packet that came for a part and passed for it.
+    pub fn new(alloc: Global, part: Part, packet: Packet) -> Result<Arrival, AllocError>
+        requires record_part { part.part ≡ 0 → IsSome (said_in packet) }
+        ensures packet { IfOk result (λ arrival. arrival.packet ≡ packet) }
+        ensures told { IfOk result (λ arrival. arrival.told ≡ told_in part packet) }
+        ensures arrival { IfOk result (λ arrival. (packets : List Stored)
+            → ListsAsMany packet (lists_at packets part)
             → IsArrival packets part arrival.packet arrival.told) }
     {
-        let packet = Digested::new(octets.to_vec(alloc)?, digest);
+        let octets = packet.octets();
         let told = if part.part == 0 {
             Some(Told::of_record(alloc, octets)?)
         } else {

@@ -26,15 +26,16 @@ use Rattle.group_model.specs.Member.{with_tries}
 use Rattle.repo_member.specs.Alone.{Alone, alone_plan, alone_publishes, packet_in, logged, alone_takes}
 use Rattle.repo_holdings.specs.Taking.{Fetched}
 use Rattle.repo_holdings.specs.Taking.{with_fetched}
-use Rattle.repo_member.specs.Verdicts.{hear_verdict, accept_verdict}
+use Rattle.repo_member.specs.Verdicts.{hear_verdict, vector_verdict, accept_verdict}
 use Rattle.repo_member.specs.Outcomes.{outcome_of}
 use Rattle.repo_member.specs.Deleting.{alone_deletes}
 use Rattle.repo_member.specs.Commanded.{order_of, alone_starts, alone_obeys, alone_after_order}
 use Rattle.repo_member.specs.Blocks.{alone_block, alone_keeps, after_block}
-use Rattle.repo_member.specs.Calls.{MemberCall, Publish, Withdraw, Hear, JoinFrom, Fire, Claim, Lose, Accept}
-use Rattle.repo_member.specs.Calls.{TakeOutcome}
-use Rattle.repo_member.specs.Calls.{Command, Block, EndClaims, Reset, Restart, if_heard, if_joined, if_claimed, if_lost}
-use Rattle.repo_member.specs.Calls.{if_accepted, if_numbers, after_call, after_calls, LogsGoOn, PublicationsStay}
+use Rattle.repo_member.specs.Calls.{MemberCall, Publish, Withdraw, Hear, HearVector, JoinFrom, JoinVector, Fire, Claim}
+use Rattle.repo_member.specs.Calls.{Lose, Accept, AcceptChecked, TakeOutcome, TakeDigested, Command, CommandChecked}
+use Rattle.repo_member.specs.Calls.{Block, EndClaims, Reset, Restart, OrderNames, if_heard, if_joined, if_claimed}
+use Rattle.repo_member.specs.Calls.{if_lost, if_claimed_held, if_accepted, if_numbers, after_call, after_calls}
+use Rattle.repo_member.specs.Calls.{LogsGoOn, PublicationsStay}
 use Rattle.repo_member.specs.Calls.{WithdrawalsStay, LoggedPacketsStay}
 use Rattle.group_model.specs.Publications.{has_unwithdrawn}
 
@@ -65,6 +66,34 @@ more_published : (g : GroupKeys) (post : Post) (moment draw : ℕ) (a : Alone) (
 more_published g post moment draw a true = record { number = refl; more = post ∷ []; log = refl }
 more_published g post moment draw a false = nothing_more a a refl refl
 
+more_heard : (moment draw : ℕ) (a : Alone) (r : Result (List ℕ) HearRefusal) → HasMore a (if_heard moment draw a r)
+more_heard moment draw a (Ok told) = nothing_more a (if_heard moment draw a (Ok told)) refl refl
+more_heard moment draw a (Err refusal) = nothing_more a a refl refl
+
+more_joined : (a : Alone) (r : Result (List ℕ) HearRefusal) → HasMore a (if_joined a r)
+more_joined a (Ok told) = nothing_more a (if_joined a (Ok told)) refl refl
+more_joined a (Err refusal) = nothing_more a a refl refl
+
+more_taken : (xs : List Fetched) (a : Alone) → HasMore a (alone_takes xs a)
+more_taken xs a =
+    nothing_more a (alone_takes xs a) (takes_same (λ b. b.number) (λ b s t. refl) xs a)
+    (takes_same (λ b. b.log) (λ b s t. refl) xs a)
+
+more_ordered : (order : Result (ℕ × commands.Command) ℕ) (a : Alone) → HasMore a (alone_after_order order a)
+more_ordered order a = go order where
+  started : (name : List Component) (first last : ℕ) (o : Option ℕ) → HasMore a (alone_starts name first last a o)
+  started name first last None = nothing_more a a refl refl
+  started name first last (Some n) = nothing_more a (alone_starts name first last a (Some n)) refl refl
+
+  obeyed : (command : commands.Command) → HasMore a (alone_obeys command a)
+  obeyed (Insert name first last) = started name first last (next_number a.insertions)
+  obeyed (Check process) = nothing_more a a refl refl
+  obeyed (Delete name) = nothing_more a (alone_deletes name a) refl refl
+
+  go : (order : Result (ℕ × commands.Command) ℕ) → HasMore a (alone_after_order order a)
+  go (Ok order) = obeyed order.1
+  go (Err code) = nothing_more a a refl refl
+
 more_after : (g : GroupKeys) (call : MemberCall) (a : Alone) → HasMore a (after_call g call a)
 more_after g (Publish object moment draw) a =
     more_published g (Offers object) moment draw a (nat_lt (length a.log) 65535)
@@ -72,14 +101,10 @@ more_after g (Withdraw seq moment draw) a = go (has_unwithdrawn a.log seq) where
   go : (b : Bool) → HasMore a (cond b (if_numbers g (Withdraws seq) moment draw a) a)
   go true = more_published g (Withdraws seq) moment draw a (nat_lt (length a.log) 65535)
   go false = nothing_more a a refl refl
-more_after g (Hear octets moment draw) a = go (hear_verdict g a octets) where
-  go : (r : Result (List ℕ) HearRefusal) → HasMore a (if_heard moment draw a r)
-  go (Ok told) = nothing_more a (if_heard moment draw a (Ok told)) refl refl
-  go (Err refusal) = nothing_more a a refl refl
-more_after g (JoinFrom octets) a = go (hear_verdict g a octets) where
-  go : (r : Result (List ℕ) HearRefusal) → HasMore a (if_joined a r)
-  go (Ok told) = nothing_more a (if_joined a (Ok told)) refl refl
-  go (Err refusal) = nothing_more a a refl refl
+more_after g (Hear octets moment draw) a = more_heard moment draw a (hear_verdict g a octets)
+more_after g (HearVector told moment draw) a = more_heard moment draw a (vector_verdict a told)
+more_after g (JoinFrom octets) a = more_joined a (hear_verdict g a octets)
+more_after g (JoinVector told) a = more_joined a (vector_verdict a told)
 more_after g (Fire moment draw) a = nothing_more a (after_call g (Fire moment draw) a) refl refl
 more_after g (Claim f) a = go (claim_of (alone_plan a) f) where
   go : (claim : Option Part) → HasMore a (if_claimed f a claim)
@@ -93,23 +118,14 @@ more_after g (Accept f octets) a = go (accept_verdict g a f octets) where
   go : (r : Result Part AcceptRefusal) → HasMore a (if_accepted f octets a r)
   go (Ok t) = nothing_more a (if_accepted f octets a (Ok t)) refl refl
   go (Err refusal) = nothing_more a a refl refl
-more_after g (TakeOutcome jobs parts attempts) a =
-    let xs = outcome_of jobs parts attempts in
-    nothing_more a (alone_takes xs a) (takes_same (λ b. b.number) (λ b s t. refl) xs a)
-    (takes_same (λ b. b.log) (λ b s t. refl) xs a)
-more_after g (Command octets) a = go (order_of g a.number octets) where
-  started : (name : List Component) (first last : ℕ) (o : Option ℕ) → HasMore a (alone_starts name first last a o)
-  started name first last None = nothing_more a a refl refl
-  started name first last (Some n) = nothing_more a (alone_starts name first last a (Some n)) refl refl
-
-  obeyed : (command : commands.Command) → HasMore a (alone_obeys command a)
-  obeyed (Insert name first last) = started name first last (next_number a.insertions)
-  obeyed (Check process) = nothing_more a a refl refl
-  obeyed (Delete name) = nothing_more a (alone_deletes name a) refl refl
-
-  go : (order : Result (ℕ × commands.Command) ℕ) → HasMore a (alone_after_order order a)
-  go (Ok order) = obeyed order.1
-  go (Err code) = nothing_more a a refl refl
+more_after g (AcceptChecked f checked) a = go (claim_of (alone_plan a) f) where
+  go : (claim : Option Part) → HasMore a (if_claimed_held f checked.octets a claim)
+  go None = nothing_more a a refl refl
+  go (Some t) = nothing_more a (if_claimed_held f checked.octets a (Some t)) refl refl
+more_after g (TakeOutcome jobs parts attempts) a = more_taken (outcome_of jobs parts attempts) a
+more_after g (TakeDigested jobs parts attempts digests) a = more_taken (outcome_of jobs parts attempts) a
+more_after g (Command octets) a = more_ordered (order_of g a.number octets) a
+more_after g (CommandChecked octets verdict) a = more_ordered (order_of g a.number octets) a
 more_after g (Block process index content moment draw) a = go (alone_block a process index content) where
   published : (p : Process) (b : Bool)
       → HasMore a (cond b (alone_publishes g (Offers (object_of p)) moment draw (alone_keeps process (closed p) a)) a)
@@ -124,6 +140,7 @@ more_after g (Block process index content moment draw) a = go (alone_block a pro
 more_after g EndClaims a = nothing_more a (after_call g EndClaims a) refl refl
 more_after g (Reset moment draw) a = nothing_more a (after_call g (Reset moment draw) a) refl refl
 more_after g (Restart moment draw) a = nothing_more a (after_call g (Restart moment draw) a) refl refl
+more_after g OrderNames a = nothing_more a a refl refl
 
 pub more_after_all : (g : GroupKeys) (calls : List MemberCall) (a : Alone) → HasMore a (after_calls g calls a)
 more_after_all g [] a = nothing_more a a refl refl

@@ -30,15 +30,16 @@ use Rattle.repo_holdings.specs.Taking.{Fetched}
 use Rattle.repo_holdings.specs.NewPublications.{with_packets}
 use Rattle.repo_member.specs.Alone.{alone_takes}
 use Rattle.repo_holdings.specs.Taking.{with_fetched}
-use Rattle.repo_member.specs.Verdicts.{hear_verdict, accept_verdict}
+use Rattle.repo_member.specs.Verdicts.{hear_verdict, vector_verdict, accept_verdict}
 use Rattle.repo_member.specs.Outcomes.{outcome_of}
 use Rattle.repo_member.specs.Deleting.{catalogued_named, alone_hides}
 use Rattle.repo_member.specs.Commanded.{order_of, alone_starts, alone_obeys, alone_after_order}
 use Rattle.repo_member.specs.Blocks.{alone_block, alone_keeps, after_block}
-use Rattle.repo_member.specs.Calls.{MemberCall, Publish, Withdraw, if_numbers, Hear, JoinFrom, Fire, Claim, Lose}
-use Rattle.repo_member.specs.Calls.{Accept, TakeOutcome}
-use Rattle.repo_member.specs.Calls.{Command, Block, EndClaims, Reset, Restart, if_heard, if_joined, if_claimed, if_lost}
-use Rattle.repo_member.specs.Calls.{if_accepted, after_call, after_calls, HeldPacketsStay, HiddenForGood, HiddenIsGone}
+use Rattle.repo_member.specs.Calls.{MemberCall, Publish, Withdraw, if_numbers, Hear, HearVector, JoinFrom, JoinVector}
+use Rattle.repo_member.specs.Calls.{Fire, Claim, Lose, Accept, AcceptChecked, TakeOutcome, TakeDigested, Command}
+use Rattle.repo_member.specs.Calls.{CommandChecked, Block, EndClaims, Reset, Restart, OrderNames, if_heard, if_joined}
+use Rattle.repo_member.specs.Calls.{if_claimed, if_lost, if_claimed_held, if_accepted, after_call, after_calls}
+use Rattle.repo_member.specs.Calls.{HeldPacketsStay, HiddenForGood, HiddenIsGone}
 use Rattle.repo_member.specs.Calls.{OwnStored}
 use Rattle.repo_holdings.proofs.GainingLemmas.{put_elsewhere}
 use Rattle.repo_holdings.proofs.HidingLemmas.{value_outside}
@@ -153,6 +154,33 @@ keeps_published g post moment draw old a hidden store true =
     (stays_with_all (new_packets g post a) a.store))
 keeps_published g post moment draw old a hidden store false = keeps_as_it_is old old refl refl
 
+keeps_heard : (moment draw : ℕ) (a : Alone) (v : Result (List ℕ) HearRefusal) → Keeps a (if_heard moment draw a v)
+keeps_heard moment draw a (Ok told) = keeps_as_it_is a (if_heard moment draw a (Ok told)) refl refl
+keeps_heard moment draw a (Err refusal) = keeps_as_it_is a a refl refl
+
+keeps_joined : (a : Alone) (v : Result (List ℕ) HearRefusal) → Keeps a (if_joined a v)
+keeps_joined a (Ok told) = keeps_as_it_is a (if_joined a (Ok told)) refl refl
+keeps_joined a (Err refusal) = keeps_as_it_is a a refl refl
+
+keeps_taken : (xs : List Fetched) (a : Alone) → Keeps a (alone_takes xs a)
+keeps_taken xs a =
+    keeps_all a (alone_takes xs a) (takes_same (λ b. b.hidden) (λ b s t. refl) xs a) (stays_taken xs a)
+
+keeps_ordered : (order : Result (ℕ × commands.Command) ℕ) (a : Alone) → Keeps a (alone_after_order order a)
+keeps_ordered order a = go order where
+  started : (name : List Component) (first last : ℕ) (o : Option ℕ) → Keeps a (alone_starts name first last a o)
+  started name first last None = keeps_as_it_is a a refl refl
+  started name first last (Some n) = keeps_as_it_is a (alone_starts name first last a (Some n)) refl refl
+
+  obeyed : (command : commands.Command) → Keeps a (alone_obeys command a)
+  obeyed (Insert name first last) = started name first last (next_number a.insertions)
+  obeyed (Check process) = keeps_as_it_is a a refl refl
+  obeyed (Delete name) = keeps_hidden (catalogued_named name a) a
+
+  go : (order : Result (ℕ × commands.Command) ℕ) → Keeps a (alone_after_order order a)
+  go (Ok order) = obeyed order.1
+  go (Err code) = keeps_as_it_is a a refl refl
+
 keeps_after : (g : GroupKeys) (call : MemberCall) (a : Alone) → Keeps a (after_call g call a)
 keeps_after g (Publish object moment draw) a =
     keeps_published g (Offers object) moment draw a a refl refl (nat_lt (length a.log) 65535)
@@ -160,14 +188,10 @@ keeps_after g (Withdraw seq moment draw) a = go (has_unwithdrawn a.log seq) wher
   go : (b : Bool) → Keeps a (cond b (if_numbers g (Withdraws seq) moment draw a) a)
   go true = keeps_published g (Withdraws seq) moment draw a a refl refl (nat_lt (length a.log) 65535)
   go false = keeps_as_it_is a a refl refl
-keeps_after g (Hear octets moment draw) a = go (hear_verdict g a octets) where
-  go : (v : Result (List ℕ) HearRefusal) → Keeps a (if_heard moment draw a v)
-  go (Ok told) = keeps_as_it_is a (if_heard moment draw a (Ok told)) refl refl
-  go (Err refusal) = keeps_as_it_is a a refl refl
-keeps_after g (JoinFrom octets) a = go (hear_verdict g a octets) where
-  go : (v : Result (List ℕ) HearRefusal) → Keeps a (if_joined a v)
-  go (Ok told) = keeps_as_it_is a (if_joined a (Ok told)) refl refl
-  go (Err refusal) = keeps_as_it_is a a refl refl
+keeps_after g (Hear octets moment draw) a = keeps_heard moment draw a (hear_verdict g a octets)
+keeps_after g (HearVector told moment draw) a = keeps_heard moment draw a (vector_verdict a told)
+keeps_after g (JoinFrom octets) a = keeps_joined a (hear_verdict g a octets)
+keeps_after g (JoinVector told) a = keeps_joined a (vector_verdict a told)
 keeps_after g (Fire moment draw) a = keeps_as_it_is a (after_call g (Fire moment draw) a) refl refl
 keeps_after g (Claim f) a = go (claim_of (alone_plan a) f) where
   go : (claim : Option Part) → Keeps a (if_claimed f a claim)
@@ -181,22 +205,15 @@ keeps_after g (Accept f octets) a = go (accept_verdict g a f octets) where
   go : (v : Result Part AcceptRefusal) → Keeps a (if_accepted f octets a v)
   go (Ok t) = keeps_all a (if_accepted f octets a (Ok t)) refl (stays_with t octets a.store)
   go (Err refusal) = keeps_as_it_is a a refl refl
-keeps_after g (TakeOutcome jobs parts attempts) a =
-    let xs = outcome_of jobs parts attempts in
-    keeps_all a (alone_takes xs a) (takes_same (λ b. b.hidden) (λ b s t. refl) xs a) (stays_taken xs a)
-keeps_after g (Command octets) a = go (order_of g a.number octets) where
-  started : (name : List Component) (first last : ℕ) (o : Option ℕ) → Keeps a (alone_starts name first last a o)
-  started name first last None = keeps_as_it_is a a refl refl
-  started name first last (Some n) = keeps_as_it_is a (alone_starts name first last a (Some n)) refl refl
-
-  obeyed : (command : commands.Command) → Keeps a (alone_obeys command a)
-  obeyed (Insert name first last) = started name first last (next_number a.insertions)
-  obeyed (Check process) = keeps_as_it_is a a refl refl
-  obeyed (Delete name) = keeps_hidden (catalogued_named name a) a
-
-  go : (order : Result (ℕ × commands.Command) ℕ) → Keeps a (alone_after_order order a)
-  go (Ok order) = obeyed order.1
-  go (Err code) = keeps_as_it_is a a refl refl
+keeps_after g (AcceptChecked f checked) a = go (claim_of (alone_plan a) f) where
+  go : (claim : Option Part) → Keeps a (if_claimed_held f checked.octets a claim)
+  go None = keeps_as_it_is a a refl refl
+  go (Some t) =
+      keeps_all a (if_claimed_held f checked.octets a (Some t)) refl (stays_with t checked.octets a.store)
+keeps_after g (TakeOutcome jobs parts attempts) a = keeps_taken (outcome_of jobs parts attempts) a
+keeps_after g (TakeDigested jobs parts attempts digests) a = keeps_taken (outcome_of jobs parts attempts) a
+keeps_after g (Command octets) a = keeps_ordered (order_of g a.number octets) a
+keeps_after g (CommandChecked octets verdict) a = keeps_ordered (order_of g a.number octets) a
 keeps_after g (Block process index content moment draw) a = go (alone_block a process index content) where
   go : (state : BlockState) → Keeps a (after_block g process moment draw a state)
   go Unknown = keeps_as_it_is a a refl refl
@@ -208,6 +225,7 @@ keeps_after g (Block process index content moment draw) a = go (alone_block a pr
 keeps_after g EndClaims a = keeps_as_it_is a (after_call g EndClaims a) refl refl
 keeps_after g (Reset moment draw) a = keeps_as_it_is a (after_call g (Reset moment draw) a) refl refl
 keeps_after g (Restart moment draw) a = keeps_as_it_is a (after_call g (Restart moment draw) a) refl refl
+keeps_after g OrderNames a = keeps_as_it_is a a refl refl
 
 -- ---- the laws
 

@@ -1,7 +1,7 @@
 -- What holds of every member that calls reach.
 use Rattle.std.proofs.Common.{◌≡◌, ℕ, ◌-◌, Bool, true, false, cond, List, [], ◌∷◌, length, Option, Some, None, Result}
-use Rattle.std.proofs.Common.{Ok, Err, refl, ap, ◌∙◌, subst, arith}
-use Rattle.std.specs.Prelude.{◌+◌, ◌<◌, ◌&&◌, not, nat_le, nat_lt, is_ok, is_some, slice_index_or}
+use Rattle.std.proofs.Common.{Ok, Err, refl, sym, ap, ◌∙◌, subst, arith}
+use Rattle.std.specs.Prelude.{◌+◌, ◌<◌, ◌&&◌, not, nat_le, nat_lt, is_ok, is_some, slice_index_or, IfSome, IfOk}
 use Rattle.std.specs.List.{list_any}
 use Rattle.std.proofs.lemmas.Bool.{and_parts, leb-true, ltb-true}
 use Rattle.svs_sync.specs.KeptVector.{Keeper, steady_kept, hears_kept, fired_kept}
@@ -14,36 +14,54 @@ use Rattle.repo_plan.proofs.Changes.{wanted_parts, sound_first, sound_release, s
 use Rattle.repo_object.specs.declared.part_refusal.PartRefusal.{PartRefusal}
 use Rattle.repo_object.specs.Objects.{Post, IsPost, offered, withdraws_number}
 use Rattle.repo_object.specs.Objects.Post.{Offers, Withdraws}
-use Rattle.repo_object.specs.Verdict.{ring_verdict}
+use Rattle.repo_object.specs.Verdict.{CheckedPart, ring_verdict}
+use Rattle.repo_command.specs.declared.command.Command as commands
+use Rattle.repo_command.specs.declared.command_refusal.CommandRefusal.{CommandRefusal}
+use Rattle.repo_command.specs.Commands.{CommandIsSpelled}
 use Rattle.group_model.specs.Publications.{has_unwithdrawn, no_post}
 use Rattle.repo_member.specs.declared.refusals.HearRefusal.{HearRefusal}
 use Rattle.repo_member.specs.declared.refusals.AcceptRefusal.{AcceptRefusal}
 use Rattle.repo_member.specs.Groups.{GroupKeys}
 use Rattle.repo_member.specs.Alone.{Alone, alone_plan, alone_publishes, alone_learns, alone_claims, alone_accepts}
 use Rattle.repo_member.specs.Alone.{alone_ends_claims, alone_clears, next_seq, want_of}
-use Rattle.repo_member.specs.Verdicts.{hear_verdict, passed, claim_verdict, accept_verdict}
-use Rattle.repo_member.specs.Calls.{MemberCall, Publish, Withdraw, if_numbers, Hear, JoinFrom, Fire, Claim, Lose}
-use Rattle.repo_member.specs.Calls.{Accept, TakeOutcome}
-use Rattle.repo_member.specs.Calls.{Command, Block, EndClaims, Reset, Restart, if_heard, if_joined, if_claimed, if_lost}
-use Rattle.repo_member.specs.Calls.{if_accepted, after_call, after_calls, IsAllowedCall, AreAllowedCalls, InEveryMember}
+use Rattle.repo_member.specs.Verdicts.{hear_verdict, vector_verdict, passed, claim_verdict, accept_verdict}
+use Rattle.repo_member.specs.Outcomes.{IsCheckedFor}
+use Rattle.repo_member.specs.Commanded.{coded, order_of}
+use Rattle.repo_member.specs.Calls.{MemberCall, Publish, Withdraw, if_numbers, Hear, HearVector, JoinFrom, JoinVector}
+use Rattle.repo_member.specs.Calls.{Fire, Claim, Lose, Accept, AcceptChecked, TakeOutcome, TakeDigested, Command}
+use Rattle.repo_member.specs.Calls.{CommandChecked, Block, EndClaims, Reset, Restart, OrderNames, if_heard, if_joined}
+use Rattle.repo_member.specs.Calls.{if_claimed, if_lost, if_claimed_held, if_accepted, after_call, after_calls}
+use Rattle.repo_member.specs.Calls.{CanBeTold, IsCheckedForClaim, IsAllowedCall, AreAllowedCalls, InEveryMember}
 use Rattle.repo_member.proofs.MemberLemmas.{still_wide}
-use Rattle.repo_member.proofs.CallVectors.{told_is}
+use Rattle.repo_member.proofs.CallVectors.{told_is, taken_vector}
 use Rattle.svs_sync.proofs.ToldWidth.{told_wide}
 use Rattle.repo_member.proofs.HeldParts.{IsReached, PassesNow, reached_opening, reached_with, reached_learns}
 use Rattle.repo_member.proofs.HeldParts.{reached_gains}
 use Rattle.repo_member.proofs.PublishedParts.{reached_publishes}
-use Rattle.repo_member.proofs.FetchedParts.{reached_takes}
+use Rattle.repo_member.proofs.FetchedParts.{checked_passes, reached_takes}
 use Rattle.repo_member.proofs.InsertionParts.{reached_order, reached_blocks, reached_clears}
 
 -- ---- a call
 
--- what octets tell is learnt
-learnt : (g : GroupKeys) (a : Alone) (octets told : List ℕ) → hear_verdict g a octets ≡ Ok told → IsReached g a
-    → IsReached g (alone_learns told a)
-learnt g a octets told verdict r =
+-- what octets tell can be told
+told_by : (g : GroupKeys) (a : Alone) (octets told : List ℕ) → IsReached g a → hear_verdict g a octets ≡ Ok told
+    → CanBeTold a told
+told_by g a octets told r verdict =
     let is = told_is g a octets told verdict in
-    reached_learns g a told (told_wide g.members.names g.name g.members.ring octets (is.signer, told) is.verdict)
-    is.not_ahead r
+    record {
+      width = told_wide g.members.names g.name g.members.ring octets (is.signer, told) is.verdict ∙ r.of;
+      own = is.not_ahead;
+    }
+
+-- so can a vector that is taken
+taken_by : (a : Alone) (told taken : List ℕ) → CanBeTold a told → vector_verdict a told ≡ Ok taken
+    → CanBeTold a taken
+taken_by a told taken can verdict = subst (CanBeTold a) (taken_vector a told taken verdict).0 can
+
+-- what is told is learnt
+learnt : (g : GroupKeys) (a : Alone) (told : List ℕ) → CanBeTold a told → IsReached g a
+    → IsReached g (alone_learns told a)
+learnt g a told can r = reached_learns g a told (can.width ∙ sym r.of) can.own r
 
 -- only the machine changes
 machine_too : (g : GroupKeys) (a : Alone) (machine : Keeper) → machine.members ≡ a.machine.members → IsReached g a
@@ -112,6 +130,40 @@ withdraws_earlier log seq h =
     let high = leb-true seq (length log) both.1 in
     (omega (arith, low), omega (arith, high))
 
+reached_heard : (g : GroupKeys) (moment draw : ℕ) (a : Alone) (v : Result (List ℕ) HearRefusal)
+    → ((told : List ℕ) → v ≡ Ok told → CanBeTold a told) → IsReached g a → IsReached g (if_heard moment draw a v)
+reached_heard g moment draw a (Ok told) can r =
+    let machine = hears_kept moment told a.known draw a.machine a.machine.heard in
+    machine_too g (alone_learns told a) machine (still_wide moment told a.known draw a.machine machine refl)
+    (learnt g a told (can told refl) r)
+reached_heard g moment draw a (Err refusal) can r = r
+
+reached_joined : (g : GroupKeys) (a : Alone) (v : Result (List ℕ) HearRefusal)
+    → ((told : List ℕ) → v ≡ Ok told → CanBeTold a told) → IsReached g a → IsReached g (if_joined a v)
+reached_joined g a (Ok told) can r = learnt g a told (can told refl) r
+reached_joined g a (Err refusal) can r = r
+
+-- what was checked for the want of the part that is claimed
+checked_claim : (g : GroupKeys) (f : ℕ) (checked : CheckedPart) (a : Alone) → IsCheckedForClaim g a f checked
+    → IsReached g a → (claim : Option Part) → claim_of (alone_plan a) f ≡ claim
+    → IsReached g (if_claimed_held f checked.octets a claim)
+checked_claim g f checked a can r None p = r
+checked_claim g f checked a can r (Some t) p =
+    let for_it : IsCheckedFor g (want_of g a.store t) checked =
+    subst (λ (o : Option Part). IfSome o (λ part. IsCheckedFor g (want_of g a.store part) checked)) p can.0 in
+    reached_accepts g a f t checked.octets
+    (record { claimed = p; passes = checked_passes g (want_of g a.store t) checked for_it can.1 }) r
+
+-- what is a command by its verdict is one by its octets
+spelled_so : (verdict : Result (ℕ × commands.Command) CommandRefusal) (order : Result (ℕ × commands.Command) ℕ)
+    → coded verdict ≡ order → IfOk verdict (λ o. CommandIsSpelled o.1) → IfOk order (λ o. CommandIsSpelled o.1)
+spelled_so verdict order same spelled =
+    subst (λ (r : Result (ℕ × commands.Command) ℕ). IfOk r (λ o. CommandIsSpelled o.1)) same (go verdict spelled) where
+      go : (v : Result (ℕ × commands.Command) CommandRefusal) → IfOk v (λ o. CommandIsSpelled o.1)
+          → IfOk (coded v) (λ o. CommandIsSpelled o.1)
+      go (Ok order) h = h
+      go (Err refusal) h = tt
+
 reached_call : (g : GroupKeys) (call : MemberCall) (a : Alone) → IsAllowedCall g a call → IsReached g a
     → IsReached g (after_call g call a)
 reached_call g (Publish object moment draw) a can r =
@@ -122,17 +174,14 @@ reached_call g (Withdraw seq moment draw) a can r = go (has_unwithdrawn a.log se
       reached_numbers g (Withdraws seq) moment draw a (withdraws_earlier a.log seq there) r
       (nat_lt (length a.log) 65535) refl
   go false there = r
-reached_call g (Hear octets moment draw) a can r = go (hear_verdict g a octets) refl where
-  go : (v : Result (List ℕ) HearRefusal) → hear_verdict g a octets ≡ v → IsReached g (if_heard moment draw a v)
-  go (Ok told) p =
-      let machine = hears_kept moment told a.known draw a.machine a.machine.heard in
-      machine_too g (alone_learns told a) machine (still_wide moment told a.known draw a.machine machine refl)
-      (learnt g a octets told p r)
-  go (Err refusal) p = r
-reached_call g (JoinFrom octets) a can r = go (hear_verdict g a octets) refl where
-  go : (v : Result (List ℕ) HearRefusal) → hear_verdict g a octets ≡ v → IsReached g (if_joined a v)
-  go (Ok told) p = learnt g a octets told p r
-  go (Err refusal) p = r
+reached_call g (Hear octets moment draw) a can r =
+    reached_heard g moment draw a (hear_verdict g a octets) (λ told p. told_by g a octets told r p) r
+reached_call g (HearVector told moment draw) a can r =
+    reached_heard g moment draw a (vector_verdict a told) (λ taken p. taken_by a told taken can p) r
+reached_call g (JoinFrom octets) a can r =
+    reached_joined g a (hear_verdict g a octets) (λ told p. told_by g a octets told r p) r
+reached_call g (JoinVector told) a can r =
+    reached_joined g a (vector_verdict a told) (λ taken p. taken_by a told taken can p) r
 reached_call g (Fire moment draw) a can r =
     machine_too g a (fired_kept moment draw a.machine) (fired_wide moment draw a.machine) r
 reached_call g (Claim f) a can r = go (claim_of (alone_plan a) f) where
@@ -149,8 +198,14 @@ reached_call g (Accept f octets) a can r = go (accept_verdict g a f octets) refl
   go : (v : Result Part AcceptRefusal) → accept_verdict g a f octets ≡ v → IsReached g (if_accepted f octets a v)
   go (Ok t) p = reached_accepts g a f t octets (accepted g a f t octets p) r
   go (Err refusal) p = r
+reached_call g (AcceptChecked f checked) a can r =
+    checked_claim g f checked a can.1 r (claim_of (alone_plan a) f) refl
 reached_call g (TakeOutcome jobs parts attempts) a can r = reached_takes g a jobs parts attempts can.0 can.1 r
+reached_call g (TakeDigested jobs parts attempts digests) a can r =
+    reached_takes g a jobs parts attempts can.0.0 can.0.1 r
 reached_call g (Command octets) a can r = reached_order g octets a can r
+reached_call g (CommandChecked octets verdict) a can r =
+    reached_order g octets a (spelled_so verdict (order_of g a.number octets) can.0 can.1) r
 reached_call g (Block process index content moment draw) a can r =
     reached_blocks g process index content moment draw a can r
 reached_call g EndClaims a can r = claims_too g a (alone_ends_claims a).claims (sound_end (alone_plan a) r.sound) r
@@ -159,6 +214,7 @@ reached_call g (Restart moment draw) a can r =
     let ended = alone_ends_claims a in
     machine_too g (alone_clears ended) (steady_kept moment draw a.machine) refl
     (reached_clears g ended (claims_too g a ended.claims (sound_end (alone_plan a) r.sound) r))
+reached_call g OrderNames a can r = r
 
 -- ---- all calls
 

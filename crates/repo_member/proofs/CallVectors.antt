@@ -23,16 +23,18 @@ use Rattle.repo_member.specs.declared.refusals.HearRefusal.{HearRefusal}
 use Rattle.repo_member.specs.declared.refusals.HearRefusal.TheVariants.{OwnNumberAhead}
 use Rattle.repo_member.specs.declared.refusals.AcceptRefusal.{AcceptRefusal}
 use Rattle.repo_member.specs.Groups.{GroupKeys}
+use Rattle.repo_holdings.specs.Taking.{Fetched}
 use Rattle.repo_member.specs.Alone.{Alone, alone_plan, alone_publishes, alone_takes}
-use Rattle.repo_member.specs.Verdicts.{told_verdict, hear_verdict, accept_verdict}
+use Rattle.repo_member.specs.Verdicts.{vector_verdict, told_verdict, hear_verdict, accept_verdict}
 use Rattle.repo_member.specs.Outcomes.{outcome_of}
 use Rattle.repo_member.specs.Deleting.{alone_deletes}
 use Rattle.repo_member.specs.Commanded.{order_of, alone_starts, alone_obeys, alone_after_order}
 use Rattle.repo_member.specs.Blocks.{alone_block, alone_keeps, after_block}
-use Rattle.repo_member.specs.Calls.{MemberCall, Publish, Withdraw, if_numbers, Hear, JoinFrom, Fire, Claim, Lose}
-use Rattle.repo_member.specs.Calls.{Accept, TakeOutcome}
-use Rattle.repo_member.specs.Calls.{Command, Block, EndClaims, Reset, Restart, if_heard, if_joined, if_claimed, if_lost}
-use Rattle.repo_member.specs.Calls.{if_accepted, after_call, after_calls, vector_taken, vector_of_call, vectors_told}
+use Rattle.repo_member.specs.Calls.{MemberCall, Publish, Withdraw, if_numbers, Hear, HearVector, JoinFrom, JoinVector}
+use Rattle.repo_member.specs.Calls.{Fire, Claim, Lose, Accept, AcceptChecked, TakeOutcome, TakeDigested, Command}
+use Rattle.repo_member.specs.Calls.{CommandChecked, Block, EndClaims, Reset, Restart, OrderNames, if_heard, if_joined}
+use Rattle.repo_member.specs.Calls.{if_claimed, if_lost, if_claimed_held, if_accepted}
+use Rattle.repo_member.specs.Calls.{after_call, after_calls, vector_taken, vector_of_call, vectors_told}
 use Rattle.repo_member.specs.Calls.{NumbersNeverFall, KnownIsTheJoin}
 use Rattle.repo_member.proofs.CallLogs.{takes_same}
 
@@ -47,29 +49,33 @@ pub record IsTold (g : GroupKeys) (a : Alone) (octets told : List ℕ) : Type 0 
 is_ok_told : (x y : List ℕ) → (let r : Result (List ℕ) HearRefusal = Ok x in r) ≡ Ok y → x ≡ y
 is_ok_told x y h = cc
 
+-- a vector that a member takes is the one that it was told, and tells of no more publications of it than it made
+pub taken_vector : (a : Alone) (v told : List ℕ) → vector_verdict a v ≡ Ok told
+    → (v ≡ told) × (slice_index told a.number ≤ length a.log)
+taken_vector a v told h = go (nat_lt (length a.log) (slice_index v a.number)) refl h where
+  go : (b : Bool) → nat_lt (length a.log) (slice_index v a.number) ≡ b
+      → cond b (Err (OwnNumberAhead (length a.log) (slice_index v a.number))) (Ok v) ≡ Ok told
+      → (v ≡ told) × (slice_index told a.number ≤ length a.log)
+  go true n k = absurd cc
+  go false n k =
+      let same : v ≡ told = is_ok_told v told k in (
+        same,
+        omega (
+          arith,
+          ltb-false (length a.log) (slice_index v a.number) n,
+          ap (λ (w : List ℕ). slice_index w a.number) same,
+        ),
+      )
+
 pub told_is : (g : GroupKeys) (a : Alone) (octets told : List ℕ) → hear_verdict g a octets ≡ Ok told
     → IsTold g a octets told
 told_is g a octets told h = go (sync_verdict g.name g.members.names g.members.ring octets) refl h where
   go : (r : Result (ℕ × List ℕ) SyncRefusal) → sync_verdict g.name g.members.names g.members.ring octets ≡ r
       → told_verdict a r ≡ Ok told → IsTold g a octets told
   go (Err refusal) p q = absurd cc
-  go (Ok sync) p q = within (nat_lt (length a.log) (slice_index sync.1 a.number)) refl q where
-    within : (b : Bool) → nat_lt (length a.log) (slice_index sync.1 a.number) ≡ b
-        → cond b (Err (OwnNumberAhead (length a.log) (slice_index sync.1 a.number))) (Ok sync.1) ≡ Ok told
-        → IsTold g a octets told
-    within true n k = absurd cc
-    within false n k =
-        let same : sync.1 ≡ told = is_ok_told sync.1 told k in
-        record {
-          signer = sync.0;
-          verdict = p ∙ ap (λ (v : List ℕ). Ok (sync.0, v)) same;
-          not_ahead =
-              omega (
-                arith,
-                ltb-false (length a.log) (slice_index sync.1 a.number) n,
-                ap (λ (v : List ℕ). slice_index v a.number) same,
-              );
-        }
+  go (Ok sync) p q =
+      let is = taken_vector a sync.1 told q in
+      record { signer = sync.0; verdict = p ∙ ap (λ (v : List ℕ). Ok (sync.0, v)) is.0; not_ahead = is.1 }
 
 -- ---- the number of an own publication
 
@@ -125,12 +131,11 @@ learns_nothing old new number known log is = record {
   joined = λ others n. ap (λ (v : List ℕ). slice_set (join v others) old.number n) known;
 }
 
-learns_vector : (g : GroupKeys) (octets told : List ℕ) (old new : Alone) → hear_verdict g old octets ≡ Ok told
+learns_vector : (told : List ℕ) (old new : Alone) → slice_index told old.number ≤ length old.log
     → new.number ≡ old.number → new.known ≡ join old.known told → new.log ≡ old.log → KnowsOwn old
     → Learns (told ∷ []) old new
 unfolding join_all
-learns_vector g octets told old new verdict number known log is =
-    let few = (told_is g old octets told verdict).not_ahead in
+learns_vector told old new few number known log is =
     let at = join-at old.known told in
     let lasting = ap (λ (l : List Post). length l) log in
     record {
@@ -202,6 +207,41 @@ learns_published g post moment draw a is true =
     learns_own post a (alone_publishes g post moment draw a) refl refl refl is
 learns_published g post moment draw a is false = learns_nothing a a refl refl refl is
 
+-- a vector is taken that tells of no more publications of the member than it made
+learns_heard : (moment draw : ℕ) (a : Alone) (r : Result (List ℕ) HearRefusal)
+    → ((told : List ℕ) → r ≡ Ok told → slice_index told a.number ≤ length a.log) → KnowsOwn a
+    → Learns (vector_taken r) a (if_heard moment draw a r)
+learns_heard moment draw a (Ok told) few is =
+    learns_vector told a (if_heard moment draw a (Ok told)) (few told refl) refl refl refl is
+learns_heard moment draw a (Err refusal) few is = learns_nothing a a refl refl refl is
+
+learns_joined : (a : Alone) (r : Result (List ℕ) HearRefusal)
+    → ((told : List ℕ) → r ≡ Ok told → slice_index told a.number ≤ length a.log) → KnowsOwn a
+    → Learns (vector_taken r) a (if_joined a r)
+learns_joined a (Ok told) few is = learns_vector told a (if_joined a (Ok told)) (few told refl) refl refl refl is
+learns_joined a (Err refusal) few is = learns_nothing a a refl refl refl is
+
+learns_taken : (xs : List Fetched) (a : Alone) → KnowsOwn a → Learns [] a (alone_takes xs a)
+learns_taken xs a is =
+    learns_nothing a (alone_takes xs a) (takes_same (λ b. b.number) (λ b s t. refl) xs a)
+    (takes_same (λ b. b.known) (λ b s t. refl) xs a) (takes_same (λ b. b.log) (λ b s t. refl) xs a) is
+
+learns_ordered : (order : Result (ℕ × commands.Command) ℕ) (a : Alone) → KnowsOwn a
+    → Learns [] a (alone_after_order order a)
+learns_ordered order a is = go order where
+  started : (name : List Component) (first last : ℕ) (o : Option ℕ) → Learns [] a (alone_starts name first last a o)
+  started name first last None = learns_nothing a a refl refl refl is
+  started name first last (Some n) = learns_nothing a (alone_starts name first last a (Some n)) refl refl refl is
+
+  obeyed : (command : commands.Command) → Learns [] a (alone_obeys command a)
+  obeyed (Insert name first last) = started name first last (next_number a.insertions)
+  obeyed (Check process) = learns_nothing a a refl refl refl is
+  obeyed (Delete name) = learns_nothing a (alone_deletes name a) refl refl refl is
+
+  go : (order : Result (ℕ × commands.Command) ℕ) → Learns [] a (alone_after_order order a)
+  go (Ok order) = obeyed order.1
+  go (Err code) = learns_nothing a a refl refl refl is
+
 learns_by : (g : GroupKeys) (call : MemberCall) (a : Alone) → KnowsOwn a
     → Learns (vector_of_call g a call) a (after_call g call a)
 learns_by g (Publish object moment draw) a is =
@@ -210,15 +250,14 @@ learns_by g (Withdraw seq moment draw) a is = go (has_unwithdrawn a.log seq) whe
   go : (b : Bool) → Learns [] a (cond b (if_numbers g (Withdraws seq) moment draw a) a)
   go true = learns_published g (Withdraws seq) moment draw a is (nat_lt (length a.log) 65535)
   go false = learns_nothing a a refl refl refl is
-learns_by g (Hear octets moment draw) a is = go (hear_verdict g a octets) refl where
-  go : (r : Result (List ℕ) HearRefusal) → hear_verdict g a octets ≡ r
-      → Learns (vector_taken r) a (if_heard moment draw a r)
-  go (Ok told) p = learns_vector g octets told a (if_heard moment draw a (Ok told)) p refl refl refl is
-  go (Err refusal) p = learns_nothing a a refl refl refl is
-learns_by g (JoinFrom octets) a is = go (hear_verdict g a octets) refl where
-  go : (r : Result (List ℕ) HearRefusal) → hear_verdict g a octets ≡ r → Learns (vector_taken r) a (if_joined a r)
-  go (Ok told) p = learns_vector g octets told a (if_joined a (Ok told)) p refl refl refl is
-  go (Err refusal) p = learns_nothing a a refl refl refl is
+learns_by g (Hear octets moment draw) a is =
+    learns_heard moment draw a (hear_verdict g a octets) (λ told p. (told_is g a octets told p).not_ahead) is
+learns_by g (HearVector told moment draw) a is =
+    learns_heard moment draw a (vector_verdict a told) (λ taken p. (taken_vector a told taken p).1) is
+learns_by g (JoinFrom octets) a is =
+    learns_joined a (hear_verdict g a octets) (λ told p. (told_is g a octets told p).not_ahead) is
+learns_by g (JoinVector told) a is =
+    learns_joined a (vector_verdict a told) (λ taken p. (taken_vector a told taken p).1) is
 learns_by g (Fire moment draw) a is = learns_nothing a (after_call g (Fire moment draw) a) refl refl refl is
 learns_by g (Claim f) a is = go (claim_of (alone_plan a) f) where
   go : (claim : Option Part) → Learns [] a (if_claimed f a claim)
@@ -232,23 +271,14 @@ learns_by g (Accept f octets) a is = go (accept_verdict g a f octets) where
   go : (r : Result Part AcceptRefusal) → Learns [] a (if_accepted f octets a r)
   go (Ok t) = learns_nothing a (if_accepted f octets a (Ok t)) refl refl refl is
   go (Err refusal) = learns_nothing a a refl refl refl is
-learns_by g (TakeOutcome jobs parts attempts) a is =
-    let xs = outcome_of jobs parts attempts in
-    learns_nothing a (alone_takes xs a) (takes_same (λ b. b.number) (λ b s t. refl) xs a)
-    (takes_same (λ b. b.known) (λ b s t. refl) xs a) (takes_same (λ b. b.log) (λ b s t. refl) xs a) is
-learns_by g (Command octets) a is = go (order_of g a.number octets) where
-  started : (name : List Component) (first last : ℕ) (o : Option ℕ) → Learns [] a (alone_starts name first last a o)
-  started name first last None = learns_nothing a a refl refl refl is
-  started name first last (Some n) = learns_nothing a (alone_starts name first last a (Some n)) refl refl refl is
-
-  obeyed : (command : commands.Command) → Learns [] a (alone_obeys command a)
-  obeyed (Insert name first last) = started name first last (next_number a.insertions)
-  obeyed (Check process) = learns_nothing a a refl refl refl is
-  obeyed (Delete name) = learns_nothing a (alone_deletes name a) refl refl refl is
-
-  go : (order : Result (ℕ × commands.Command) ℕ) → Learns [] a (alone_after_order order a)
-  go (Ok order) = obeyed order.1
-  go (Err code) = learns_nothing a a refl refl refl is
+learns_by g (AcceptChecked f checked) a is = go (claim_of (alone_plan a) f) where
+  go : (claim : Option Part) → Learns [] a (if_claimed_held f checked.octets a claim)
+  go None = learns_nothing a a refl refl refl is
+  go (Some t) = learns_nothing a (if_claimed_held f checked.octets a (Some t)) refl refl refl is
+learns_by g (TakeOutcome jobs parts attempts) a is = learns_taken (outcome_of jobs parts attempts) a is
+learns_by g (TakeDigested jobs parts attempts digests) a is = learns_taken (outcome_of jobs parts attempts) a is
+learns_by g (Command octets) a is = learns_ordered (order_of g a.number octets) a is
+learns_by g (CommandChecked octets verdict) a is = learns_ordered (order_of g a.number octets) a is
 learns_by g (Block process index content moment draw) a is = go (alone_block a process index content) where
   published : (p : Process) (b : Bool)
       → Learns [] a (cond b (alone_publishes g (Offers (object_of p)) moment draw (alone_keeps process (closed p) a)) a)
@@ -266,6 +296,7 @@ learns_by g (Block process index content moment draw) a is = go (alone_block a p
 learns_by g EndClaims a is = learns_nothing a (after_call g EndClaims a) refl refl refl is
 learns_by g (Reset moment draw) a is = learns_nothing a (after_call g (Reset moment draw) a) refl refl refl is
 learns_by g (Restart moment draw) a is = learns_nothing a (after_call g (Restart moment draw) a) refl refl refl is
+learns_by g OrderNames a is = learns_nothing a a refl refl refl is
 
 -- ---- the laws
 

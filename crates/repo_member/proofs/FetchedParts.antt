@@ -52,14 +52,18 @@ AreOpen g a [] (part ∷ parts) ns = ⊥
 AreOpen g a (job ∷ jobs) [] ns = ⊥
 AreOpen g a (job ∷ jobs) (part ∷ parts) [] = ⊥
 
-checked_passes : (g : GroupKeys) (job : Job) (part : Option CheckedPart) → IfSome part (IsCheckedFor g job.want)
+-- what was checked for a want passes for it
+pub checked_passes : (g : GroupKeys) (want : WantedPart) (c : CheckedPart) → IsCheckedFor g want c → IsChecked c
+    → IsOk (ring_verdict want g.members.ring c.octets)
+checked_passes g want c h k =
+    subst (λ (key : List ℕ). IsOk (part_verdict want (publisher_key g.members.ring want).name key c.octets)) h.key
+    (subst (λ (name : List ℕ). IsOk (part_verdict want name c.key c.octets)) h.key_name
+    (subst (λ (w : WantedPart). IsOk (part_verdict w c.key_name c.key c.octets)) h.same k))
+
+part_passes : (g : GroupKeys) (job : Job) (part : Option CheckedPart) → IfSome part (IsCheckedFor g job.want)
     → IfSome part IsChecked → Passed g job part
-checked_passes g job None h k = tt
-checked_passes g job (Some c) h k =
-    subst (λ (key : List ℕ). IsOk (part_verdict job.want (publisher_key g.members.ring job.want).name key c.octets))
-    h.key
-    (subst (λ (name : List ℕ). IsOk (part_verdict job.want name c.key c.octets)) h.key_name
-    (subst (λ (want : WantedPart). IsOk (part_verdict want c.key_name c.key c.octets)) h.same k))
+part_passes g job None h k = tt
+part_passes g job (Some c) h k = checked_passes g job.want c h k
 
 abbrev IfChecked : Option CheckedPart → Type 0
 IfChecked part = IfSome part IsChecked
@@ -68,7 +72,7 @@ fetched_open : (g : GroupKeys) (a : Alone) (jobs : List Job) (parts : List (Opti
     → AreFetched g a jobs parts ns → All IfChecked parts → AreOpen g a jobs parts ns
 fetched_open g a [] [] [] h k = tt
 fetched_open g a (job ∷ jobs) (part ∷ parts) (n ∷ ns) h k = (
-  ((h.0.unclaimed, h.0.wanted), checked_passes g job part h.0.checked (All-head IfChecked part parts k)),
+  ((h.0.unclaimed, h.0.wanted), part_passes g job part h.0.checked (All-head IfChecked part parts k)),
   fetched_open g a jobs parts ns h.1 (All-tail IfChecked part parts k),
 )
 fetched_open g a [] [] (n ∷ ns) h k = absurd h

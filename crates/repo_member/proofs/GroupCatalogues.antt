@@ -37,7 +37,8 @@ use Rattle.group_model.proofs.Catalogues.{lists_in_order}
 use Rattle.repo_holdings.specs.Records.{records_in}
 use Rattle.repo_holdings.specs.Listed.{stored_at, object_said, withdrawn_by, listing_in, listing_at, is_that}
 use Rattle.repo_holdings.specs.Listed.{is_withdrawn}
-use Rattle.repo_holdings.specs.Listed.{packet_content, stored_content, contents_joined, are_stored, entry_of_listing}
+use Rattle.repo_object.specs.Packets.{packet_content}
+use Rattle.repo_holdings.specs.Listed.{stored_content, contents_joined, are_stored, entry_of_listing}
 use Rattle.repo_holdings.specs.Listed.{entry_listed, whole_at, entry_at, entries_in}
 use Rattle.repo_holdings.specs.Listed.{withdraws as withdraws_record}
 use Rattle.repo_member.specs.Groups.{GroupKeys, publisher_at}

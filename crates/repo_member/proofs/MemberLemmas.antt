@@ -1,12 +1,12 @@
 -- A member's plan, as its value says it.
 use Rattle.std.proofs.Common.{◌≡◌, ℕ, ◌+◌, ◌-◌, ◌≤◌, ◌<◌, Bool, true, false, cond, length, unwrap_or, arith, ◌==◌, []}
-use Rattle.std.proofs.Common.{map, take}
+use Rattle.std.proofs.Common.{map}
 use Rattle.std.proofs.Common.{Option, Some, None, refl, sym, ap, ◌∙◌, subst, List}
-use Rattle.std.specs.Prelude.{slice_index, nat_le, Result, Ok, Err, IfOk, OnOk, IsErr, ◌↔◌}
+use Rattle.std.specs.Prelude.{slice_index, nat_le, Result, Ok, Err, IsOk, IfOk, OnOk, IsErr, ◌↔◌}
 use Rattle.std.proofs.lemmas.Bool.{and_parts, and_from, leb-true, le-leb, eqb-false, false_from_ne_true}
 use Rattle.repo_plan.specs.declared.part.Part.{Part}
 use Rattle.repo_plan.specs.Parts.{Pair, pair_of}
-use Rattle.repo_plan.specs.Plan.{is_asked, is_after, knows, claim_of, unclaimed}
+use Rattle.repo_plan.specs.Plan.{is_asked, knows, claim_of}
 use Rattle.repo_plan.specs.Sound.{CanBeHeld}
 use Rattle.repo_plan.specs.declared.plan.claims.FetcherIdle.{FetcherIdle}
 use Rattle.svs_vector.specs.Vectors.{join, covers}
@@ -21,12 +21,14 @@ use Rattle.repo_holdings.specs.HoldingsState.{HoldingsState, held_plan, claims_t
 use Rattle.repo_holdings.specs.Wanting.{AreShortNames, want_behind, want_at, job_at}
 use Rattle.repo_member.specs.Outcomes.{job_for}
 use Rattle.repo_object.specs.Limits.{node_name_limit}
-use Rattle.std.specs.List.{filter, slice_get}
+use Rattle.std.specs.List.{slice_get}
 use Rattle.std.proofs.lemmas.List.Elements.{All-weaker}
 use Rattle.ndn_name.specs.Names.{Component, encoding}
+use Rattle.ndn_sign.specs.Ring.{NamedKey}
 use Rattle.std.specs.Option.{option_and_then}
 use Rattle.repo_object.specs.Publication.{Listed}
 use Rattle.repo_object.specs.Wants.{WantedPart, want_record, want_index, want_segment, listed_in}
+use Rattle.repo_object.specs.Verdict.{ring_verdict}
 use Rattle.repo_holdings.specs.Records.{Packet}
 use Rattle.repo_member.specs.Groups.{GroupKeys, HaveKeys, IsGroup, IsPlainNodeName}
 use Rattle.repo_member.specs.Alone.{Alone, IsOfGroup, alone_plan, want_of}
@@ -187,12 +189,18 @@ module _ (g : GroupKeys) (publishers : List (List Component)) (group : List Comp
         ∙ ap (λ (n : List Component). want_at g.members.names n m.held.store t) name
         ∙ ap (λ (x : Alone). want_of g x.store t) view
 
+    -- octets that pass for what is expected of a part pass for the member's want of it
+    pub passes_for : (t : Part) (want : WantedPart) (ring : List NamedKey) (octets : List ℕ)
+        → want ≡ want_at publishers group m.held.store t → ring ≡ g.members.ring
+        → IsOk (ring_verdict want ring octets) → IsOk (ring_verdict (want_of g a.store t) g.members.ring octets)
+    passes_for t want ring octets same keys passed =
+        subst (λ (w : WantedPart). IsOk (ring_verdict w g.members.ring octets)) (same ∙ want_is t)
+        (subst (λ (r : List NamedKey). IsOk (ring_verdict want r octets)) keys passed)
+
     -- the jobs of the next parts
-    pub jobs_are : (after : Option Part) (most : ℕ)
-        → map (job_at publishers group m.held) (take most (filter (is_after after) (unclaimed (held_plan m.held))))
-        ≡ map (job_for g a) (take most (filter (is_after after) (unclaimed (alone_plan a))))
-    jobs_are after most =
-        let parts : PlanState → List Part = λ p. take most (filter (is_after after) (unclaimed p)) in
+    pub jobs_are : (parts : PlanState → List Part)
+        → map (job_at publishers group m.held) (parts (held_plan m.held)) ≡ map (job_for g a) (parts (alone_plan a))
+    jobs_are parts =
         ap (λ (n : List (List Component)). map (job_at n group m.held) (parts (held_plan m.held))) names
         ∙ ap (λ (n : List Component). map (job_at g.members.names n m.held) (parts (held_plan m.held))) name
         ∙ ap (λ (p : PlanState). map (job_at g.members.names g.name m.held) (parts p)) (plan_is m is)

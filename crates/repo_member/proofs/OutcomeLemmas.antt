@@ -1,15 +1,18 @@
 -- What came of a fetch, taken part after part.
 use Rattle.std.proofs.Common.{◌≡◌, ◌⊎◌, inl, inr, ℕ, ◌<◌, Bool, true, cond, not, List, [], ◌∷◌, ◌++◌, map, length}
 use Rattle.std.proofs.Common.{append_assoc, refl, sym, ap, ◌∙◌, subst, Option, Some, None, option_map, is_some}
-use Rattle.std.proofs.Common.{unwrap_or, count_by, sum_by, take, arith}
-use Rattle.std.specs.Prelude.{IfSome}
+use Rattle.std.proofs.Common.{unwrap_or, count_by, sum_by, take, Result, Ok, Err, arith}
+use Rattle.std.specs.Prelude.{IfSome, IfOk, IsOk, IsSome, IsTrue}
+use Rattle.std.specs.Option.{option_and_then}
 use Rattle.std.specs.List.{All, filter}
-use Rattle.std.proofs.lemmas.Bool.{and_parts, not-true}
+use Rattle.std.proofs.lemmas.Bool.{true≢false, and_parts, not-true}
 use Rattle.std.proofs.lemmas.List.{map-append, length-map}
 use Rattle.std.proofs.lemmas.List.Elements.{All-head, All-tail, All-map, All-weaker, All-take}
 use Rattle.std.proofs.lemmas.List.Elements.{All-filter, filter_passes}
 use Rattle.std.proofs.lemmas.List.Sums.{sum_by-cons}
+use Rattle.ndn_name.specs.declared.fault.PacketFault.{PacketFault}
 use Rattle.ndn_name.specs.Names.{Component}
+use Rattle.ndn_data.specs.Data.{Data, data_of}
 use Rattle.repo_plan.specs.declared.part.Part.{Part}
 use Rattle.sorted_lists.specs.SortedList.{Rises}
 use Rattle.repo_plan.specs.Parts.{part_cmp, pair_of}
@@ -23,13 +26,17 @@ use Rattle.sorted_lists.proofs.Sets.{rises_filter}
 use Rattle.sorted_lists.proofs.SameSets.{not_behind}
 use Rattle.sorted_lists.proofs.Inserted.{rises_parts}
 use Rattle.repo_object.specs.declared.job.Job.{Job}
-use Rattle.repo_object.specs.Verdict.{CheckedPart}
+use Rattle.repo_object.specs.declared.part_refusal.PartRefusal.{PartRefusal}
+use Rattle.repo_object.specs.Publication.{RecordSays}
+use Rattle.repo_object.specs.Records.{record_of, index_of}
+use Rattle.repo_object.specs.Verdict.{CheckedPart, IsChecked, Passes, part_verdict, content_within, said_in, may_say}
+use Rattle.repo_object.proofs.Passing.{passes}
 use Rattle.repo_member.specs.Groups.{GroupKeys, HaveKeys}
 use Rattle.repo_holdings.specs.Records.{Packet}
 use Rattle.group_model.specs.Member.{with_tries}
 use Rattle.repo_member.specs.Alone.{Alone, alone_holdings, alone_plan, want_of, alone_takes}
-use Rattle.repo_holdings.specs.Taking.{Fetched, with_fetched}
-use Rattle.repo_holdings.specs.StoredParents.{lists_at}
+use Rattle.repo_holdings.specs.Taking.{Fetched, with_fetched, with_all_fetched, with_what_came}
+use Rattle.repo_holdings.specs.StoredParents.{lists_at, ListsAsMany}
 use Rattle.repo_holdings.specs.Gaining.{IsArrival}
 use Rattle.repo_holdings.specs.declared.told.Told.{Told}
 use Rattle.repo_object.specs.Wants.{WantedPart}
@@ -37,9 +44,9 @@ use Rattle.repo_holdings.specs.declared.told.Arrival.{Arrival}
 use Rattle.repo_member.specs.Members.{alone, IsMember}
 use Rattle.repo_member.specs.declared.member.Member.TheInside.{Inside}
 use Rattle.repo_holdings.specs.declared.holdings.taking.Tried.{Tried}
-use Rattle.repo_member.specs.Outcomes.{IsJobOf, AreFetchedOf, WereTried, HolderJobsArePlanned, HolderJobsAreOutcomes}
+use Rattle.repo_member.specs.Outcomes.{IsJobOf, AreFetchedOf, WereTried, HolderJobsArePlanned, RisingJobsArePlanned}
 use Rattle.repo_member.specs.Outcomes.{JobsArePlanned, PlannedJobsAreOutcomes, IsOutcome, outcome_of, IsFetched}
-use Rattle.repo_member.specs.Outcomes.{AreFetched}
+use Rattle.repo_member.specs.Outcomes.{AreFetched, HolderJobsAreOutcomes}
 use Rattle.repo_member.specs.TrueHolders.{MembersTakeAll}
 use Rattle.repo_holdings.specs.Taking.{PartsDiffer, CanBeTaken}
 use Rattle.repo_holdings.specs.Taking.{AreTakable, came, arrival_octets}
@@ -59,6 +66,55 @@ members_take_all (x ∷ xs) a =
     members_take_all xs
     (record a { store = with_fetched x.part x.packet a.store; attempts = with_tries x.part x.attempts a.attempts })
 
+-- what passed a check lists as many digests as it has to
+lists_so : (octets : List ℕ) (d : Data) → data_of octets ≡ Ok d → (o : Option ℕ)
+    → IfSome o (λ count. IsSome (index_of d.content count)) → ListsAsMany octets o
+lists_so octets d read None h = tt
+lists_so octets d read (Some count) h =
+    ap (λ (r : Result Data PacketFault). is_some (option_and_then (λ x. index_of x count) (content_within r))) read ∙ h
+
+-- what passed a check passed every check, as the packet that it is
+checked_passes : (c : CheckedPart) → IsChecked c → (d : Data) × Passes c.want c.key_name c.key c.octets d
+checked_passes c passed = go (part_verdict c.want c.key_name c.key c.octets) refl passed where
+  go : (v : Result Data PartRefusal) → part_verdict c.want c.key_name c.key c.octets ≡ v → IsOk v
+      → (d : Data) × Passes c.want c.key_name c.key c.octets d
+  go (Ok d) p h = (d, passes c.want c.key_name c.key c.octets d p)
+  go (Err refusal) p h = absurd (true≢false (sym h))
+
+checked_lists : (c : CheckedPart) → IsChecked c → ListsAsMany c.octets c.want.lists
+checked_lists c passed =
+    let all = checked_passes c passed in
+    lists_so c.octets all.0 all.1.read c.want.lists all.1.listing
+
+-- and what passed for a record says something
+said_so : (seq : ℕ) (octets : List ℕ) (d : Data) → data_of octets ≡ Ok d → IsTrue (may_say seq (record_of d.content))
+    → IsSome (said_in octets)
+said_so seq octets d read may =
+    ap (λ (r : Result Data PacketFault). is_some (option_and_then record_of (content_within r))) read
+    ∙ some (record_of d.content) may where
+      some : (o : Option RecordSays) → IsTrue (may_say seq o) → is_some o ≡ true
+      some None h = absurd (true≢false (sym h))
+      some (Some says) h = refl
+
+pub checked_says : (c : CheckedPart) → IsChecked c → c.want.part.part ≡ 0 → IsSome (said_in c.octets)
+checked_says c passed zero =
+    let all = checked_passes c passed in
+    said_so c.want.part.seq c.octets all.0 all.1.read (all.1.said zero)
+
+-- so it comes as the part of its want, where it was copied or shared
+pub comes_so : {E : Type 0} (c : CheckedPart) (t : Part) (octets : List ℕ) (r : Result Arrival E) → t ≡ c.want.part
+    → octets ≡ c.octets → IsChecked c
+    → IfOk r (λ a. (packets : List Packet) → ListsAsMany octets (lists_at packets t)
+    → IsArrival packets t a.packet a.told)
+    → IfOk r (λ a. (packets : List Packet) → c.want.lists ≡ lists_at packets c.want.part
+    → IsArrival packets c.want.part a.packet a.told)
+comes_so c t octets (Err e) part same passed comes = tt
+comes_so c t octets (Ok a) part same passed comes = λ packets lists.
+    subst (λ (u : Part). IsArrival packets u a.packet a.told) part
+    (comes packets
+    (subst (ListsAsMany octets) (lists ∙ ap (lists_at packets) (sym part))
+    (subst (λ (o : List ℕ). ListsAsMany o c.want.lists) (sym same) (checked_lists c passed))))
+
 -- what was checked for a want of the member comes as its part
 pub arrives : (g : GroupKeys) (a : Alone) (t : Part) (c : CheckedPart) (octets : List ℕ) (told : Option Told)
     → c.want ≡ want_of g a.store t
@@ -70,6 +126,13 @@ arrives g a t c octets told same comes =
     let lists : c.want.lists ≡ lists_at a.store c.want.part =
     ap (λ (w : WantedPart). w.lists) same ∙ want_lists g a.store t ∙ ap (lists_at a.store) (sym part) in
     subst (λ (u : Part). IsArrival a.store u octets told) part (comes a.store lists)
+
+-- and lists as many digests as the part has to
+pub lists_for : (g : GroupKeys) (a : Alone) (t : Part) (c : CheckedPart) → IsChecked c → c.want ≡ want_of g a.store t
+    → ListsAsMany c.octets (lists_at a.store t)
+lists_for g a t c passed same =
+    subst (ListsAsMany c.octets) (ap (λ (w : WantedPart). w.lists) same ∙ want_lists g a.store t)
+    (checked_lists c passed)
 
 -- ---- what came of jobs, one after another
 
@@ -176,6 +239,19 @@ module _ (g : GroupKeys) (a : Alone) where
       ap (λ (os : List (Option (List ℕ))). option_map (λ (c : CheckedPart). c.octets) part ∷ os)
       (packets_fetched jobs parts ns are.1)
 
+  -- what is stored with it goes by the parts and their packets alone
+  pub stored_alike : (jobs : List Job) (parts : List (Option CheckedPart)) (ns : List ℕ) (stored : List Packet)
+      → AreFetched g a jobs parts ns
+      → with_what_came jobs parts stored ≡ with_all_fetched (outcome_of jobs parts ns) stored
+  stored_alike [] [] [] stored are = refl
+  stored_alike [] [] (n ∷ ns) stored are = absurd are
+  stored_alike [] (part ∷ parts) ns stored are = absurd are
+  stored_alike (job ∷ jobs) [] ns stored are = absurd are
+  stored_alike (job ∷ jobs) (part ∷ parts) [] stored are = absurd are
+  stored_alike (job ∷ jobs) (part ∷ parts) (n ∷ ns) stored are =
+      stored_alike jobs parts ns
+      (with_fetched job.want.part (option_map (λ (c : CheckedPart). c.octets) part) stored) are.1
+
   module _ (jobs : List Job) (parts : List (Option CheckedPart)) (ns : List ℕ) (is : IsOutcome g a jobs parts ns)
       (xs : List Tried) (all : map came xs ≡ outcome_of jobs parts ns) where
     pub all_apart : PartsDiffer (map (λ (x : Tried). x.part) xs)
@@ -225,6 +301,9 @@ module _ (m : Inside) (a : Alone) (view : alone m ≡ a) (mid : HoldingsState) (
       subst (λ (p : PlanState). AreTakable p m.held.store xs) (sym (plan_is m is)) here in
       subst (λ (h : HoldingsState). AreTakable (held_plan h) h.store xs) (sym room) there
 
+  pub stored_still : mid.store ≡ a.store
+  stored_still = ap (λ (h : HoldingsState). h.store) room ∙ ap (λ (x : Alone). x.store) view
+
   pub taken_is : (after : HoldingsState) (xs : List Fetched) → after ≡ takes_too xs mid
       → record (alone m) {
         store = after.store;
@@ -254,14 +333,17 @@ parts_of_jobs publishers group h [] = refl
 parts_of_jobs publishers group h (t ∷ ts) =
     λ i. want_at_part publishers group h.store t i ∷ parts_of_jobs publishers group h ts i
 
--- the next parts differ
+-- the next parts are in order, so they differ
+next_rises : (h : HoldingsState) (after : Option Part) (most : ℕ)
+    → Rises part_cmp (take most (filter (is_after after) (unclaimed (held_plan h))))
+next_rises h after most =
+    (rises_parts exact_parts most (filter (is_after after) (unclaimed (held_plan h)))
+    (rises_filter exact_parts.total (is_after after) (unclaimed (held_plan h)) (unclaimed_rises (held_plan h)))).0
+
 pub next_differ : (h : HoldingsState) (after : Option Part) (most : ℕ)
     → PartsDiffer (take most (filter (is_after after) (unclaimed (held_plan h))))
 next_differ h after most =
-    let next : List Part = filter (is_after after) (unclaimed (held_plan h)) in
-    apart_in_order (take most next)
-    (rises_parts exact_parts most next
-    (rises_filter exact_parts.total (is_after after) (unclaimed (held_plan h)) (unclaimed_rises (held_plan h)))).0
+    apart_in_order (take most (filter (is_after after) (unclaimed (held_plan h)))) (next_rises h after most)
 
 module _ (g : GroupKeys) (h : HoldingsState) where
   planned_job : (t : Part) → HaveKeys g.members → length g.members.names ≡ length h.known
@@ -281,19 +363,21 @@ module _ (g : GroupKeys) (h : HoldingsState) where
         base = ap (attempts_of (held_plan h)) (sym same);
       }
 
+pub rising_jobs_are_planned : RisingJobsArePlanned
+rising_jobs_are_planned g h ts have of rises free = record {
+  apart = subst PartsDiffer (sym (parts_of_jobs g.members.names g.name h ts)) (apart_in_order ts rises);
+  each = All-map (IsJobOf g h) (job_at g.members.names g.name h) ts
+      (All-weaker (λ t. is_unclaimed (held_plan h) t ≡ true)
+      (λ t. IsJobOf g h (job_at g.members.names g.name h t)) (λ t is. planned_job g h t have of is) ts free);
+}
+
 pub holder_jobs_are_planned : HolderJobsArePlanned
 holder_jobs_are_planned g h after most have of =
-    let ts : List Part = take most (filter (is_after after) (unclaimed (held_plan h))) in
-    let free =
-    All-take (λ t. is_unclaimed (held_plan h) t ≡ true) most (filter (is_after after) (unclaimed (held_plan h)))
+    rising_jobs_are_planned g h (take most (filter (is_after after) (unclaimed (held_plan h)))) have of
+    (next_rises h after most)
+    (All-take (λ t. is_unclaimed (held_plan h) t ≡ true) most (filter (is_after after) (unclaimed (held_plan h)))
     (All-filter (is_after after) (λ t. is_unclaimed (held_plan h) t ≡ true) (unclaimed (held_plan h))
-    (filter_passes (is_unclaimed (held_plan h)) (known_parts (held_plan h)))) in
-    record {
-      apart = subst PartsDiffer (sym (parts_of_jobs g.members.names g.name h ts)) (next_differ h after most);
-      each = All-map (IsJobOf g h) (job_at g.members.names g.name h) ts
-          (All-weaker (λ t. is_unclaimed (held_plan h) t ≡ true)
-          (λ t. IsJobOf g h (job_at g.members.names g.name h t)) (λ t is. planned_job g h t have of is) ts free);
-    }
+    (filter_passes (is_unclaimed (held_plan h)) (known_parts (held_plan h)))))
 
 all_fetched : (g : GroupKeys) (h : HoldingsState) (jobs : List Job) (parts : List (Option CheckedPart)) (ns : List ℕ)
     → All (IsJobOf g h) jobs → WereTried g jobs parts ns → AreFetchedOf g h jobs parts ns

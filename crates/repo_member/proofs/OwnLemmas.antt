@@ -1,20 +1,15 @@
 -- What a member publishes: its number is new, its packets are read, and the member afterwards.
 use Rattle.std.proofs.Common.{◌≡◌, inl, inr, ℕ, ◌+◌, ◌≤◌, ◌<◌, ◌^◌, max, suc, Bool, true, false, cond, ◌&&◌, List, []}
 use Rattle.std.proofs.Common.{◌∷◌, length, refl, sym, ap, ◌∙◌, subst, Option, Some, None}
-use Rattle.std.proofs.Common.{option_map, is_some, zero, ◌-◌, arith}
+use Rattle.std.proofs.Common.{option_map, is_some, ◌-◌, arith}
 use Rattle.std.specs.Option.{option_and_then}
-use Rattle.std.specs.Prelude.{◌==◌, nat_le, slice_index, slice_set, slice_index_or, Result, Ok, Err, IsOk}
+use Rattle.std.specs.Prelude.{◌==◌, nat_le, slice_index, slice_set, slice_index_or}
 use Rattle.std.specs.List.{list_any, slice_get}
 use Rattle.std.proofs.lemmas.Bool.{true≢false, and_parts, and_from, or_cases, leb-true, le-leb, false_from_ne_true}
-use Rattle.std.proofs.lemmas.Bool.{cases_eq, cases_lt, eq-eqb, ne_eqb}
+use Rattle.std.proofs.lemmas.Bool.{cases_eq, eq-eqb, ne_eqb}
 use Rattle.std.proofs.lemmas.List.{get_or-set_same, get_or-set_other, length-set}
-use Rattle.std.proofs.lemmas.Option.{slice_get-get_or, unwrap_or-slice_get}
+use Rattle.std.proofs.lemmas.Option.{unwrap_or-slice_get}
 use Rattle.std.specs.Ordering.{eq_by_cmp}
-use Rattle.sha2.specs.Sha256.{sha256}
-use Rattle.ndn_tlv.specs.Listing.{◌>>=◌}
-use Rattle.ndn_name.specs.declared.fault.PacketFault.{PacketFault}
-use Rattle.ndn_name.specs.Names.{encoding}
-use Rattle.ndn_data.specs.Data.{Data, data_of}
 use Rattle.repo_plan.specs.declared.part.Part.{Part}
 use Rattle.repo_plan.specs.Parts.{Pair, part_cmp, pair_of, part_of}
 use Rattle.repo_plan.specs.Plan.{PlanState, knows, holds, hides, is_asked, is_claimed, is_claim_of, can_be_asked}
@@ -24,13 +19,13 @@ use Rattle.repo_plan.proofs.Orders.{exact_parts}
 use Rattle.sorted_lists.proofs.Sets.{eq_same}
 use Rattle.repo_plan.proofs.Known.{wanted_is_asked}
 use Rattle.repo_plan.specs.Parts.{index_packets, parts_behind}
-use Rattle.repo_object.specs.Objects.{Post, IsPost, Publisher, IsPublisher, key_name, shape_in}
+use Rattle.repo_object.specs.Objects.{Post, IsPost, Publisher, IsPublisher, shape_in}
 use Rattle.repo_object.specs.Objects.Post.{Offers, Withdraws}
 use Rattle.repo_object.specs.Publication.{Listed, packets, packet_at, packets_behind, record_packet, published_record}
 use Rattle.repo_object.specs.Publication.{published_listing}
-use Rattle.repo_object.specs.Wants.{WantedPart, want_record, want_index, want_segment, listed_in}
-use Rattle.repo_object.specs.Verdict.{read_packet, packet_verdict, part_verdict, said_in, index_in}
-use Rattle.repo_object.proofs.Publications.{record_said, record_passes, index_passes, segment_passes, index_again}
+use Rattle.repo_object.specs.Wants.{listed_in}
+use Rattle.repo_object.specs.Verdict.{said_in, index_in}
+use Rattle.repo_object.proofs.Publications.{record_said, index_again}
 use Rattle.repo_object.proofs.Publications.{packets-length}
 use Rattle.repo_member.specs.declared.member.Member.TheInside.{Inside}
 use Rattle.repo_member.specs.Groups.{GroupKeys, IsGroup, IsPlainNodeName, node_at, publisher_at}
@@ -57,13 +52,6 @@ is_publisher g number is inside =
 
 -- ---- its packets
 
-verdict_reads : (want : WantedPart) (name key octets : List ℕ) → IsOk (part_verdict want name key octets)
-    → IsOk (data_of octets)
-verdict_reads want name key octets h = go (data_of octets) h where
-  go : (r : Result Data PacketFault) → IsOk (read_packet r >>= packet_verdict want name key octets) → IsOk r
-  go (Ok d) p = refl
-  go (Err f) p = absurd (true≢false (sym p))
-
 -- packets from part `x` on list as many as they have to, where each does
 in_turn : (l : Option Listed) (x : ℕ) (made : List (List ℕ))
     → ((i : ℕ) (octets : List ℕ) → slice_get made i ≡ Some octets
@@ -83,28 +71,6 @@ in_turn l x (octets ∷ made) each = (
   later i o e = subst (λ (n : ℕ). ListsAsMany o (option_and_then (index_count n) l)) e
 
 module _ (publisher : Publisher) (seq : ℕ) (is_publisher : IsPublisher publisher) (low : seq < 2 ^ 16) where
-  packet_read : (post : Post) → IsPost seq post → (k : ℕ) (octets : List ℕ)
-      → packet_at publisher seq post k ≡ Some octets → IsOk (data_of octets)
-  packet_read post is zero octets there =
-      verdict_reads (want_record (record_of_seq 0) publisher.node publisher.group) (encoding (key_name publisher.node))
-      publisher.key octets (record_passes publisher is_publisher (record_of_seq 0) post octets is low there) where
-        record_of_seq : ℕ → Part
-        record_of_seq x = record { publisher = 0; seq = seq; part = x }
-  packet_read (Withdraws withdrawn) is (suc k) octets there = absurd cc
-  packet_read (Offers object) is (suc k) octets there =
-      elim (cases_lt (index_packets (length object.contents)) (suc k)) [
-        | inl behind ↦
-            verdict_reads (want_segment part (shape_in (Offers object)) object.name (sha256 octets))
-            (encoding (key_name publisher.node)) publisher.key octets
-            (segment_passes publisher is_publisher object is part octets behind there)
-        | inr before ↦
-            verdict_reads (want_index part (published_listing publisher seq object) publisher.node publisher.group)
-            (encoding (key_name publisher.node)) publisher.key octets
-            (index_passes publisher is_publisher object is part octets low (omega arith) before there)
-      ] where
-        part : Part
-        part = record { publisher = 0; seq = seq; part = suc k }
-
   behind_listed : (post : Post) → IsPost seq post → (i : ℕ) (octets : List ℕ)
       → slice_get (packets_behind publisher seq post) i ≡ Some octets
       → ListsAsMany octets (option_and_then (index_count (1 + i)) (object_said (published_record publisher seq post)))
@@ -137,20 +103,17 @@ module _ (publisher : Publisher) (seq : ℕ) (is_publisher : IsPublisher publish
   pub packets_are : (post : Post) → IsPost seq post → (told : Told)
       → told ≡ told_of (published_record publisher seq post)
       → (made : List (List ℕ)) → made ≡ packets publisher seq post → ArePackets told made
-  packets_are post is told says made same = subst (ArePackets told) (sym same) (record {
-    read = λ k d inside. packet_read post is k _ (slice_get-get_or (packets publisher seq post) k d inside);
-    lists = (
-      said,
-      (
-        many,
-        in_turn (listing_in (record_packet publisher seq (published_record publisher seq post))) 1
-            (packets_behind publisher seq post)
-            (λ i octets there.
-            subst (λ (l : Option Listed). ListsAsMany octets (option_and_then (index_count (1 + i)) l))
-            (sym (ap (option_and_then object_said) record_is)) (behind_listed post is i octets there)),
-      ),
-    );
-  }) where
+  packets_are post is told says made same = subst (ArePackets told) (sym same) (
+    said,
+    (
+      many,
+      in_turn (listing_in (record_packet publisher seq (published_record publisher seq post))) 1
+          (packets_behind publisher seq post)
+          (λ i octets there.
+          subst (λ (l : Option Listed). ListsAsMany octets (option_and_then (index_count (1 + i)) l))
+          (sym (ap (option_and_then object_said) record_is)) (behind_listed post is i octets there)),
+    ),
+  ) where
     record_is : said_in (record_packet publisher seq (published_record publisher seq post))
         ≡ Some (published_record publisher seq post)
     record_is = record_said publisher is_publisher seq post is low

@@ -27,7 +27,7 @@ pub use Rattle.repo_member.proofs.CommandEvents.{starts_alike, keeps_alike, orde
 pub use Rattle.repo_member.proofs.CommandEvents.{issue_is_event, issue_is_answered, block_is_event, block_states_alike}
 pub use Rattle.repo_member.proofs.OrderLemmas.{made_orders_are_taken, orders_beyond}
 pub use Rattle.repo_member.proofs.OutcomeLemmas.{members_take_all, holder_jobs_are_planned, holder_jobs_are_outcomes}
-pub use Rattle.repo_member.proofs.OutcomeLemmas.{jobs_are_planned, planned_jobs_are_outcomes}
+pub use Rattle.repo_member.proofs.OutcomeLemmas.{rising_jobs_are_planned, jobs_are_planned, planned_jobs_are_outcomes}
 pub use Rattle.repo_member.proofs.OutcomeLemmas.{parts_came, apart_in_order}
 pub use Rattle.repo_member.proofs.InsertionParts.{closed_within, block_within, object_within}
 pub use Rattle.repo_member.proofs.CallLogs.{logs_go_on, publications_stay, withdrawals_stay, logged_packets_stay}

@@ -132,8 +132,8 @@ module _ (g : GroupKeys) (post : Post) (moment draw : ℕ) (a : Alone) (is_post 
       let are =
       packets_are by (next_seq a) (is_publisher g a.number r.group (omega (arith, r.alone.member, r.of)))
       (omega (arith, room)) post is_post says refl made refl in
-      sound_puts (alone_plan told) pair says (first_listing made) (packets_sized says made are.lists) new 0 made told
-      (omega (arith, count_packets says made are.lists)) (all_to_come says pair made a.store are.lists) told_tied
+      sound_puts (alone_plan told) pair says (first_listing made) (packets_sized says made are) new 0 made told
+      (omega (arith, count_packets says made are)) (all_to_come says pair made a.store are) told_tied
       (gained_none (alone_plan told) pair (shape_told says) new) told_sound
 
   -- ---- what is stored

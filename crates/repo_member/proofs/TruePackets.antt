@@ -17,7 +17,7 @@ use Rattle.repo_object.proofs.Publications.{record_said, content_again}
 use Rattle.group_model.specs.Publications.{Logs, no_post, post_at, last_of}
 use Rattle.group_model.specs.Sound.{IsPublished}
 use Rattle.repo_member.specs.Groups.{GroupKeys, publisher_at}
-use Rattle.repo_holdings.specs.Listed.{content_read, packet_content}
+use Rattle.repo_object.specs.Packets.{content_octets, packet_content}
 use Rattle.repo_member.specs.InGroup.{AreLogs}
 use Rattle.repo_member.proofs.OwnLemmas.{is_publisher}
 
@@ -36,7 +36,7 @@ record_says publisher seq post is_publisher is_post low octets h =
     ap said_in (sym (same_Some (record_packet publisher seq (published_record publisher seq post)) octets h))
     ∙ record_said publisher is_publisher seq post is_post low
 
-read_content : (r : Result Data PacketFault) → content_read r ≡ unwrap_or (content_within r) []
+read_content : (r : Result Data PacketFault) → content_octets r ≡ unwrap_or (content_within r) []
 read_content (Ok d) = refl
 read_content (Err fault) = refl
 
@@ -45,6 +45,7 @@ pub segment_content : (publisher : Publisher) (seq : ℕ) (object : NamedContent
     → IsPublisher publisher → IsObject object
     → packet_at publisher seq (Offers object) (index_packets (length object.contents) + k + 1) ≡ Some octets
     → packet_content octets ≡ get_or object.contents k []
+unfolding packet_content
 segment_content publisher seq object k octets publishes_it is h =
     read_content (data_of octets)
     ∙ ap (λ (o : Option (List ℕ)). unwrap_or o []) (content_again publisher publishes_it object is seq k octets h)

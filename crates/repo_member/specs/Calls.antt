@@ -13,36 +13,47 @@ use Rattle.repo_object.specs.declared.job.Job.{Job}
 use Rattle.repo_object.specs.Objects.{NamedContents, Post, IsContent, IsObject}
 use Rattle.repo_object.specs.Objects.Post.{Offers, Withdraws}
 use Rattle.repo_object.specs.Verdict.{CheckedPart, IsChecked, ring_verdict}
+use Rattle.repo_command.specs.declared.command.Command as commands
+use Rattle.repo_command.specs.declared.command_refusal.CommandRefusal.{CommandRefusal}
 use Rattle.repo_command.specs.Commands.{CommandIsSpelled}
 use Rattle.group_model.specs.Publications.{has_unwithdrawn}
+use Rattle.repo_holdings.specs.declared.contents.ContentsDigest.{ContentsDigest}
+use Rattle.repo_holdings.specs.Contents.{IsDigestIn}
+use Rattle.repo_holdings.specs.Taking.{with_what_came}
 use Rattle.repo_member.specs.declared.refusals.HearRefusal.{HearRefusal}
 use Rattle.repo_member.specs.declared.refusals.AcceptRefusal.{AcceptRefusal}
 use Rattle.repo_member.specs.Groups.{GroupKeys, IsGroup}
 use Rattle.repo_member.specs.Alone.{Alone, IsAlone, publication_limit, alone_plan, alone_opening, alone_publishes}
 use Rattle.repo_member.specs.Alone.{logged, alone_learns, alone_hears, alone_fires, alone_claims, want_of}
 use Rattle.repo_member.specs.Alone.{alone_accepts, alone_takes, alone_ends_claims, alone_resets, alone_restarts}
-use Rattle.repo_member.specs.Verdicts.{hear_verdict, accept_verdict}
-use Rattle.repo_member.specs.Outcomes.{outcome_of, IsOutcome}
-use Rattle.repo_member.specs.Commanded.{order_of, alone_after_order}
+use Rattle.repo_member.specs.Verdicts.{hear_verdict, vector_verdict, accept_verdict}
+use Rattle.repo_member.specs.Outcomes.{outcome_of, IsOutcome, IsCheckedFor}
+use Rattle.repo_member.specs.Commanded.{coded, order_of, alone_after_order}
 use Rattle.repo_member.specs.Blocks.{alone_blocks}
 
--- A call that may change a member, with what it is given: octets, fetchers, moments and draws. One that answers want of
--- memory changes nothing, so it is in no list.
+-- A public call of a member that isn't of a look alone, with what it is given: octets, vectors, fetchers, moments and
+-- draws. One that is out of memory changes nothing, so it is in no list.
 pub data MemberCall : Type 0 where
   Publish : NamedContents → ℕ → ℕ → MemberCall
   Withdraw : ℕ → ℕ → ℕ → MemberCall
   Hear : List ℕ → ℕ → ℕ → MemberCall
+  HearVector : List ℕ → ℕ → ℕ → MemberCall
   JoinFrom : List ℕ → MemberCall
+  JoinVector : List ℕ → MemberCall
   Fire : ℕ → ℕ → MemberCall
   Claim : ℕ → MemberCall
   Lose : ℕ → MemberCall
   Accept : ℕ → List ℕ → MemberCall
+  AcceptChecked : ℕ → CheckedPart → MemberCall
   TakeOutcome : List Job → List (Option CheckedPart) → List ℕ → MemberCall
+  TakeDigested : List Job → List (Option CheckedPart) → List ℕ → List ContentsDigest → MemberCall
   Command : List ℕ → MemberCall
+  CommandChecked : List ℕ → Result (ℕ × commands.Command) CommandRefusal → MemberCall
   Block : ℕ → ℕ → List ℕ → ℕ → ℕ → MemberCall
   EndClaims : MemberCall
   Reset : ℕ → ℕ → MemberCall
   Restart : ℕ → ℕ → MemberCall
+  OrderNames : MemberCall
 
 -- ---- what a call makes of a member: nothing, where it is refused
 
@@ -71,6 +82,11 @@ abbrev pub if_accepted : ℕ → List ℕ → Alone → Result Part AcceptRefusa
 if_accepted f octets a (Ok t) = alone_accepts f t octets a
 if_accepted f octets a (Err refusal) = a
 
+-- A fetcher's part is held from now on with these octets, if it claims one.
+abbrev pub if_claimed_held : ℕ → List ℕ → Alone → Option Part → Alone
+if_claimed_held f octets a None = a
+if_claimed_held f octets a (Some t) = alone_accepts f t octets a
+
 -- What is published, where there is a number for it.
 abbrev pub if_numbers : GroupKeys → Post → ℕ → ℕ → Alone → Alone
 if_numbers g post moment draw a =
@@ -82,17 +98,23 @@ after_call g (Publish object moment draw) a = if_numbers g (Offers object) momen
 after_call g (Withdraw seq moment draw) a =
     if has_unwithdrawn a.log seq then if_numbers g (Withdraws seq) moment draw a else a
 after_call g (Hear octets moment draw) a = if_heard moment draw a (hear_verdict g a octets)
+after_call g (HearVector told moment draw) a = if_heard moment draw a (vector_verdict a told)
 after_call g (JoinFrom octets) a = if_joined a (hear_verdict g a octets)
+after_call g (JoinVector told) a = if_joined a (vector_verdict a told)
 after_call g (Fire moment draw) a = alone_fires moment draw a
 after_call g (Claim f) a = if_claimed f a (claim_of (alone_plan a) f)
 after_call g (Lose f) a = if_lost f a (claim_of (alone_plan a) f)
 after_call g (Accept f octets) a = if_accepted f octets a (accept_verdict g a f octets)
+after_call g (AcceptChecked f checked) a = if_claimed_held f checked.octets a (claim_of (alone_plan a) f)
 after_call g (TakeOutcome jobs parts attempts) a = alone_takes (outcome_of jobs parts attempts) a
+after_call g (TakeDigested jobs parts attempts digests) a = alone_takes (outcome_of jobs parts attempts) a
 after_call g (Command octets) a = alone_after_order (order_of g a.number octets) a
+after_call g (CommandChecked octets verdict) a = alone_after_order (order_of g a.number octets) a
 after_call g (Block process index content moment draw) a = alone_blocks g process index content moment draw a
 after_call g EndClaims a = alone_ends_claims a
 after_call g (Reset moment draw) a = alone_resets moment draw a
 after_call g (Restart moment draw) a = alone_restarts moment draw a
+after_call g OrderNames a = a
 
 -- The member after a list of calls.
 abbrev pub after_calls : GroupKeys → List MemberCall → Alone → Alone
@@ -101,24 +123,47 @@ after_calls g (call ∷ calls) a = after_calls g calls (after_call g call a)
 
 -- ---- which calls can be made
 
--- The conditions of a call, but for those that keep moments, draws and lists of jobs small. A checked part passed its
--- checks by its type, and so is the name in a command a name.
+-- A vector that a member can be told: it has a number for each member, and tells of no more publications of this one
+-- than it made.
+pub record CanBeTold (a : Alone) (told : List ℕ) : Type 0 where
+  pub width : length told ≡ length a.known
+  pub own : slice_index told a.number ≤ length a.log
+
+-- What was checked for the want of the part that a fetcher claims, if it claims one.
+abbrev pub IsCheckedForClaim : GroupKeys → Alone → ℕ → CheckedPart → Type 0
+IsCheckedForClaim g a f checked =
+    IfSome (claim_of (alone_plan a) f) (λ part. IsCheckedFor g (want_of g a.store part) checked) × IsChecked checked
+
+-- The outcome of a fetch that the member planned, of parts that were checked.
+abbrev pub IsCheckedOutcome : GroupKeys → Alone → List Job → List (Option CheckedPart) → List ℕ → Type 0
+IsCheckedOutcome g a jobs parts attempts =
+    IsOutcome g a jobs parts attempts × All (λ part. IfSome part IsChecked) parts
+
+-- The conditions of a call, but for those that keep moments and draws small. A checked part passed its checks by its
+-- type, and so is the name in a command a name.
 abbrev pub IsAllowedCall : GroupKeys → Alone → MemberCall → Type 0
 IsAllowedCall g a (Publish object moment draw) = IsObject object
 IsAllowedCall g a (Withdraw seq moment draw) = Unit {0}
 IsAllowedCall g a (Hear octets moment draw) = Unit {0}
+IsAllowedCall g a (HearVector told moment draw) = CanBeTold a told
 IsAllowedCall g a (JoinFrom octets) = Unit {0}
+IsAllowedCall g a (JoinVector told) = CanBeTold a told
 IsAllowedCall g a (Fire moment draw) = Unit {0}
 IsAllowedCall g a (Claim f) = IsFetcher f
 IsAllowedCall g a (Lose f) = IsFetcher f
 IsAllowedCall g a (Accept f octets) = IsFetcher f
-IsAllowedCall g a (TakeOutcome jobs parts attempts) =
-    IsOutcome g a jobs parts attempts × All (λ part. IfSome part IsChecked) parts
+IsAllowedCall g a (AcceptChecked f checked) = IsFetcher f × IsCheckedForClaim g a f checked
+IsAllowedCall g a (TakeOutcome jobs parts attempts) = IsCheckedOutcome g a jobs parts attempts
+IsAllowedCall g a (TakeDigested jobs parts attempts digests) =
+    IsCheckedOutcome g a jobs parts attempts × All (IsDigestIn (with_what_came jobs parts a.store)) digests
 IsAllowedCall g a (Command octets) = IfOk (order_of g a.number octets) (λ order. CommandIsSpelled order.1)
+IsAllowedCall g a (CommandChecked octets verdict) =
+    (coded verdict ≡ order_of g a.number octets) × IfOk verdict (λ order. CommandIsSpelled order.1)
 IsAllowedCall g a (Block process index content moment draw) = IsContent content
 IsAllowedCall g a EndClaims = Unit {0}
 IsAllowedCall g a (Reset moment draw) = Unit {0}
 IsAllowedCall g a (Restart moment draw) = Unit {0}
+IsAllowedCall g a OrderNames = Unit {0}
 
 -- Each call's conditions hold when its turn comes.
 abbrev pub AreAllowedCalls : GroupKeys → Alone → List MemberCall → Type 0
@@ -172,7 +217,9 @@ vector_taken (Err refusal) = []
 
 abbrev pub vector_of_call : GroupKeys → Alone → MemberCall → List (List ℕ)
 vector_of_call g a (Hear octets moment draw) = vector_taken (hear_verdict g a octets)
+vector_of_call g a (HearVector told moment draw) = vector_taken (vector_verdict a told)
 vector_of_call g a (JoinFrom octets) = vector_taken (hear_verdict g a octets)
+vector_of_call g a (JoinVector told) = vector_taken (vector_verdict a told)
 vector_of_call g a _ = []
 
 -- The vectors that calls told it, in order.

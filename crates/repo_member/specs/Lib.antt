@@ -8,6 +8,7 @@ pub use Rattle.svs_sync.specs.KeptVector
 pub use Rattle.sorted_lists.specs.SortedList
 pub use Rattle.repo_plan.specs.Parts
 pub use Rattle.repo_plan.specs.Plan
+pub use Rattle.repo_plan.specs.Leaps
 pub use Rattle.repo_object.specs.Limits
 pub use Rattle.repo_object.specs.Objects
 pub use Rattle.repo_object.specs.Publication

@@ -3,6 +3,8 @@ use Rattle.std.specs.Prelude.{◌≡◌, ℕ, ◌+◌, ◌<◌, true, List, [], 
 use Rattle.std.specs.Prelude.{unwrap_or, IfSome}
 use Rattle.std.specs.List.{All, filter}
 use Rattle.repo_plan.specs.declared.part.Part.{Part}
+use Rattle.sorted_lists.specs.SortedList.{Rises}
+use Rattle.repo_plan.specs.Parts.{part_cmp}
 use Rattle.repo_plan.specs.Plan.{is_unclaimed, unclaimed, is_after, attempts_of}
 use Rattle.repo_object.specs.declared.job.Job.{Job}
 use Rattle.repo_object.specs.Wants.{WantedPart}
@@ -109,6 +111,12 @@ WereTried g _ _ _ = ⊥
 abbrev pub HolderJobsArePlanned : Type 0
 HolderJobsArePlanned = (g : GroupKeys) (h : HoldingsState) (after : Option Part) (most : ℕ) → HaveKeys g.members
     → length g.members.names ≡ length h.known → AreJobsOf g h (jobs_of g h after most)
+
+-- so are those of any parts that are wanted and unclaimed, in order
+abbrev pub RisingJobsArePlanned : Type 0
+RisingJobsArePlanned = (g : GroupKeys) (h : HoldingsState) (ts : List Part) → HaveKeys g.members
+    → length g.members.names ≡ length h.known → Rises part_cmp ts
+    → All (λ t. is_unclaimed (held_plan h) t ≡ true) ts → AreJobsOf g h (map (job_at g.members.names g.name h) ts)
 
 -- whatever comes of planned jobs can be taken
 abbrev pub HolderJobsAreOutcomes : Type 0

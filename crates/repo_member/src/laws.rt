@@ -13,8 +13,8 @@ ghost use Rattle.repo_member.specs.InEvents.{ClaimIsEvent, LoseIsEvent, AnswerIs
 ghost use Rattle.repo_member.specs.InEvents.{OrderIsEvent, OrderIsAnswered, IssueIsEvent, IssueIsAnswered};
 ghost use Rattle.repo_member.specs.InEvents.{BlockIsEvent, BlockStatesAlike, LearnsAtOnce, LearnsWhatAllKnow};
 ghost use Rattle.repo_member.specs.InEvents.{GatheringIsEvent, SettleIsEvent, OpenPartsAlike, CataloguesAlike};
-ghost use Rattle.repo_member.specs.Outcomes.{HolderJobsArePlanned, HolderJobsAreOutcomes, JobsArePlanned};
-ghost use Rattle.repo_member.specs.Outcomes.{PlannedJobsAreOutcomes};
+ghost use Rattle.repo_member.specs.Outcomes.{HolderJobsArePlanned, RisingJobsArePlanned, HolderJobsAreOutcomes};
+ghost use Rattle.repo_member.specs.Outcomes.{JobsArePlanned, PlannedJobsAreOutcomes};
 ghost use Rattle.repo_member.specs.TrueMembers.{TrueIsAlone, TrueIsOf, TrueStores, StoresThose, LogsThose};
 ghost use Rattle.repo_member.specs.TrueMembers.{WantsPublished, WantsAreTrue, PacketsAreThere, PacketsPass};
 ghost use Rattle.repo_member.specs.TrueMembers.{PacketsPassForMembers, AcceptsTheClaimed, TakesTheTrue};
@@ -237,9 +237,11 @@ pub fn syncs_of_members_are_taken()
 {}
 
 /// Jobs that a member plans, or whoever else holds parts in its group, are of different parts, each wanted and claimed
-/// by nobody. Whatever comes of them, if it was checked for them, is an outcome that can be taken.
+/// by nobody; so are the jobs of any such parts in order. Whatever comes of them, if it was checked for them, is an
+/// outcome that can be taken.
 pub fn planned_jobs_can_be_taken()
     ensures holders { HolderJobsArePlanned }
+    ensures rising { RisingJobsArePlanned }
     ensures taken { HolderJobsAreOutcomes }
     ensures planned { JobsArePlanned }
     ensures outcomes { PlannedJobsAreOutcomes }

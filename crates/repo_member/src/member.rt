@@ -22,6 +22,7 @@ pub use outcome::Kept;
 pub use publishing::Published;
 use repo_catalog::Catalogue;
 use repo_holdings::Holdings;
+use repo_object::Packet;
 use repo_plan::Part;
 use repo_process::Processes;
 use std::alloc::{AllocError, Global};
@@ -133,11 +134,18 @@ impl Member {
         u32::from(self.vector.get(self.number))
     }
 
-    /// The packet of a part that the member holds. It takes no memory.
+    /// The octets of the packet of a part that the member holds. It takes no memory.
     pub fn packet(&self, part: Part) -> Option<&[u8]>
         ensures { option_map (λ octets. octets.now) result ≡ value_of part_cmp self.now.store part }
     {
         self.held.packet(part)
+    }
+
+    /// The packet of a part that the member holds, which may be shared. It takes no memory.
+    pub fn stored(&self, part: Part) -> Option<&Packet>
+        ensures { option_map (λ packet. packet.now) result ≡ value_of part_cmp self.now.store part }
+    {
+        self.held.stored(part)
     }
 
     /// Puts the packets that came since in order of their names, so that an Interest is answered fast. The member stays

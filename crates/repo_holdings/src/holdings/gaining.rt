@@ -1,8 +1,7 @@
 // Parts that are held from now on, in the plan, in the store and in the catalogue.
-ghost use Rattle.std.specs.Prelude.{◌≡◌, ◌+◌, ◌-◌, ◌<◌, ◌≤◌, ◌==◌, true, false, is_some, IsOk, IfSome};
+ghost use Rattle.std.specs.Prelude.{◌≡◌, ◌+◌, ◌-◌, ◌<◌, ◌≤◌, ◌==◌, true, false, is_some};
 ghost use Rattle.std.specs.List.{All};
-ghost use Rattle.ndn_data.specs.Data.{data_of};
-ghost use Rattle.repo_plan.specs.Parts.{IsShape, pair_of};
+ghost use Rattle.repo_plan.specs.Parts.{pair_of};
 ghost use Rattle.repo_plan.specs.Plan.{holds, hides, is_asked, is_claimed, holds_too, uses_room};
 ghost use Rattle.repo_store.specs.StoreList.{with_packet};
 ghost use Rattle.repo_holdings.specs.StoredParents.{lists_at, ListsAsMany};
@@ -18,7 +17,7 @@ use crate::changes::{Change, change_told};
 use crate::contents::ContentsDigest;
 use crate::notes::Notes;
 use crate::told::Arrival;
-use repo_object::Digested;
+use repo_object::Packet;
 use repo_plan::{Part, Plan, Shape};
 use repo_store::Store;
 
@@ -57,7 +56,7 @@ pub(super) fn gain(
     plan: &mut Plan,
     store: &mut Store,
     part: Part,
-    packet: Digested,
+    packet: Packet,
     shape: Option<Shape>,
 )
     requires plan_room { 0 < plan.old.spare }
@@ -65,9 +64,7 @@ pub(super) fn gain(
     requires tied { AreTied plan.old store.old.packets }
     requires shape { is_some shape ≡ (part.part == 0) }
     requires told { shape ≡ told_shape part packet }
-    requires sized { IfSome shape IsShape }
     requires lists { ListsAsMany packet (lists_at store.old.packets part) }
-    requires data { IsOk (data_of packet) }
     requires asked { is_asked plan.old part ≡ true }
     requires not_held { holds plan.old part ≡ false }
     requires not_hidden { hides plan.old (pair_of part) ≡ false }
@@ -80,8 +77,7 @@ pub(super) fn gain(
     ensures tied { AreTied plan.new store.new.packets }
 {
     plan.hold_reserved(part, shape);
-    let (octets, digest) = packet.into_parts();
-    store.put_reserved_with_digest(part, octets, &digest);
+    store.put_shared(part, packet);
 }
 
 // The same of a packet that came, and what it tells is noted. The answer is what changes in the catalogue. Digests over

@@ -7,7 +7,7 @@ use super::Holdings;
 use super::gaining::gain;
 use crate::changes::change_told;
 use crate::told::Told;
-use repo_object::Digested;
+use repo_object::Packet;
 use repo_plan::{Part, Plan};
 use repo_store::Store;
 
@@ -15,7 +15,7 @@ impl Holdings {
     /// The parts of a new publication that is told of so are held from now on, with these packets, where room was made:
     /// the record, the index packets and the segments. An object is catalogued, and what a withdrawal withdraws is
     /// removed. It takes no memory.
-    pub fn publish_parts(&mut self, publisher: u32, seq: u16, told: Told, packets: Vec<Digested>)
+    pub fn publish_parts(&mut self, publisher: u32, seq: u16, told: Told, packets: Vec<Packet>)
         requires room { vec_len packets ≤ self.old.spare }
         requires new { IsNew (held_plan self.old) (publisher, seq) }
         requires packets { ArePackets told packets.items }
@@ -51,7 +51,7 @@ fn gain_all(
     publisher: u32,
     seq: u16,
     told: &Told,
-    packets: Vec<Digested>,
+    packets: Vec<Packet>,
 )
     requires plan_room { vec_len packets ≤ plan.old.spare }
     requires store_room { vec_len packets ≤ store.old.spare }

@@ -1,6 +1,7 @@
 ghost use Rattle.std.specs.Prelude.{◌≡◌, true, None, length, map, take, IfSome, IfOk};
 ghost use Rattle.std.specs.List.{All, filter};
 ghost use Rattle.repo_plan.specs.Plan.{is_asked, is_after, unclaimed};
+ghost use Rattle.repo_plan.specs.Leaps.{some_holds};
 ghost use Rattle.repo_holdings.specs.HoldingsState.{held_plan};
 ghost use Rattle.repo_holdings.specs.StoredParents.{lists_at, IsListedBy};
 ghost use Rattle.repo_holdings.specs.Wanting.{want_at, job_at, AreShortNames};
@@ -8,10 +9,21 @@ ghost use Rattle.repo_holdings.specs.Wanting.{want_at, job_at, AreShortNames};
 use super::Holdings;
 use super::stored_parent::StoredParent;
 use ndn_name::Name;
-use repo_object::{Job, Want, want_record};
-use repo_plan::Part;
+use repo_object::{Expected, Job, Want};
+use repo_plan::{HasParts, Part};
 use std::alloc::{AllocError, Global};
 use svs_vector::Roster;
+
+impl HasParts for Holdings {
+    ghost use Rattle.repo_plan.specs.Plan.{holds};
+    ghost use Rattle.repo_holdings.specs.HoldingsState.{held_plan};
+
+    ghost has = { λ h t. holds (held_plan h) t };
+
+    fn least_from(&self, part: Part) -> Option<Part> {
+        self.plan.held_from(part)
+    }
+}
 
 impl Holdings {
     /// The least parts that are wanted, that no fetcher claims and that are greater than `after`, at most `most` of
@@ -31,6 +43,26 @@ impl Holdings {
             (take most (filter (is_after after) (unclaimed (held_plan self.now))))) }
     {
         let parts = self.plan.wanted_after(alloc, after, most)?;
+        self.jobs_of(alloc, publishers, group, &parts)
+    }
+
+    /// Such jobs of those parts that one of the others holds. Takes no look-up for a part that none of them holds.
+    pub fn held_jobs<H: HasParts>(
+        &self,
+        alloc: Global,
+        publishers: &Roster,
+        group: &Name,
+        others: &[H],
+        after: Option<Part>,
+        most: usize,
+    ) -> Result<Vec<Job>, AllocError>
+        requires width { length publishers.now ≡ length self.now.known }
+        requires names { AreShortNames publishers.now group.now }
+        ensures { IfOk result (λ jobs. jobs.items ≡ map (job_at publishers.now group.now self.now)
+            (take most (filter (some_holds H.has others.now)
+            (filter (is_after after) (unclaimed (held_plan self.now)))))) }
+    {
+        let parts = self.plan.wanted_held_after(alloc, others, after, most)?;
         self.jobs_of(alloc, publishers, group, &parts)
     }
 
@@ -75,16 +107,34 @@ impl Holdings {
         ensures want { IfOk result (λ want. want ≡ want_at publishers.now group.now self.now.store part) }
         ensures lists { IfOk result (λ want. want.lists ≡ lists_at self.now.store part) }
     {
+        self.expected(publishers, group, part, stored)
+            .to_want(alloc)
+    }
+
+    /// What the packet of a part must be that is asked for, and that `stored` lists, unless it is a record. It takes no
+    /// memory.
+    pub fn expected<'w>(
+        &'w self,
+        publishers: &'w Roster,
+        group: &'w Name,
+        part: Part,
+        stored: Option<&'w StoredParent<'_>>,
+    ) -> Expected<'w>
+        requires width { length publishers.now ≡ length self.now.known }
+        requires names { AreShortNames publishers.now group.now }
+        requires asked { is_asked (held_plan self.now) part ≡ true }
+        requires listed { IfSome stored (λ r. IsListedBy self.now.store part r.now) }
+        requires none { stored ≡ None → part.part ≡ 0 }
+        ensures expected { result ≡ want_at publishers.now group.now self.now.store part }
+        ensures lists { result.lists ≡ lists_at self.now.store part }
+    {
         let node = publishers.name(part.publisher);
         match stored {
-            None => want_record(alloc, part, node, group),
+            None => Expected::record(part, node, group),
             Some(parent) if part.part <= parent.shape.index => {
-                parent.listing.want_index(alloc, part, node, group)
+                parent.listing.index(part, node, group)
             }
-            Some(parent) => {
-                let digest = self.digest_of(part, parent);
-                parent.listing.want_segment(alloc, part, digest)
-            }
+            Some(parent) => parent.listing.segment(part, self.digest_of(part, parent)),
         }
     }
 }

@@ -1,18 +1,19 @@
 // Publications that become whole by packets that came.
-ghost use Rattle.std.specs.Prelude.{◌≡◌, ◌-◌, ◌<◌, ◌^◌, List, length, map, min, Some, IfSome, IfOk};
+ghost use Rattle.std.specs.Prelude.{◌≡◌, ◌-◌, ◌<◌, ◌≤◌, ◌^◌, [], List, length, map, min, Some, unwrap_or};
+ghost use Rattle.std.specs.Prelude.{slice_get, IfSome, IfOk};
 ghost use Rattle.std.specs.List.{All};
 ghost use Rattle.sha2.specs.Sha256.{sha256};
 ghost use Rattle.sorted_lists.specs.SortedList.{value_of};
 ghost use Rattle.repo_plan.specs.Parts.{part_cmp};
+ghost use Rattle.repo_object.specs.Packets.{packet_content};
 ghost use Rattle.repo_holdings.specs.Records.{Packet};
 ghost use Rattle.repo_holdings.specs.Contents.{IsDigestIn};
-ghost use Rattle.repo_holdings.specs.HoldingsState.{held_plan};
-ghost use Rattle.repo_holdings.specs.Taking.{came, with_all_fetched, AreTakable, PartsDiffer};
+ghost use Rattle.repo_holdings.specs.Taking.{with_what_came, PartsDiffer};
 ghost use Rattle.repo_holdings.specs.WholeContents.{joined, AreContentsIn, IsWholeIn};
 
 use super::Holdings;
-use super::taking::Tried;
-use crate::contents::{ContentsDigest, content_of};
+use crate::contents::{ContentsDigest, content_of, stored_content};
+use repo_object::{Checked, Job};
 use repo_plan::Part;
 use sha2::{Digest, Sha256};
 use std::alloc::{AllocError, Global};
@@ -49,33 +50,34 @@ impl Whole<'_> {
 }
 
 impl Holdings {
-    /// Publications that become whole by what came, in order where this is in order of its parts, with their contents.
-    /// So digests over these can be made before the packets are taken, and be told to `take`.
+    /// Publications that become whole by what came for jobs, in order where these are in order of their parts, with
+    /// their contents where they lie. So digests over these can be made before the packets are taken, and be given to
+    /// `take`.
     ///
-    /// Only publications are told of which segments came, all of them beside each other. Those that aren't told are
-    /// listed by `take` all the same.
+    /// Only publications are among them of which segments came, all of them beside each other. The others are listed by
+    /// `take` all the same.
     pub fn whole_with<'a>(
         &'a self,
         alloc: Global,
-        all: &'a [Tried],
+        jobs: &[Job],
+        parts: &[Option<Checked<'a>>],
     ) -> Result<Vec<Whole<'a>>, AllocError>
-        requires { AreTakable (held_plan self.now) self.now.store all.now }
+        requires { PartsDiffer (map (λ job. job.want.part) jobs.now) }
         ensures { IfOk result
-            (λ whole. All (IsWholeIn (with_all_fetched (map came all.now) self.now.store)) whole.items) }
+            (λ whole. All (IsWholeIn (with_what_came jobs.now parts.now self.now.store)) whole.items) }
     {
         let mut whole = Vec::new(alloc);
         let mut came: usize = 0;
-        for place in 0..all.len() {
-            let tried = &all[place];
-            let Part { publisher, seq, .. } = tried.part;
-            came = came.saturating_add(usize::from(tried.arrival.is_some()));
-            if !is_last(all, place) {
+        for place in 0..jobs.len() {
+            let Part { publisher, seq, .. } = jobs[place].want.part();
+            came = came.saturating_add(usize::from(came_at(parts, place).is_some()));
+            if !is_last(jobs, place) {
                 continue;
             }
             let may_be_whole = self.misses_only(alloc, publisher, seq, came)?;
             came = 0;
             if may_be_whole {
-                if let Some(contents) = self.contents_with(alloc, publisher, seq, all)? {
+                if let Some(contents) = self.contents_with(alloc, publisher, seq, jobs, parts)? {
                     whole.push(Whole {
                         publisher,
                         seq,
@@ -116,11 +118,12 @@ impl Holdings {
         alloc: Global,
         publisher: u32,
         seq: u16,
-        all: &'a [Tried],
+        jobs: &[Job],
+        parts: &[Option<Checked<'a>>],
     ) -> Result<Option<Vec<&'a [u8]>>, AllocError>
-        requires { PartsDiffer (map (λ x. x.part) all.now) }
+        requires { PartsDiffer (map (λ job. job.want.part) jobs.now) }
         ensures contents { IfOk result (λ contents. IfSome contents (λ contents.
-            AreContentsIn (with_all_fetched (map came all.now) self.now.store) (publisher, seq) contents.items)) }
+            AreContentsIn (with_what_came jobs.now parts.now self.now.store) (publisher, seq) contents.items)) }
         ensures few { IfOk result (λ contents. IfSome contents (λ contents.
             length (joined contents.items) < 2 ^ 64)) }
     {
@@ -134,38 +137,54 @@ impl Holdings {
                 seq,
                 part: shape.index + 1 + x,
             };
-            let Some(packet) = self.packet_with(part, all) else {
+            let Some(content) = self.content_with(part, jobs, parts) else {
                 return Ok(None);
             };
-            contents.push(content_of(packet))?;
+            contents.push(content)?;
         }
         Ok(Some(contents))
     }
 
-    // The packet of a part, as it is stored or came.
-    fn packet_with<'a>(&'a self, part: Part, all: &'a [Tried]) -> Option<&'a [u8]>
-        requires { PartsDiffer (map (λ x. x.part) all.now) }
-        ensures { IfSome result (λ packet.
-            value_of part_cmp (with_all_fetched (map came all.now) self.now.store) part ≡ Some packet.now) }
+    // The content of a part, where it is stored or came.
+    fn content_with<'a>(
+        &'a self,
+        part: Part,
+        jobs: &[Job],
+        parts: &[Option<Checked<'a>>],
+    ) -> Option<&'a [u8]>
+        requires { PartsDiffer (map (λ job. job.want.part) jobs.now) }
+        ensures exact { IfSome result (λ content. content.now ≡ packet_content (unwrap_or
+            (value_of part_cmp (with_what_came jobs.now parts.now self.now.store) part) [])) }
+        ensures short { IfSome result (λ content. length content.now ≤ 8800) }
     {
-        if let Some(packet) = self.store.get(part) {
-            return Some(packet);
+        if let Some(content) = stored_content(&self.store, part) {
+            return Some(content);
         }
-        let Ok(place) = all.binary_search_by_key(&part, |tried| tried.part) else {
+        let Ok(place) = jobs.binary_search_by_key(&part, |job| job.want.part()) else {
             return None;
         };
-        let arrival = all[place].arrival.as_ref()?;
-        Some(arrival.packet.octets())
+        let checked = came_at(parts, place)?;
+        Some(content_of(checked))
     }
 }
 
-// Whether what stands behind a place is of another publication.
-fn is_last(all: &[Tried], place: usize) -> bool
-    requires { place < length all.now }
+// What came for the job of a place.
+fn came_at<'s, 'a>(parts: &'s [Option<Checked<'a>>], place: usize) -> Option<&'s Checked<'a>>
+    ensures { IfSome result (λ checked. slice_get parts.now place ≡ Some (Some checked.now)) }
 {
-    let part = all[place].part;
-    match all.get(place + 1) {
-        Some(next) => (next.part.publisher, next.part.seq) != (part.publisher, part.seq),
+    parts.get(place)?.as_ref()
+}
+
+// Whether the job after that of a place is of another publication.
+fn is_last(jobs: &[Job], place: usize) -> bool
+    requires { place < length jobs.now }
+{
+    let part = jobs[place].want.part();
+    match jobs.get(place + 1) {
+        Some(next) => {
+            let next = next.want.part();
+            (next.publisher, next.seq) != (part.publisher, part.seq)
+        }
         None => true,
     }
 }

@@ -2,11 +2,12 @@ ghost use Rattle.std.specs.Prelude.{◌≡◌, ◌⊎◌, ◌↔◌, Ok, Err, So
 ghost use Rattle.std.specs.Prelude.{OnOk, OnErr, true, map, take, List};
 ghost use Rattle.std.specs.List.{filter};
 ghost use Rattle.repo_plan.specs.Plan.{claim_of, unclaimed, first, is_after, is_asked, is_wanted};
+ghost use Rattle.repo_plan.specs.Leaps.{some_holds};
 ghost use Rattle.repo_plan.specs.Calls.{IsFetcher};
 ghost use Rattle.repo_object.specs.Verdict.{ring_verdict};
 ghost use Rattle.repo_member.specs.Alone.{IsOfGroup, alone_plan, alone_claims, want_of, alone_accepts};
 ghost use Rattle.repo_member.specs.Verdicts.{passed, accept_verdict};
-ghost use Rattle.repo_holdings.specs.Records.{Packet};
+ghost use Rattle.repo_holdings.specs.Records.{Packet as Stored};
 ghost use Rattle.repo_holdings.specs.StoredParents.{lists_at};
 ghost use Rattle.repo_holdings.specs.Gaining.{IsArrival};
 ghost use Rattle.repo_member.specs.Outcomes.{job_for, IsCheckedFor};
@@ -15,9 +16,20 @@ use super::Member;
 use crate::group::Group;
 use crate::refusals::{AcceptRefusal, WantFault};
 use repo_holdings::Arrival;
-use repo_object::{Checked, Job, Want, check_part};
-use repo_plan::{FetcherBusy, FetcherIdle, Part};
+use repo_object::{Checked, Job, Packet, Want};
+use repo_plan::{FetcherBusy, FetcherIdle, HasParts, Part};
 use std::alloc::{AllocError, Global};
+
+impl HasParts for Member {
+    ghost use Rattle.repo_plan.specs.Plan.{holds};
+    ghost use Rattle.repo_member.specs.Alone.{alone_plan};
+
+    ghost has = { λ a t. holds (alone_plan a) t };
+
+    fn least_from(&self, part: Part) -> Option<Part> {
+        self.held.least_from(part)
+    }
+}
 
 impl Member {
     /// The fetcher claims the least part that is wanted and that no fetcher claims, or none where there is none. It
@@ -82,6 +94,7 @@ impl Member {
         ensures idle { (result ≡ Err AcceptRefusal.FetcherIdle) ↔ (claim_of (alone_plan self.old) f ≡ None) }
         ensures refused { IfErr result (λ refusal. (refusal ≡ AcceptRefusal.NoMemory)
             ⊎ (accept_verdict g.now self.old f octets.now ≡ Err refusal)) }
+        ensures memory { result ≡ Err AcceptRefusal.NoMemory → IsOk (accept_verdict g.now self.old f octets.now) }
         ensures err { OnErr result (self.new ≡ self.old) }
     {
         let Some(part) = self.held.claimed(f) else {
@@ -151,7 +164,26 @@ impl Member {
         self.held.jobs(alloc, g.roster(), g.name(), after, most)
     }
 
-    // The packet that came for a part, if the octets pass for it.
+    /// Such jobs of those parts that one of the others holds. Takes no look-up for a part that none of them holds.
+    pub fn plan_held<H: HasParts>(
+        &self,
+        alloc: Global,
+        g: &Group,
+        others: &[H],
+        after: Option<Part>,
+        most: usize,
+    ) -> Result<Vec<Job>, AllocError>
+        requires { IsOfGroup g.now self.now }
+        ensures { IfOk result (λ jobs. jobs.items ≡ map (job_for g.now self.now)
+            (take most (filter (some_holds H.has others.now)
+            (filter (is_after after) (unclaimed (alone_plan self.now)))))) }
+    {
+        g.is_sound();
+        self.held
+            .held_jobs(alloc, g.roster(), g.name(), others, after, most)
+    }
+
+    // The packet that came for a part, if the octets pass for it. Memory is taken for it last.
     fn arrival(&self, g: &Group, part: Part, octets: &[u8]) -> Result<Arrival, AcceptRefusal>
         requires group { IsOfGroup g.now self.now }
         requires asked { is_asked (alone_plan self.now) part ≡ true }
@@ -163,24 +195,27 @@ impl Member {
         ensures refused { IfErr result (λ refusal. (refusal ≡ AcceptRefusal.NoMemory)
             ⊎ (passed part (ring_verdict (want_of g.now self.now.store part)
             g.now.members.ring octets.now) ≡ Err refusal)) }
+        ensures memory { result ≡ Err AcceptRefusal.NoMemory → IsOk (passed part
+            (ring_verdict (want_of g.now self.now.store part) g.now.members.ring octets.now)) }
     {
         let alloc = *self.log.allocator();
         let stored = self.held.parent_for(part, None);
         g.is_sound();
-        let want = self
+        let expected = self
             .held
-            .want(alloc, g.roster(), g.name(), part, stored.as_ref())?;
-        let checked = check_part(&want, octets, g.members())?;
-        Ok(arrived(alloc, &checked)?)
+            .expected(g.roster(), g.name(), part, stored.as_ref());
+        expected.check(octets, g.members())?;
+        let packet = Packet::new(alloc, octets.to_vec(alloc)?, expected.digest())?;
+        Ok(Arrival::new(alloc, part, packet)?)
     }
 }
 
 // The packet that was checked for the want of a part, as it comes for that part.
 pub(super) fn arrived(alloc: Global, checked: &Checked<'_>) -> Result<Arrival, AllocError>
     ensures octets { IfOk result (λ arrival. arrival.packet ≡ checked.now.octets) }
-    ensures arrival { IfOk result (λ arrival. (packets : List Packet)
+    ensures arrival { IfOk result (λ arrival. (packets : List Stored)
         → checked.now.want.lists ≡ lists_at packets checked.now.want.part
         → IsArrival packets checked.now.want.part arrival.packet arrival.told) }
 {
-    Arrival::new(alloc, checked.part(), checked.octets(), checked.digest())
+    Arrival::new(alloc, checked.part(), checked.to_packet(alloc)?)
 }

@@ -18,7 +18,7 @@ use crate::post::{Post, has_unwithdrawn, packet_in, push};
 use crate::refusals::{PublishRefusal, WithdrawRefusal};
 use ndn_name::Name;
 use repo_holdings::Told;
-use repo_object::{Digested, Object, digested_packets_of, withdrawal_packet};
+use repo_object::{Object, Packet, shared_packets_of, withdrawal_packet};
 use repo_plan::{Part, Shape};
 use std::alloc::AllocError;
 
@@ -38,7 +38,7 @@ pub struct Published {
 #[derive(Drop)]
 struct Prepared {
     told: Told,
-    packets: Vec<Digested>,
+    packets: Vec<Packet>,
     sync: Vec<u8>,
 }
 
@@ -247,7 +247,7 @@ impl Member {
         g.is_sound();
         let node = g.roster().name(self.number);
         let key = g.members().key(self.number);
-        let packets = digested_packets_of(alloc, object, self.next_seq(), node, g.name(), key)?;
+        let packets = shared_packets_of(alloc, object, self.next_seq(), node, g.name(), key)?;
         let told = Told::Object {
             shape: Shape::of(object.contents().len() as u16),
             name: object.name().clone()?,
@@ -275,7 +275,7 @@ impl Member {
         let seq = self.next_seq();
         let packet = withdrawal_packet(alloc, withdrawn, seq, node, g.name(), key)?;
         let mut packets = Vec::with_capacity(alloc, 1)?;
-        packets.push(Digested::new(packet, None))?;
+        packets.push(Packet::new(alloc, packet, None)?)?;
         let sync = self.next_sync(g)?;
         Ok(Prepared {
             told: Told::Withdrawal { seq: withdrawn },

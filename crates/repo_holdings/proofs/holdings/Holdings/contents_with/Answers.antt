@@ -1,10 +1,10 @@
-use Rattle.std.proofs.Common.{◌≡◌, ◌+◌, ◌++◌, [], ℕ, List, map, length, length-append, Option, unwrap_or, sym, ap}
+use Rattle.std.proofs.Common.{◌≡◌, ◌+◌, ◌++◌, ℕ, List, length, length-append, sym, ap}
 use Rattle.std.proofs.Common.{◌∙◌, subst, arith}
 use Rattle.repo_plan.specs.Parts.{Pair}
 use Rattle.repo_holdings.specs.Records.{Packet}
-use Rattle.repo_holdings.specs.Listed.{packet_content, stored_content, contents_from}
+use Rattle.repo_holdings.specs.Listed.{stored_content, contents_from}
 use Rattle.repo_holdings.specs.HoldingsState.{HoldingsState}
-use Rattle.repo_holdings.specs.Taking.{came, with_all_fetched}
+use Rattle.repo_holdings.specs.Taking.{what_came, with_what_came}
 use Rattle.repo_holdings.specs.WholeContents.{joined}
 use Rattle.repo_holdings.proofs.ContentLemmas.{joined_more}
 use Rattle.repo_holdings.proofs.FreshLemmas.{StayStored, fetched_stays}
@@ -13,38 +13,37 @@ use Rattle.repo_holdings.proofs.holdings.Holdings.contents_with.Goals as goal
 
 pub loop-x-preserved : goal.loop-x-preserved
 loop-x-preserved c =
-    let after : List Packet = with_all_fetched (map came c.args.all.now) c.args.self.now.store in
+    let after : List Packet = with_what_came c.args.jobs.now c.args.parts.now c.args.self.now.store in
     let pair : Pair = (c.args.publisher, c.args.seq) in
     let first : ℕ = c.in-Some.shape.index + 1 in
-    let content : c.content_of.result.now ≡ stored_content after pair (first + c.loop-x.x) =
-    c.content_of.ensures.exact
-    ∙ ap (λ (o : Option (List ℕ)). packet_content (unwrap_or o [])) (sym c.in-Some-packet_with.ensures) in
-    let more : joined c.push.new.self.items ≡ joined c.loop-x.contents.items ++ c.content_of.result.now =
-    ap joined c.in_ok-push.ensures.items ∙ joined-push c.loop-x.contents.items c.content_of.result in
+    let content : c.in-Some-content_with.content.now ≡ stored_content after pair (first + c.loop-x.x) =
+    c.in-Some-content_with.ensures.exact in
+    let more : joined c.push.new.self.items ≡ joined c.loop-x.contents.items ++ c.in-Some-content_with.content.now =
+    ap joined c.in_ok-push.ensures.items ∙ joined-push c.loop-x.contents.items c.in-Some-content_with.content in
     record {
       contents =
           more
-          ∙ ap (λ (front : List ℕ). front ++ c.content_of.result.now) c.loop-x.invariant.contents
+          ∙ ap (λ (front : List ℕ). front ++ c.in-Some-content_with.content.now) c.loop-x.invariant.contents
           ∙ ap (λ (piece : List ℕ). contents_from after pair first c.loop-x.x ++ piece) content
           ∙ sym (joined_more after pair first c.loop-x.x);
       few =
           omega (
             arith,
             ap (λ (m : List ℕ). length m) more,
-            length-append (joined c.loop-x.contents.items) c.content_of.result.now,
-            c.content_of.ensures.short,
+            length-append (joined c.loop-x.contents.items) c.in-Some-content_with.content.now,
+            c.in-Some-content_with.ensures.short,
             c.loop-x.invariant.few,
           );
     }
 
 pub returns-clause-contents : goal.returns-clause-contents
 returns-clause-contents c =
-    let after : List Packet = with_all_fetched (map came c.args.all.now) c.args.self.now.store in
+    let after : List Packet = with_what_came c.args.jobs.now c.args.parts.now c.args.self.now.store in
     let pair : Pair = (c.args.publisher, c.args.seq) in
     let all : c.loop-x.x ≡ c.in-Some.shape.segments = omega (arith, c.loop-x-test.false, c.loop-x.auto.x-end) in
     contents_are c.self.inside.plan c.self.inside.store.packets after pair c.in-Some.shape c.loop-x.contents.items
     c.self.invariant.kept.tied
     (subst (λ (h : HoldingsState). StayStored h.store after) (sym c.self.view_is)
-    (fetched_stays (map came c.args.all.now) c.args.self.now.store))
+    (fetched_stays (what_came c.args.jobs.now c.args.parts.now) c.args.self.now.store))
     (sym c.in-Some.is ∙ c.shape.ensures.shape)
     (c.loop-x.invariant.contents ∙ ap (contents_from after pair (c.in-Some.shape.index + 1)) all)

@@ -17,21 +17,21 @@ pub change_told-change-requires-clause-told : goal.change_told-change-requires-c
 change_told-change-requires-clause-told c =
     let pair : Pair = (c.args.publisher, c.args.seq) in
     publication_told c.self.inside.store.packets c.gain_all.new.store.packets pair c.args.packets.items c.args.told
-    (new_absent c.self.inside c.args.self.now pair c.self.view_is c.requires.new) c.requires.packets.lists
+    (new_absent c.self.inside c.args.self.now pair c.self.view_is c.requires.new) c.requires.packets
     c.gain_all.ensures.packets
 
 pub change_told-change-requires-clause-withdrawn : goal.change_told-change-requires-clause-withdrawn
 change_told-change-requires-clause-withdrawn c =
     let pair : Pair = (c.args.publisher, c.args.seq) in
     withdrawn_published c.self.inside.store.packets c.gain_all.new.store.packets pair c.args.packets.items c.args.told
-    (new_absent c.self.inside c.args.self.now pair c.self.view_is c.requires.new) c.requires.packets.lists
+    (new_absent c.self.inside c.args.self.now pair c.self.view_is c.requires.new) c.requires.packets
     c.gain_all.ensures.packets c.self.inside.notes.withdrawn c.self.invariant.kept.tied.in_order
     c.gain_all.ensures.tied.in_order c.self.invariant.kept.noted.withdrawn
 
 pub invariant_of-self : goal.invariant_of-self
 invariant_of-self c =
     let pair : Pair = (c.args.publisher, c.args.seq) in
-    let some = count_packets c.args.told c.args.packets.items c.requires.packets.lists in
+    let some = count_packets c.args.told c.args.packets.items c.requires.packets in
     let long = c.args.packets.ok.0 in
     let room = c.self.invariant.room in
     let kept = c.self.invariant.kept in
@@ -39,7 +39,7 @@ invariant_of-self c =
     let after = c.gain_all.new.store.packets in
     let absent = new_absent c.self.inside c.args.self.now pair c.self.view_is c.requires.new in
     let puts = c.gain_all.ensures.packets in
-    let lists = c.requires.packets.lists in
+    let lists = c.requires.packets in
     let made = c.args.packets.items in
     let others = others_aside before after pair made c.args.told absent lists puts in
     let told = publication_told before after pair made c.args.told absent lists puts in

@@ -1,9 +1,5 @@
-use Rattle.std.proofs.Common.{List, ℕ, ◌+◌, length, Option, Some, sym, ap, ◌∙◌, subst, arith}
-use Rattle.std.specs.Prelude.{IsOk, IfSome}
-use Rattle.std.specs.List.{All}
+use Rattle.std.proofs.Common.{List, ℕ, ◌+◌, length, Some, sym, ap, ◌∙◌, subst, arith}
 use Rattle.std.specs.Vec.Iter.{into_iter_items}
-use Rattle.std.proofs.lemmas.List.Elements.{All-head, All-tail}
-use Rattle.ndn_data.specs.Data.{data_of}
 use Rattle.sorted_lists.specs.SortedList.{contains}
 use Rattle.repo_plan.specs.declared.part.Part.{Part}
 use Rattle.repo_plan.specs.declared.shape.Shape.{Shape}
@@ -25,7 +21,7 @@ loop-packet-init c =
     let made : List (List ℕ) = c.args.packets.items in
     let all = c.into_iter-packet-iterator.ensures.into_iter_gives.0 in
     let fewer = ap (λ (r : List (List ℕ)). length r) all in
-    let count = count_packets c.args.told.now made c.requires.packets.lists in
+    let count = count_packets c.args.told.now made c.requires.packets in
     let behind = ap parts_behind c.shape-shape.ensures in
     record {
       stored = ap (λ (r : List (List ℕ)). with_packets (as_parts pair 0 r) c.args.store.now.packets) all;
@@ -33,12 +29,11 @@ loop-packet-init c =
       gained = gained_none c.args.plan.now pair c.shape-shape.result c.requires.new;
       plan_room = omega (arith, fewer);
       store_room = omega (arith, fewer);
-      read = subst (All (λ octets. IsOk (data_of octets))) (sym all) c.requires.packets.read;
       count = omega (arith, fewer, count, behind);
       come =
           subst (λ (r : List (List ℕ)). AreToCome c.args.told.now (first_listing made) pair 0 r
           c.args.store.now.packets) (sym all)
-          (all_to_come c.args.told.now pair made c.args.store.now.packets c.requires.packets.lists);
+          (all_to_come c.args.told.now pair made c.args.store.now.packets c.requires.packets);
     }
 
 pub gain-requires-clause-plan_room : goal.gain-requires-clause-plan_room
@@ -50,12 +45,6 @@ pub gain-requires-clause-store_room : goal.gain-requires-clause-store_room
 gain-requires-clause-store_room c =
     let fewer = ap (λ (r : List (List ℕ)). length r) c.in-Some.ensures.steps.0 in
     omega (arith, fewer, c.requires.store_room, c.loop-packet.invariant.store_room, c.args.packets.ok.0)
-
-pub gain-requires-clause-data : goal.gain-requires-clause-data
-gain-requires-clause-data c =
-    let rest = c.in-Some.ensures.steps.0 in
-    All-head (λ octets. IsOk (data_of octets)) c.in-Some.packet _
-    (subst (All (λ octets. IsOk (data_of octets))) rest c.loop-packet.invariant.read)
 
 pub gain-requires-clause-told : goal.gain-requires-clause-told
 gain-requires-clause-told c =
@@ -72,15 +61,6 @@ gain-requires-clause-told c =
       | else-x-eq0 w ↦ w.shape-is ∙ sym (not_told (shape_told c.args.told.now) c.loop-packet.x w.if-x-eq0.false)
     ])
 
-pub gain-requires-clause-sized : goal.gain-requires-clause-sized
-gain-requires-clause-sized c = elim c.if-x-eq0.branch [
-  | then-x-eq0 w ↦
-      subst (λ (o : Option Shape). IfSome o IsShape)
-      (sym (w.shape-is ∙ ap (λ (s : Shape). Some s) c.shape-shape.ensures))
-      (packets_sized c.args.told.now c.args.packets.items c.requires.packets.lists)
-  | else-x-eq0 w ↦ subst (λ (o : Option Shape). IfSome o IsShape) (sym w.shape-is) tt
-]
-
 pub gain-requires-clause-lists : goal.gain-requires-clause-lists
 gain-requires-clause-lists c =
     lists_many c.args.told.now (first_listing c.args.packets.items) (c.args.publisher, c.args.seq) c.loop-packet.x
@@ -95,7 +75,7 @@ gain-requires-clause-asked c =
     can_ask c.args.plan.now c.loop-packet.plan (c.args.publisher, c.args.seq) c.shape-shape.result c.loop-packet.x
     c.requires.new c.loop-packet.invariant.gained
     (subst IsShape (sym c.shape-shape.ensures)
-    (packets_sized c.args.told.now c.args.packets.items c.requires.packets.lists))
+    (packets_sized c.args.told.now c.args.packets.items c.requires.packets))
     (omega (arith, fewer, c.loop-packet.invariant.count))
 
 pub gain-requires-clause-not_claimed : goal.gain-requires-clause-not_claimed
@@ -107,7 +87,7 @@ overflow_add-x c =
     let fewer = ap (λ (r : List (List ℕ)). length r) c.in-Some.ensures.steps.0 in
     let sized =
     subst IsShape (sym c.shape-shape.ensures)
-    (packets_sized c.args.told.now c.args.packets.items c.requires.packets.lists) in
+    (packets_sized c.args.told.now c.args.packets.items c.requires.packets) in
     omega (
       arith,
       fewer,
@@ -156,9 +136,6 @@ loop-packet-preserved c =
             inv.store_room,
             ap (λ (s : StoreList). s.spare) c.gain.ensures.store,
           );
-      read =
-          All-tail (λ octets. IsOk (data_of octets)) c.in-Some.packet _
-          (subst (All (λ octets. IsOk (data_of octets))) rest inv.read);
       count = omega (arith, fewer, inv.count);
       come =
           come_later c.args.told.now (first_listing c.args.packets.items) pair c.loop-packet.x c.in-Some.packet later

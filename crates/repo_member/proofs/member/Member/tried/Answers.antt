@@ -106,7 +106,7 @@ returns-clause-few c =
     let many =
     all_tried c.args.g.now c.args.self.now c.args.jobs.now c.args.parts.now c.args.attempts.now c.requires.outcome
     c.loop-job.all.items (came_all c) in
-    omega (arith, many, c.requires.few, c.loop-job.all.ok)
+    omega (arith, many, c.in-Ok.ensures, c.loop-job.all.ok)
 
 pub returns-clause-parts : goal.returns-clause-parts
 returns-clause-parts c =
