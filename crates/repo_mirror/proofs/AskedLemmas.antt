@@ -5,7 +5,7 @@ use Rattle.std.specs.Prelude.{slice_index, slice_set}
 use Rattle.svs_vector.specs.Vectors.{join}
 use Rattle.svs_vector.proofs.JoinLemmas.{join-[]}
 use Rattle.repo_watch.specs.Patterns.{is_publisher}
-use Rattle.mirror_model.specs.Asked.{asked_numbers}
+use Rattle.repo_mirror.specs.Asked.{asked_numbers}
 
 pub asked_none : (asked : Option ℕ) (p n : ℕ) → let z : ℕ = 0 in asked_numbers asked p (replicate n z) ≡ replicate n z
 asked_none asked p zero = refl

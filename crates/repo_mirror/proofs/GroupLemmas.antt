@@ -7,9 +7,9 @@ use Rattle.svs_vector.proofs.JoinLemmas.{length-join, join-at}
 use Rattle.repo_plan.specs.Parts.{Pair, pair_of}
 use Rattle.repo_plan.specs.Plan.{PlanState, is_wanted}
 use Rattle.group_model.specs.Sound.{IsKnown}
-use Rattle.mirror_model.specs.Mirrors.{IsWantedByMirror}
-use Rattle.mirror_model.proofs.Wants.{want_those}
-use Rattle.mirror_model.proofs.Lists as mirrors
+use Rattle.repo_mirror.specs.Mirrors.{IsWantedByMirror}
+use Rattle.repo_mirror.proofs.Wants.{want_those}
+use Rattle.repo_mirror.proofs.Lists as mirrors
 use Rattle.repo_member.specs.Alone.{alone_opening}
 use Rattle.repo_member.proofs.PublicLaws.{plans_alike, lists_alike, begins_truly, stays_true}
 use Rattle.repo_member.specs.TrueHolders.{alone_with}

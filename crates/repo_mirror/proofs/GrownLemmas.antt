@@ -4,7 +4,7 @@ use Rattle.repo_plan.specs.Parts.{Pair, pair_of, parts_behind}
 use Rattle.repo_object.specs.Objects.{Post, shape_in}
 use Rattle.group_model.specs.Publications.{post_at}
 use Rattle.group_model.specs.Sound.{IsKnown}
-use Rattle.mirror_model.specs.Asked.{is_kept_post}
+use Rattle.repo_mirror.specs.Asked.{is_kept_post}
 use Rattle.repo_member.proofs.PublicLaws.{grows_truly}
 use Rattle.repo_member.specs.TrueHolders.{alone_with}
 use Rattle.repo_member.proofs.LastingPackets.{grown_last, grown_post}

@@ -5,11 +5,11 @@ use Rattle.sorted_lists.specs.SortedList.{contains, keys}
 use Rattle.repo_plan.specs.Parts.{part_cmp, pair_of, part_of}
 use Rattle.repo_watch.specs.Patterns.{is_publisher}
 use Rattle.group_model.specs.Publications.{Logs, last_of}
-use Rattle.mirror_model.specs.Asked.{asked_numbers}
-use Rattle.mirror_model.proofs.Wants.{asked_of_publisher, known_to}
+use Rattle.repo_mirror.specs.Asked.{asked_numbers}
+use Rattle.repo_mirror.proofs.Wants.{asked_of_publisher, known_asked}
 use Rattle.repo_member.specs.Groups.{GroupKeys}
 use Rattle.repo_mirror.specs.MirrorState.{MirrorState}
-use Rattle.repo_mirror.specs.TrueMirrors.{mirror_in_group, IsTrueMirror, MirrorsAreHolders}
+use Rattle.repo_mirror.specs.TrueMirrors.{IsTrueMirror, MirrorsAreHolders}
 use Rattle.repo_mirror.proofs.AskedLemmas.{length-asked}
 
 module _ (g : GroupKeys) (logs : Logs) (m : MirrorState) (is : IsTrueMirror g logs m) where
@@ -33,7 +33,7 @@ mirror_is_holder g logs m is = record {
   held = λ t h.
       let s = is.sound.kept t h in
       record {
-        known = known_to m.pattern logs (mirror_in_group m) is.sound (pair_of t) s.publisher s.known;
+        known = known_asked m.pattern.publisher m.known (pair_of t) s.publisher s.known;
         counted = s.counted;
         with_record = s.with_record;
         with_parent = s.with_parent;
@@ -41,7 +41,7 @@ mirror_is_holder g logs m is = record {
   hidden = λ pair h.
       let s = is.sound.passed pair h in
       record {
-        known = known_to m.pattern logs (mirror_in_group m) is.sound pair s.publisher s.known;
+        known = known_asked m.pattern.publisher m.known pair s.publisher s.known;
         none_held = λ x. false_from_ne_true (contains part_cmp (keys m.store) (part_of pair x)) (λ k.
             true≢false (sym (is.sound.kept (part_of pair x) k).accepted ∙ s.not_accepted));
       };

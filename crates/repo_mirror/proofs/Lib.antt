@@ -1,3 +1,8 @@
+pub mod Wants
+pub mod Gains
+pub mod Settling
+pub mod Lists
+pub mod Joins
 mod AskedLemmas
 mod MirrorLemmas
 mod HidingLemmas
@@ -7,6 +12,11 @@ mod PlannedLemmas
 mod GroupLemmas
 mod GrownLemmas
 mod TakenLemmas
+mod KeptLemmas
+mod AcceptedLemmas
+mod ReachedLemmas
+mod WantedLemmas
+mod CallLemmas
 mod TrueLemmas
 mod HolderLemmas
 pub mod PublicLaws

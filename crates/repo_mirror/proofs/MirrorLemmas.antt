@@ -1,16 +1,14 @@
 -- A mirror's plan, as its value says it.
-use Rattle.std.proofs.Common.{◌≡◌, ℕ, zero, suc, Bool, true, false, not, ◌&&◌, List, map, take, length, replicate}
+use Rattle.std.proofs.Common.{◌≡◌, ℕ, zero, suc, Bool, true, false, not, ◌&&◌, List, map, length, replicate}
 use Rattle.std.proofs.Common.{Option, None, refl, ap, ◌∙◌}
 use Rattle.std.specs.List.{filter, list_any}
 use Rattle.ndn_name.specs.Names.{Component}
 use Rattle.repo_plan.specs.declared.part.Part.{Part}
 use Rattle.repo_plan.specs.Plan.{PlanState, is_claim_of, is_claimed, is_wanted, known_parts, wanted, unclaimed}
-use Rattle.repo_plan.specs.Plan.{is_after}
 use Rattle.repo_holdings.specs.HoldingsState.{held_plan}
 use Rattle.repo_holdings.specs.Wanting.{job_at}
 use Rattle.repo_mirror.specs.declared.mirror.Mirror.TheInside.{Inside}
 use Rattle.repo_mirror.specs.MirrorState.{MirrorState, mirror_holdings, fetch_plan}
-use Rattle.repo_mirror.specs.MirrorOutcomes.{planned_jobs}
 use Rattle.repo_mirror.specs.MirrorFields.{mirror_state, IsMirror}
 use Rattle.repo_mirror.proofs.AskedLemmas.{length-asked}
 
@@ -50,13 +48,12 @@ all_unclaimed a = λ i.
     (λ t. and_not (is_wanted (fetch_plan a) t) (is_claimed (fetch_plan a) t) (nothing_claimed a t) i)
     (known_parts (fetch_plan a))
 
--- the jobs of the next parts
-pub jobs_are : (publishers : List (List Component)) (group : List Component) (after : Option Part) (most : ℕ)
+-- the jobs of parts that are chosen of the wanted ones
+pub jobs_are : (publishers : List (List Component)) (group : List Component) (parts : List Part → List Part)
     (m : Inside) (a : MirrorState) → IsMirror m → mirror_state m ≡ a
-    → map (job_at publishers group m.held) (take most (filter (is_after after) (unclaimed (held_plan m.held))))
-    ≡ planned_jobs publishers group a after most
-jobs_are publishers group after most m a is view =
-    let parts : List Part → List Part = λ ts. take most (filter (is_after after) ts) in
+    → map (job_at publishers group m.held) (parts (unclaimed (held_plan m.held)))
+    ≡ map (job_at publishers group (mirror_holdings a)) (parts (wanted (fetch_plan a)))
+jobs_are publishers group parts m a is view =
     ap (λ (p : PlanState). map (job_at publishers group m.held) (parts (unclaimed p))) (plan_is m is)
     ∙ ap (λ (x : MirrorState). map (job_at publishers group (mirror_holdings x)) (parts (unclaimed (fetch_plan x))))
     view

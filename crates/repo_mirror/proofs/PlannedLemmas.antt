@@ -8,6 +8,7 @@ use Rattle.ndn_name.specs.Names.{Component}
 use Rattle.repo_plan.specs.declared.part.Part.{Part}
 use Rattle.repo_plan.specs.Plan.{is_wanted, is_claimed, is_after, wanted, known_parts, attempts_of}
 use Rattle.sorted_lists.proofs.Sets.{In}
+use Rattle.sorted_lists.proofs.Members.{in_all}
 use Rattle.repo_object.specs.declared.job.Job.{Job}
 use Rattle.repo_object.specs.Wants.{WantedPart}
 use Rattle.repo_object.specs.Verdict.{CheckedPart}
@@ -17,10 +18,11 @@ use Rattle.group_model.proofs.Lists.{from_filter, in_take}
 use Rattle.repo_member.specs.Groups.{GroupKeys}
 use Rattle.repo_member.specs.Outcomes.{IsCheckedFor, AreFetchedOf}
 use Rattle.repo_member.proofs.MemberLemmas.{want_at_part}
-use Rattle.repo_member.proofs.OutcomeLemmas.{parts_of_jobs, next_differ}
+use Rattle.repo_member.proofs.OutcomeLemmas.{parts_of_jobs, next_differ, apart_in_order}
 use Rattle.repo_mirror.specs.MirrorState.{MirrorState, mirror_holdings, fetch_plan}
 use Rattle.repo_mirror.specs.MirrorOutcomes.{AreFetchedFor, IsMirrorOutcome, WereTriedFor, PlannedJobsAreOutcomes}
-use Rattle.repo_mirror.specs.MirrorOutcomes.{MirrorsPlanJobs, HolderOutcomesAreMirrors}
+use Rattle.repo_mirror.specs.MirrorOutcomes.{RisingJobsAreOutcomes, MirrorsPlanJobs, MirrorsPlanJobsThat}
+use Rattle.repo_mirror.specs.MirrorOutcomes.{HolderOutcomesAreMirrors}
 use Rattle.repo_mirror.proofs.MirrorLemmas.{all_unclaimed}
 
 module _ (publishers : List (List Component)) (group : List Component) (m : MirrorState) where
@@ -48,6 +50,20 @@ module _ (publishers : List (List Component)) (group : List Component) (m : Mirr
         all_fetched ts (λ u i. each u (inr i)) parts ns were.2,
       )
 
+  -- what came of jobs of different wanted parts is an outcome
+  are_outcomes : (ts : List Part) → PartsDiffer ts → ((t : Part) → In t ts → is_wanted (fetch_plan m) t ≡ true)
+      → (parts : List (Option CheckedPart)) (ns : List ℕ) → WereTriedFor (map job_of ts) parts ns
+      → IsMirrorOutcome m (map job_of ts) parts ns
+  are_outcomes ts differ each parts ns were = record {
+    apart = subst PartsDiffer (sym (parts_of_jobs publishers group (mirror_holdings m) ts)) differ;
+    each = all_fetched ts each parts ns were;
+  }
+
+pub rising_jobs_are_outcomes : RisingJobsAreOutcomes
+rising_jobs_are_outcomes publishers group m ts parts attempts rises all were =
+    are_outcomes publishers group m ts (apart_in_order ts rises)
+    (λ t i. in_all (λ u. is_wanted (fetch_plan m) u ≡ true) ts t all i) parts attempts were
+
 pub planned_jobs_are_outcomes : PlannedJobsAreOutcomes
 planned_jobs_are_outcomes publishers group m after most jobs parts attempts planned were =
     let next : List Part = filter (is_after after) (wanted (fetch_plan m)) in
@@ -58,11 +74,9 @@ planned_jobs_are_outcomes publishers group m after most jobs parts attempts plan
     let each : (t : Part) → In t ts → is_wanted (fetch_plan m) t ≡ true = λ t i.
     (from_filter (is_wanted (fetch_plan m)) (known_parts (fetch_plan m)) t
     (from_filter (is_after after) (wanted (fetch_plan m)) t (in_take most next t i)).0).1 in
-    subst (λ (js : List Job). IsMirrorOutcome m js parts attempts) (sym planned) (record {
-      apart = subst PartsDiffer (sym (parts_of_jobs publishers group (mirror_holdings m) ts)) differ;
-      each = all_fetched publishers group m ts each parts attempts
-          (subst (λ (js : List Job). WereTriedFor js parts attempts) planned were);
-    })
+    subst (λ (js : List Job). IsMirrorOutcome m js parts attempts) (sym planned)
+    (are_outcomes publishers group m ts differ each parts attempts
+    (subst (λ (js : List Job). WereTriedFor js parts attempts) planned were))
 
 -- ---- the same jobs, as those of who holds what the mirror holds
 
@@ -70,6 +84,12 @@ pub mirrors_plan_jobs : MirrorsPlanJobs
 mirrors_plan_jobs g m after most =
     ap (λ (ts : List Part).
     map (job_at g.members.names g.name (mirror_holdings m)) (take most (filter (is_after after) ts)))
+    (sym (all_unclaimed m))
+
+pub mirrors_plan_jobs_that : MirrorsPlanJobsThat
+mirrors_plan_jobs_that test g m after most =
+    ap (λ (ts : List Part).
+    map (job_at g.members.names g.name (mirror_holdings m)) (take most (filter test (filter (is_after after) ts))))
     (sym (all_unclaimed m))
 
 want_checked : (g : GroupKeys) (want : WantedPart) (o : Option CheckedPart) → IfSome o (IsCheckedFor g want)

@@ -22,9 +22,9 @@ use Rattle.repo_holdings.specs.Taking.{Fetched}
 use Rattle.group_model.specs.Publications.{Logs, post_at, shape_at}
 use Rattle.group_model.proofs.Lists.{from_filter, at_in}
 use Rattle.group_model.proofs.Parents.{record_lists_itself}
-use Rattle.mirror_model.specs.Asked.{is_kept, is_kept_post}
-use Rattle.mirror_model.specs.Mirrors.{mirror_holds, IsWantedByMirror, IsKeptSoundly, IsPassedSoundly}
-use Rattle.mirror_model.proofs.Wants.{held_kept}
+use Rattle.repo_mirror.specs.Asked.{is_kept, is_kept_post}
+use Rattle.repo_mirror.specs.Mirrors.{mirror_holds, IsWantedByMirror, IsKeptSoundly, IsPassedSoundly}
+use Rattle.repo_mirror.proofs.Wants.{held_kept}
 use Rattle.repo_member.specs.Groups.{GroupKeys, publisher_at}
 use Rattle.repo_member.specs.Alone.{alone_takes}
 use Rattle.repo_member.specs.InGroup.{AreLogs, IsItsPacket, CameTruly, that_came}

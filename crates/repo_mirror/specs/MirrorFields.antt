@@ -3,7 +3,8 @@ use Rattle.std.specs.Prelude.{◌≡◌, ◌≤◌, length}
 use Rattle.repo_plan.specs.Plan.{no_claims}
 use Rattle.repo_mirror.specs.declared.mirror.Mirror.TheInside.{Inside}
 use Rattle.repo_mirror.specs.MirrorState.{MirrorState}
-use Rattle.mirror_model.specs.Asked.{asked_numbers}
+use Rattle.repo_mirror.specs.Asked.{asked_numbers}
+use Rattle.repo_mirror.specs.KeptPackets.{AreKeptPackets}
 
 -- What the fields say.
 abbrev pub mirror_state : Inside → MirrorState
@@ -16,8 +17,9 @@ mirror_state m = record {
 }
 
 -- There are at most 16 members; of publications the numbers of the publishers that are asked are known, and nothing is
--- claimed.
+-- claimed; and each stored packet passed its checks and is none that is passed over.
 pub record IsMirror (m : Inside) : Type 0 where
   pub few : length m.vector ≤ 16
   pub known : m.held.known ≡ asked_numbers m.pattern.publisher 0 m.vector
   pub claims : m.held.claims ≡ no_claims
+  pub packets : AreKeptPackets m.pattern m.held.store

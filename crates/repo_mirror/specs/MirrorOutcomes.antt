@@ -1,11 +1,14 @@
 -- What came of a fetch that a mirror planned.
-use Rattle.std.specs.Prelude.{◌≡◌, ℕ, ◌+◌, ◌<◌, true, List, [], ◌∷◌, map, take, Option, IfSome}
-use Rattle.std.specs.List.{filter}
+use Rattle.std.specs.Prelude.{◌≡◌, ℕ, ◌+◌, ◌<◌, Bool, true, List, [], ◌∷◌, map, take, Option, IfSome}
+use Rattle.std.specs.List.{All, filter}
 use Rattle.ndn_name.specs.Names.{Component}
 use Rattle.repo_plan.specs.declared.part.Part.{Part}
-use Rattle.repo_plan.specs.Plan.{is_wanted, wanted, is_after, attempts_of}
+use Rattle.sorted_lists.specs.SortedList.{Rises}
+use Rattle.repo_plan.specs.Parts.{part_cmp}
+use Rattle.repo_plan.specs.Plan.{is_wanted, wanted, unclaimed, is_after, attempts_of}
 use Rattle.repo_object.specs.declared.job.Job.{Job}
 use Rattle.repo_object.specs.Verdict.{CheckedPart}
+use Rattle.repo_holdings.specs.HoldingsState.{held_plan}
 use Rattle.repo_holdings.specs.Taking.{PartsDiffer}
 use Rattle.repo_holdings.specs.Wanting.{want_at, job_at}
 use Rattle.repo_member.specs.Groups.{GroupKeys}
@@ -17,6 +20,13 @@ use Rattle.repo_mirror.specs.MirrorState.{MirrorState, mirror_holdings, fetch_pl
 abbrev pub planned_jobs : List (List Component) → List Component → MirrorState → Option Part → ℕ → List Job
 planned_jobs publishers group m after most =
     map (job_at publishers group (mirror_holdings m)) (take most (filter (is_after after) (wanted (fetch_plan m))))
+
+-- The same of those wanted parts that pass a test.
+abbrev pub planned_jobs_that
+    : (Part → Bool) → List (List Component) → List Component → MirrorState → Option Part → ℕ → List Job
+planned_jobs_that test publishers group m after most =
+    map (job_at publishers group (mirror_holdings m))
+    (take most (filter test (filter (is_after after) (wanted (fetch_plan m)))))
 
 -- A job of the mirror: its part is wanted, its want is that of the part by the names of publishers and their group,
 -- what came was checked for it, and it was not tried too often. Under which key it was checked isn't asked.
@@ -54,10 +64,25 @@ PlannedJobsAreOutcomes = (publishers : List (List Component)) (group : List Comp
     → jobs ≡ planned_jobs publishers group m after most → WereTriedFor jobs parts attempts
     → IsMirrorOutcome m jobs parts attempts
 
+-- So it can whatever comes so of jobs of any wanted parts, in order.
+abbrev pub RisingJobsAreOutcomes : Type 0
+RisingJobsAreOutcomes = (publishers : List (List Component)) (group : List Component) (m : MirrorState)
+    (ts : List Part) (parts : List (Option CheckedPart)) (attempts : List ℕ) → Rises part_cmp ts
+    → All (λ t. is_wanted (fetch_plan m) t ≡ true) ts
+    → WereTriedFor (map (job_at publishers group (mirror_holdings m)) ts) parts attempts
+    → IsMirrorOutcome m (map (job_at publishers group (mirror_holdings m)) ts) parts attempts
+
 -- In a group whose names and keys are known, its jobs are those of who holds what it holds.
 abbrev pub MirrorsPlanJobs : Type 0
 MirrorsPlanJobs = (g : GroupKeys) (m : MirrorState) (after : Option Part) (most : ℕ)
     → planned_jobs g.members.names g.name m after most ≡ jobs_of g (mirror_holdings m) after most
+
+-- So are those of the wanted parts that pass a test.
+abbrev pub MirrorsPlanJobsThat : Type 0
+MirrorsPlanJobsThat = (test : Part → Bool) (g : GroupKeys) (m : MirrorState) (after : Option Part) (most : ℕ)
+    → planned_jobs_that test g.members.names g.name m after most
+    ≡ map (job_at g.members.names g.name (mirror_holdings m))
+    (take most (filter test (filter (is_after after) (unclaimed (held_plan (mirror_holdings m))))))
 
 -- What such a holder can take the mirror can.
 abbrev pub HolderOutcomesAreMirrors : Type 0

@@ -6,7 +6,7 @@ use Rattle.repo_plan.specs.Plan.{PlanState, no_claims}
 use Rattle.repo_holdings.specs.Records.{Packet}
 use Rattle.repo_holdings.specs.HoldingsState.{HoldingsState, held_plan}
 use Rattle.repo_watch.specs.declared.pattern.Pattern.{Pattern}
-use Rattle.mirror_model.specs.Asked.{asked_numbers}
+use Rattle.repo_mirror.specs.Asked.{asked_numbers}
 
 pub record MirrorState : Type 0 where
   pub pattern : Pattern

@@ -12,8 +12,8 @@ use Rattle.repo_holdings.specs.Listed.{alone_catalogue}
 use Rattle.repo_holdings.specs.Taking.{Fetched}
 use Rattle.group_model.specs.Publications.{Logs}
 use Rattle.group_model.specs.Sound.{IsTrueVector}
-use Rattle.mirror_model.specs.Mirrors.{Mirror, IsWantedByMirror, IsSoundMirror, mirror_plan, mirror_catalogue}
-use Rattle.mirror_model.specs.Mirrors.{mirror_holds}
+use Rattle.repo_mirror.specs.Mirrors.{Mirror, IsWantedByMirror, IsSoundMirror, mirror_plan, mirror_catalogue}
+use Rattle.repo_mirror.specs.Mirrors.{mirror_holds}
 use Rattle.repo_member.specs.Groups.{GroupKeys}
 use Rattle.repo_member.specs.InGroup.{AreLogs, StoresTruly, CameTruly, GrowInto, that_came}
 use Rattle.repo_member.specs.TrueHolders.{IsTrueHolder, alone_with}

@@ -1,11 +1,36 @@
-ghost use Rattle.repo_mirror.specs.MirrorOutcomes.{HolderOutcomesAreMirrors, MirrorsPlanJobs, PlannedJobsAreOutcomes};
+ghost use Rattle.repo_mirror.specs.MirrorOutcomes.{HolderOutcomesAreMirrors, MirrorsPlanJobs, MirrorsPlanJobsThat};
+ghost use Rattle.repo_mirror.specs.MirrorOutcomes.{PlannedJobsAreOutcomes, RisingJobsAreOutcomes};
 ghost use Rattle.repo_mirror.specs.TrueMirrors.{MirrorsPlanAlike, MirrorsWantAlike, MirrorsListAlike};
 ghost use Rattle.repo_mirror.specs.TrueMirrors.{MirrorsAreHolders};
 ghost use Rattle.repo_mirror.specs.TrueMirrors.{MirrorsBeginTrue, MirrorsLearnTrue, MirrorsGrowTrue, MirrorsTakeTrue};
+ghost use Rattle.repo_mirror.specs.KeptPackets.{AreKeptPackets};
+ghost use Rattle.repo_mirror.specs.WantedAlone.{WantsThose};
+ghost use Rattle.repo_mirror.specs.MirrorCalls.{InEveryMirror, ListsAccepted, PassedIsGone, StoredStays, PassedStays};
+ghost use Rattle.repo_mirror.specs.MirrorCalls.{KnowsTheJoin};
 
-/// Whatever comes of jobs that a mirror planned, if it was checked for them, is an outcome that the mirror takes.
+/// In every mirror that calls reach, it wants just the parts that a mirror with its pattern is to want, lists only
+/// objects that its pattern is for, and stores only packets that passed their checks and aren't records of other
+/// objects; and it stores nothing of a publication that it passed over.
+pub fn calls_keep_mirrors_sound()
+    ensures wants { InEveryMirror WantsThose }
+    ensures lists { InEveryMirror ListsAccepted }
+    ensures packets { InEveryMirror (λ m. AreKeptPackets m.pattern m.store) }
+    ensures gone { InEveryMirror PassedIsGone }
+{}
+
+/// Whatever is called, what a mirror stores stays stored, what it passed over stays passed over, and it knows the join
+/// of what it knew and of the vectors that it was told.
+pub fn calls_take_nothing_from_mirrors()
+    ensures stored { StoredStays }
+    ensures passed { PassedStays }
+    ensures known { KnowsTheJoin }
+{}
+
+/// Whatever comes of jobs that a mirror planned, or of those of any parts that it wants, in order, if it was checked
+/// for them, is an outcome that the mirror takes.
 pub fn planned_jobs_can_be_taken()
-    ensures { PlannedJobsAreOutcomes }
+    ensures planned { PlannedJobsAreOutcomes }
+    ensures rising { RisingJobsAreOutcomes }
 {}
 
 /// Where each stored packet is that of its part, what holds of whoever holds parts in its group holds of a mirror: its
@@ -13,6 +38,7 @@ pub fn planned_jobs_can_be_taken()
 pub fn mirrors_are_holders()
     ensures holders { MirrorsAreHolders }
     ensures jobs { MirrorsPlanJobs }
+    ensures passing { MirrorsPlanJobsThat }
     ensures outcomes { HolderOutcomesAreMirrors }
 {}
 

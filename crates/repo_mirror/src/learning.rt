@@ -2,7 +2,7 @@
 ghost use Rattle.std.specs.Prelude.{◌≡◌, ◌≤◌, length, if◌then◌else◌};
 ghost use Rattle.svs_vector.specs.Vectors.{join};
 ghost use Rattle.repo_watch.specs.Patterns.{is_publisher};
-ghost use Rattle.mirror_model.specs.Asked.{asked_numbers};
+ghost use Rattle.repo_mirror.specs.Asked.{asked_numbers};
 
 use repo_holdings::Holdings;
 use svs_vector::Vector;

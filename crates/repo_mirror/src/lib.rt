@@ -4,11 +4,17 @@
 //! What is promised of it: `docs/promises/repo_mirror.md`.
 #![tactic(auto)]
 
+mod group_laws;
 mod laws;
 mod learning;
 mod mirror;
 
+pub use group_laws::{
+    a_settled_mirror_joins, gathering_gains_those, mirrors_gain_what_comes, mirrors_learn_all,
+    mirrors_list_what_is_accepted, mirrors_want_those, settled_mirrors_hold_what_comes,
+};
 pub use laws::{
-    mirrors_are_holders, mirrors_are_the_groups, planned_jobs_can_be_taken, true_mirrors_stay_true,
+    calls_keep_mirrors_sound, calls_take_nothing_from_mirrors, mirrors_are_holders,
+    mirrors_are_the_groups, planned_jobs_can_be_taken, true_mirrors_stay_true,
 };
 pub use mirror::Mirror;

@@ -1,9 +1,14 @@
-ghost use Rattle.std.specs.Prelude.{◌≡◌, ◌≤◌, length, IfOk};
+ghost use Rattle.std.specs.Prelude.{◌≡◌, ◌≤◌, true, length, IfOk};
+ghost use Rattle.std.specs.List.{All};
 ghost use Rattle.svs_vector.specs.Vectors.{join};
+ghost use Rattle.repo_plan.specs.Leaps.{some_holds};
 ghost use Rattle.repo_holdings.specs.Listed.{alone_catalogue};
 ghost use Rattle.repo_holdings.specs.Wanting.{AreShortNames};
+ghost use Rattle.repo_mirror.specs.Mirrors.{is_entry_accepted};
+ghost use Rattle.repo_mirror.specs.KeptPackets.{AreKeptPackets};
 ghost use Rattle.repo_mirror.specs.MirrorState.{mirror_opening};
-ghost use Rattle.repo_mirror.specs.MirrorOutcomes.{planned_jobs};
+ghost use Rattle.repo_mirror.specs.MirrorOutcomes.{planned_jobs, planned_jobs_that};
+ghost use Rattle.repo_mirror.specs.WantedAlone.{WantsThose};
 
 mod outcome;
 
@@ -12,7 +17,7 @@ use ndn_name::Name;
 use repo_catalog::Catalogue;
 use repo_holdings::Holdings;
 use repo_object::Job;
-use repo_plan::Part;
+use repo_plan::{HasParts, Part};
 use repo_watch::Pattern;
 use std::alloc::{AllocError, Global};
 use std::marker::Model;
@@ -25,6 +30,7 @@ use svs_vector::{Roster, Vector};
 ///
 /// A call that is refused has changed nothing, want of memory included.
 pub struct Mirror {
+    alloc: Global,
     pattern: Pattern,
     vector: Vector,
     held: Holdings,
@@ -34,6 +40,7 @@ pub struct Mirror {
 impl Drop for Mirror {
     fn drop(self) {
         let Mirror {
+            alloc: _,
             pattern: _,
             vector: _,
             held: _,
@@ -61,6 +68,7 @@ impl Mirror {
         ensures { IfOk result (λ mirror. mirror ≡ mirror_opening pattern members) }
     {
         Ok(Mirror {
+            alloc,
             pattern,
             vector: Vector::new(alloc, members)?,
             held: Holdings::new(alloc, members)?,
@@ -98,6 +106,25 @@ impl Mirror {
         self.held.jobs(alloc, publishers, group, after, most)
     }
 
+    /// Such jobs of those parts that one of the others holds. Takes no look-up for a part that none of them holds.
+    pub fn plan_held<H: HasParts>(
+        &self,
+        alloc: Global,
+        publishers: &Roster,
+        group: &Name,
+        others: &[H],
+        after: Option<Part>,
+        most: usize,
+    ) -> Result<Vec<Job>, AllocError>
+        requires width { length publishers.now ≡ length self.now.known }
+        requires names { AreShortNames publishers.now group.now }
+        ensures { IfOk result (λ jobs. jobs.items
+            ≡ planned_jobs_that (some_holds H.has others.now) publishers.now group.now self.now after most) }
+    {
+        self.held
+            .held_jobs(alloc, publishers, group, others, after, most)
+    }
+
     /// The numbers that the mirror was told.
     pub fn vector(&self) -> &Vector
         ensures { result.now ≡ self.now.known }
@@ -107,8 +134,18 @@ impl Mirror {
 
     /// The objects that the mirror's pattern is for of which it holds every part, and no withdrawal.
     pub fn catalogue(&self) -> &Catalogue
-        ensures { result.now.entries ≡ alone_catalogue self.now.store }
+        ensures whole { result.now.entries ≡ alone_catalogue self.now.store }
+        ensures accepted { All (λ e. is_entry_accepted self.now.pattern e ≡ true) result.now.entries }
     {
         self.held.catalogue()
+    }
+
+    /// What holds of every mirror: each packet that it stores passed its checks and is none that it passes over, and it
+    /// wants just the parts that a mirror with its pattern is to want. Costs nothing, and is called for its clauses.
+    pub fn is_sound(&self)
+        ensures packets { AreKeptPackets self.now.pattern self.now.store }
+        ensures wants { WantsThose self.now }
+    {
+        self.held.is_sound();
     }
 }

@@ -7,13 +7,15 @@ ghost use Rattle.std.specs.List.Sorted.{IsSearchInRange, IsBinarySearchResult};
 ghost use Rattle.sorted_lists.specs.SortedList.{Rises, contains, insert_key};
 ghost use Rattle.repo_plan.specs.Parts.{Pair, pair_cmp, pair_of};
 ghost use Rattle.repo_plan.specs.Plan.{no_claims};
+ghost use Rattle.repo_object.specs.Verdict.{IsChecked};
 ghost use Rattle.repo_holdings.specs.Records.{Packet};
 ghost use Rattle.repo_holdings.specs.StoredParents.{lists_at};
 ghost use Rattle.repo_holdings.specs.Gaining.{told_in, IsArrival};
 ghost use Rattle.repo_holdings.specs.Hiding.{with_hidden};
 ghost use Rattle.repo_holdings.specs.HoldingsState.{held_plan};
 ghost use Rattle.repo_holdings.specs.Taking.{came, takes_too, AreTakable};
-ghost use Rattle.repo_member.specs.Outcomes.{job_limit, outcome_of};
+ghost use Rattle.repo_member.specs.Outcomes.{outcome_of};
+ghost use Rattle.repo_mirror.specs.KeptPackets.{CameChecked};
 ghost use Rattle.repo_mirror.specs.MirrorState.{fetch_plan};
 ghost use Rattle.repo_mirror.specs.Passing.{is_fetched_kept, that_are_kept, passed_over, mirror_takes, IsUnknownIn};
 ghost use Rattle.repo_mirror.specs.MirrorOutcomes.{IsMirrorOutcome};
@@ -34,53 +36,54 @@ struct Sorted {
 impl Mirror {
     /// Takes what came of a fetch that was planned: for each job its packet, if one came, and how often it was tried.
     /// The answer is how many parts came. Those are held from now on, but for the records of objects that the mirror's
-    /// pattern isn't for, which are passed over.
+    /// pattern isn't for, which are passed over. There is no memory for more jobs than a `u32` counts.
     pub fn take_outcome(
         &mut self,
-        alloc: Global,
         filter: &Filter,
         jobs: &[Job],
         parts: &[Option<Checked<'_>>],
         attempts: &[u32],
     ) -> Result<u32, AllocError>
         requires outcome { IsMirrorOutcome self.old jobs.now parts.now attempts.now }
-        requires few { length jobs.now ≤ job_limit }
         ensures ok { OnOk result (self.new ≡ mirror_takes (outcome_of jobs.now parts.now attempts.now) self.old) }
         ensures parts { IfOk result (λ came. came ≡ count_by is_some parts.now) }
         ensures err { OnErr result (self.new ≡ self.old) }
     {
-        let Sorted { kept, passed } = self.sorted(alloc, filter, jobs, parts, attempts)?;
+        let Ok(_) = u32::try_from(jobs.len()) else {
+            return Err(AllocError);
+        };
+        let Sorted { kept, passed } = self.sorted(filter, jobs, parts, attempts)?;
         take_sorted(&mut self.held, kept, &passed)?;
         Ok(number_that_came(parts))
     }
 
-    // What came of jobs, with copies of the packets, sorted into what is kept and what is passed over.
+    // What came of jobs, with their packets as they are kept, sorted into what is kept and what is passed over.
     fn sorted(
         &self,
-        alloc: Global,
         filter: &Filter,
         jobs: &[Job],
         parts: &[Option<Checked<'_>>],
         attempts: &[u32],
     ) -> Result<Sorted, AllocError>
         requires outcome { IsMirrorOutcome self.now jobs.now parts.now attempts.now }
-        requires few { length jobs.now ≤ job_limit }
+        requires few { length jobs.now < 2 ^ 32 }
         ensures kept { IfOk result (λ sorted. map came sorted.kept.items
             ≡ that_are_kept self.now.pattern (outcome_of jobs.now parts.now attempts.now)) }
         ensures passed { IfOk result (λ sorted. sorted.passed.items
             ≡ passed_over self.now.pattern (outcome_of jobs.now parts.now attempts.now)) }
+        ensures checked { IfOk result (λ sorted. All CameChecked (map came sorted.kept.items)) }
         ensures takable { IfOk result (λ sorted. AreTakable (fetch_plan self.now) self.now.store sorted.kept.items) }
-        ensures few { IfOk result (λ sorted. vec_len sorted.kept ≤ job_limit) }
+        ensures few { IfOk result (λ sorted. vec_len sorted.kept < 2 ^ 32) }
         ensures unknown { IfOk result (λ sorted. (pair : Pair) → contains pair_cmp sorted.passed.items pair ≡ true
             → IsUnknownIn (fetch_plan self.now) pair) }
         ensures others { IfOk result (λ sorted.
             All (λ x. contains pair_cmp sorted.passed.items (pair_of x.part) ≡ false) sorted.kept.items) }
     {
         self.held.is_sound();
-        let mut kept = Vec::with_capacity(alloc, jobs.len())?;
-        let mut passed = Vec::new(alloc);
+        let mut kept = Vec::with_capacity(self.alloc, jobs.len())?;
+        let mut passed = Vec::new(self.alloc);
         for ((job, checked), tries) in jobs.iter().zip(parts).zip(attempts) {
-            let tried = tried(alloc, job, checked.as_ref(), *tries)?;
+            let tried = tried(self.alloc, job, checked.as_ref(), *tries)?;
             if is_kept(filter, &self.pattern, &tried) {
                 kept.push(tried)?;
             } else {
@@ -94,13 +97,13 @@ impl Mirror {
 
 // How many packets came.
 fn number_that_came(parts: &[Option<Checked<'_>>]) -> u32
-    requires { length parts.now ≤ job_limit }
+    requires { length parts.now < 2 ^ 32 }
     ensures { result ≡ count_by is_some parts.now }
 {
     parts.iter().filter(|part| part.is_some()).count() as u32
 }
 
-// What came of a job, with a copy of its packet.
+// What came of a job, with its packet as it is kept.
 fn tried(
     alloc: Global,
     job: &Job,
@@ -116,17 +119,30 @@ fn tried(
         → job.now.want.lists ≡ lists_at packets job.now.want.part
         → IfSome tried.arrival (λ a. IsArrival packets tried.part a.packet a.told)) }
     ensures told { IfOk result (λ tried. IfSome tried.arrival (λ a. a.told ≡ told_in tried.part a.packet)) }
+    ensures checked { IfOk result (λ tried. CameChecked (came tried)) }
 {
-    let part = job.want.part();
     let arrival = match checked {
-        Some(checked) => Some(Arrival::new(alloc, part, checked.octets(), checked.digest())?),
+        Some(checked) => Some(arrived(alloc, checked)?),
         None => None,
     };
     Ok(Tried {
-        part,
+        part: job.want.part(),
         attempts,
         arrival,
     })
+}
+
+// The packet that was checked for the want of a part, as it comes for that part.
+fn arrived(alloc: Global, checked: &Checked<'_>) -> Result<Arrival, AllocError>
+    ensures octets { IfOk result (λ arrival. arrival.packet ≡ checked.now.octets) }
+    ensures told { IfOk result (λ arrival. arrival.told ≡ told_in checked.now.want.part arrival.packet) }
+    ensures passed { OnOk result (IsChecked checked.now) }
+    ensures arrival { IfOk result (λ arrival. (packets : List Packet)
+        → checked.now.want.lists ≡ lists_at packets checked.now.want.part
+        → IsArrival packets checked.now.want.part arrival.packet arrival.told) }
+{
+    let packet = checked.to_packet(alloc)?;
+    Arrival::new(alloc, checked.part(), packet)
 }
 
 // Whether what came is kept: all but the record of an object that the pattern isn't for.

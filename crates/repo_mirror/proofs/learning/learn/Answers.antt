@@ -4,7 +4,7 @@ use Rattle.svs_vector.specs.Vectors.{join}
 use Rattle.svs_vector.proofs.JoinLemmas.{join-[]}
 use Rattle.repo_holdings.specs.HoldingsState.{HoldingsState, knows_too}
 use Rattle.repo_watch.specs.Patterns.{is_publisher}
-use Rattle.mirror_model.specs.Asked.{asked_numbers}
+use Rattle.repo_mirror.specs.Asked.{asked_numbers}
 use Rattle.repo_mirror.proofs.AskedLemmas.{length-asked, asked_next}
 use Rattle.repo_mirror.proofs.learning.learn.Goals as goal
 

@@ -1,6 +1,6 @@
 use Rattle.std.proofs.Common.{◌≡◌, take, length}
 use Rattle.svs_vector.specs.Vectors.{join}
-use Rattle.mirror_model.specs.Asked.{asked_numbers}
+use Rattle.repo_mirror.specs.Asked.{asked_numbers}
 use Rattle.repo_mirror.proofs.learning.learn.Given as goal
 
 abbrev pub invariant-loop-member : goal.invariant-loop-member

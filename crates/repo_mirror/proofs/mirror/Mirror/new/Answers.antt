@@ -1,7 +1,9 @@
-use Rattle.std.proofs.Common.{◌≡◌, ◌∙◌, ℕ, length, sym, ap, arith}
+use Rattle.std.proofs.Common.{◌≡◌, ◌∙◌, ℕ, length, sym, ap, subst, arith}
 use Rattle.std.proofs.lemmas.List.{length-replicate}
+use Rattle.std.proofs.lemmas.List.Elements.{All-nil}
 use Rattle.repo_holdings.specs.HoldingsState.{HoldingsState}
-use Rattle.mirror_model.specs.Asked.{asked_numbers}
+use Rattle.repo_mirror.specs.Asked.{asked_numbers}
+use Rattle.repo_mirror.specs.KeptPackets.{IsKeptPacket, AreKeptPackets}
 use Rattle.repo_mirror.proofs.AskedLemmas.{asked_none}
 use Rattle.repo_mirror.proofs.mirror.Mirror.new.Goals as goal
 
@@ -18,4 +20,7 @@ invariant_of-result c =
           ap (λ (h : HoldingsState). h.known) held
           ∙ sym (ap (asked_numbers c.args.pattern.publisher 0) known ∙ asked_none c.args.pattern.publisher 0 n);
       claims = ap (λ (h : HoldingsState). h.claims) held;
+      packets =
+          subst (λ (h : HoldingsState). AreKeptPackets c.args.pattern h.store) (sym held)
+          (All-nil (IsKeptPacket c.args.pattern));
     }

@@ -4,8 +4,8 @@ use Rattle.std.specs.List.{All}
 use Rattle.std.specs.Slice.Iter.{iter_rest}
 use Rattle.std.specs.Iterator.Adapters.{zip_first, zip_second}
 use Rattle.std.proofs.lemmas.Bool.{true≢false, or_cases, false_from_ne_true}
-use Rattle.std.proofs.lemmas.List.{append-nil, length-append}
-use Rattle.std.proofs.lemmas.List.Elements.{All-push}
+use Rattle.std.proofs.lemmas.List.{append-nil, length-append, map-append}
+use Rattle.std.proofs.lemmas.List.Elements.{All-nil, All-push}
 use Rattle.std.specs.Ordering.{eq_by_cmp}
 use Rattle.sorted_lists.specs.SortedList.{Rises, contains, insert_key, insert_keys}
 use Rattle.sorted_lists.proofs.Sets.{contains_in, in_map, eq_same, contains-insert_key, rises_insert}
@@ -21,6 +21,7 @@ use Rattle.repo_holdings.specs.declared.holdings.taking.Tried.{Tried}
 use Rattle.repo_member.specs.Outcomes.{outcome_of}
 use Rattle.repo_member.proofs.OutcomeLemmas.{nothing_left, parts_came}
 use Rattle.repo_watch.specs.declared.pattern.Pattern.{Pattern}
+use Rattle.repo_mirror.specs.KeptPackets.{CameChecked}
 use Rattle.repo_mirror.specs.MirrorState.{MirrorState, fetch_plan}
 use Rattle.repo_mirror.specs.Passing.{is_fetched_kept, that_are_kept, not_kept, IsUnknownIn}
 use Rattle.repo_mirror.proofs.MirrorLemmas.{reading}
@@ -55,6 +56,7 @@ loop-job-init g c =
       kept = λ i. map came (nothing i) ++ that_are_kept pattern (outcome_of (jobs i) (parts i) (tries i));
       passed = λ i. insert_keys pair_cmp (not_kept pattern (outcome_of (jobs i) (parts i) (tries i))) (none i);
       in_order = subst (Rises pair_cmp) (sym none) tt;
+      checked = subst (λ (xs : List Tried). All CameChecked (map came xs)) (sym nothing) (All-nil CameChecked);
       can =
           λ k d low. absurd (let empty = ap (λ (xs : List Tried). length xs) nothing in omega (arith, low, empty));
       unknown =
@@ -98,6 +100,10 @@ loop-job-preserved-in-Continue-branch-3 g c =
           ∙ inv.kept;
       passed = passed_still m.pattern (fetched m job part n) _ _ first kept c.loop-job.passed.items ∙ inv.passed;
       in_order = inv.in_order;
+      checked =
+          subst (All CameChecked)
+          (sym (ap (map came) pushed ∙ map-append came c.loop-job.kept.items (one ∷ [])))
+          (All-push CameChecked (map came c.loop-job.kept.items) (came one) inv.checked told.checked);
       can =
           subst (All (CanBeTaken (fetch_plan m) m.store)) (sym pushed)
           (All-push (CanBeTaken (fetch_plan m) m.store) c.loop-job.kept.items one inv.can can);
@@ -154,6 +160,7 @@ loop-job-preserved-in_ok-put_in_order g c =
       in_order =
           subst (Rises pair_cmp) (sym more)
           (rises_insert exact_pairs.total (pair_of job.want.part) c.loop-job.passed.items inv.in_order);
+      checked = inv.checked;
       can = inv.can;
       unknown = λ pair h.
           elim (or_cases (eq_by_cmp pair_cmp pair (pair_of job.want.part))
@@ -195,6 +202,9 @@ returns-clause-passed g c =
     ap (λ (xs : List Fetched).
     insert_keys pair_cmp (not_kept c.args.self.now.pattern xs) c.loop-job.passed.items) (sym nothing)
     ∙ c.loop-job.invariant.passed
+
+pub returns-clause-checked : goal.returns-clause-checked
+returns-clause-checked g c = c.loop-job.invariant.checked
 
 pub returns-clause-takable : goal.returns-clause-takable
 returns-clause-takable g c =

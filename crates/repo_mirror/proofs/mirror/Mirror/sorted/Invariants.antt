@@ -6,6 +6,7 @@ use Rattle.sorted_lists.specs.SortedList.{Rises, contains, insert_keys}
 use Rattle.repo_plan.specs.Parts.{Pair, pair_cmp}
 use Rattle.repo_holdings.specs.Taking.{came, CanBeTaken}
 use Rattle.repo_member.specs.Outcomes.{outcome_of}
+use Rattle.repo_mirror.specs.KeptPackets.{CameChecked}
 use Rattle.repo_mirror.specs.MirrorState.{fetch_plan}
 use Rattle.repo_mirror.specs.Passing.{that_are_kept, not_kept, passed_over, IsUnknownIn}
 use Rattle.repo_mirror.specs.MirrorOutcomes.{AreFetchedFor}
@@ -22,6 +23,7 @@ invariant-loop-job g l =
       passed : insert_keys pair_cmp (not_kept pattern (outcome_of jobs parts attempts)) l.passed.items
           ≡ passed_over pattern (outcome_of l.jobs l.parts l.attempts);
       in_order : Rises pair_cmp l.passed.items;
+      checked : All CameChecked (map came l.kept.items);
       can : All (CanBeTaken (fetch_plan l.self) l.self.store) l.kept.items;
       unknown : (pair : Pair) → contains pair_cmp l.passed.items pair ≡ true → IsUnknownIn (fetch_plan l.self) pair;
       few : length l.kept.items + length jobs ≤ length l.jobs;

@@ -1,0 +1,17 @@
+use Rattle.std.proofs.Common.{sym, ◌∙◌, take}
+use Rattle.std.specs.List.{filter}
+use Rattle.repo_plan.specs.Plan.{is_after}
+use Rattle.repo_plan.specs.Leaps.{some_holds}
+use Rattle.repo_mirror.proofs.MirrorLemmas.{wide_as_vector, jobs_are}
+use Rattle.repo_mirror.proofs.mirror.Mirror.plan_held.Goals as goal
+
+pub held_jobs-requires-clause-width : goal.held_jobs-requires-clause-width
+held_jobs-requires-clause-width g c =
+    c.requires.width ∙ sym (wide_as_vector c.self.inside c.args.self.now c.self.invariant c.self.view_is)
+
+pub returns : goal.returns
+returns g c =
+    rw (← jobs_are c.args.publishers.now c.args.group.now
+    (λ ts. take c.args.most
+    (filter (some_holds g.H.HasParts.has c.args.others.now) (filter (is_after c.args.after) ts)))
+    c.self.inside c.args.self.now c.self.invariant c.self.view_is) c.held_jobs.ensures
