@@ -21,8 +21,8 @@ use Rattle.repo_member.specs.Alone.{Alone, alone_accepts}
 use Rattle.repo_member.specs.InGroup.{in_group, true_packet}
 use Rattle.repo_member.specs.TrueMembers.{IsTrueMember, true_want}
 use Rattle.repo_member.proofs.PublicLaws.{accepts_alike, accepts_true, true_stores}
-use Rattle.bench_world.specs.declared.event.StepFault.{StepFault}
-use Rattle.bench_world.specs.declared.event.StepFault.TheVariants as fault
+use Rattle.bench_world.specs.declared.event.EventFault.{EventFault}
+use Rattle.bench_world.specs.declared.event.EventFault.TheVariants as fault
 use Rattle.bench_world.specs.declared.answering.Fed.{Fed}
 use Rattle.bench_world.specs.Sizes.{size_of}
 use Rattle.bench_world.specs.Serving.{keyed, octets_as}
@@ -53,16 +53,16 @@ module _ (g : GroupKeys) (logs : Logs) where
       let same : kept ≡ Some (size_of g logs t) = cc in ap (λ (x : Option ℕ). is_some x) (sym same)
   passes_by (Some t) Another kept h = absurd cc
 
-  pub fault_by : (o : Option Part) (k : Came) (x : StepFault) → (x ≡ fault.NoMemory) ⊎ (answered g logs o k ≡ Err x)
+  pub fault_by : (o : Option Part) (k : Came) (x : EventFault) → (x ≡ fault.NoMemory) ⊎ (answered g logs o k ≡ Err x)
       → IsFaultOf (if_idle_or_foreign o k) x
   fault_by o k x h = elim h [
     | inl memory ↦ subst (IsFaultOf (if_idle_or_foreign o k)) (sym memory) tt
     | inr told ↦ go o k x told
   ] where
-    as_told : (r : Refusal) (y z : StepFault) → y ≡ z → IsFaultOf (Some r) z → IsFaultOf (Some r) y
+    as_told : (r : Refusal) (y z : EventFault) → y ≡ z → IsFaultOf (Some r) z → IsFaultOf (Some r) y
     as_told r y z e = subst (IsFaultOf (Some r)) (sym e)
 
-    go : (o : Option Part) (k : Came) (x : StepFault) → answered g logs o k ≡ Err x
+    go : (o : Option Part) (k : Came) (x : EventFault) → answered g logs o k ≡ Err x
         → IsFaultOf (if_idle_or_foreign o k) x
     go None k x h = let same : x ≡ fault.FetcherIdle = cc in as_told Refusal.FetcherIdle x fault.FetcherIdle same refl
     go (Some t) Nothing x h = absurd cc

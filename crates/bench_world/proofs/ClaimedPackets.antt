@@ -36,7 +36,7 @@ use Rattle.repo_member.proofs.PublicLaws.{true_stores, plans_alike, wants_publis
 use Rattle.repo_member.proofs.PublicLaws.{packets_pass}
 use Rattle.repo_object.specs.Verdict.{publisher_key}
 use Rattle.repo_member.specs.Outcomes.{IsCheckedFor}
-use Rattle.bench_world.specs.declared.event.StepFault.{StepFault}
+use Rattle.bench_world.specs.declared.event.EventFault.{EventFault}
 use Rattle.bench_world.specs.declared.answering.Fed.{Fed}
 use Rattle.bench_world.specs.declared.answering.Fed.TheVariants.{Kept}
 use Rattle.bench_world.specs.Sizes.{size_of}
@@ -249,5 +249,5 @@ module _ (g : GroupKeys) (logs : Logs) (a : Alone) (are : AreLogs g logs) (truly
       → answered g logs (Some t) (octets_as g logs t octets) ≡ Ok (Some (length octets))
   keeps_its octets same =
       ap (answered g logs (Some t)) (its_octets g logs t are (claim_published g logs a are truly f t claim) octets same)
-      ∙ ap (λ (n : ℕ). let r : Result (Option ℕ) StepFault = Ok (Some n) in r)
+      ∙ ap (λ (n : ℕ). let r : Result (Option ℕ) EventFault = Ok (Some n) in r)
       (its_size g logs t are (claim_published g logs a are truly f t claim) octets same)

@@ -18,7 +18,7 @@ use Rattle.repo_member.specs.Records.{Packet}
 use Rattle.repo_member.specs.Alone.{Alone, alone_plan}
 use Rattle.repo_member.specs.TrueMembers.{IsTrueMember, true_want, true_packets}
 use Rattle.repo_member.proofs.PublicLaws.{stores_those}
-use Rattle.bench_world.specs.declared.event.StepFault.{StepFault}
+use Rattle.bench_world.specs.declared.event.EventFault.{EventFault}
 use Rattle.bench_world.specs.declared.answering.Fed.{Fed}
 use Rattle.bench_world.specs.Worlds.{nobody, alone_at}
 use Rattle.bench_world.specs.Conditions.{CanAccept, CanGetAt}
@@ -93,15 +93,15 @@ module _ (g : GroupKeys) (logs : Logs) (f m : ℕ) (ms : List Alone) (can : CanG
         subst (λ (o : Option Part). IfOk r (λ fed. answered g logs o came ≡ Ok (kept_of octets fed))) (sym claim)
         (subst (λ (c : Came). IfOk r (λ fed. answered g logs (Some want.part) c ≡ Ok (kept_of octets fed))) same h)
 
-    pub refused_so : {T : Type 0} (r : Result T StepFault)
-        → IfErr r (λ fault. (fault ≡ StepFault.NoMemory) ⊎ (answered g logs (Some want.part) k ≡ Err fault))
-        → IfErr r (λ fault. (fault ≡ StepFault.NoMemory) ⊎ (answered g logs (claim_in ms m f) came ≡ Err fault))
+    pub refused_so : {T : Type 0} (r : Result T EventFault)
+        → IfErr r (λ fault. (fault ≡ EventFault.NoMemory) ⊎ (answered g logs (Some want.part) k ≡ Err fault))
+        → IfErr r (λ fault. (fault ≡ EventFault.NoMemory) ⊎ (answered g logs (claim_in ms m f) came ≡ Err fault))
     refused_so r h =
         subst
-        (λ (o : Option Part). IfErr r (λ fault. (fault ≡ StepFault.NoMemory) ⊎ (answered g logs o came ≡ Err fault)))
+        (λ (o : Option Part). IfErr r (λ fault. (fault ≡ EventFault.NoMemory) ⊎ (answered g logs o came ≡ Err fault)))
         (sym claim)
         (subst (λ (c : Came).
-        IfErr r (λ fault. (fault ≡ StepFault.NoMemory) ⊎ (answered g logs (Some want.part) c ≡ Err fault))) same h)
+        IfErr r (λ fault. (fault ≡ EventFault.NoMemory) ⊎ (answered g logs (Some want.part) c ≡ Err fault))) same h)
 
     module _ (mid new : List Alone) (x y : Alone) (x_is : x ≡ alone_at ms m) (mid_is : mid ≡ remove ms m)
         (new_is : new ≡ insert mid m y) where
@@ -117,22 +117,23 @@ module _ (g : GroupKeys) (logs : Logs) (f m : ℕ) (ms : List Alone) (can : CanG
       still_so r = on_err_weaker r (λ e. put_back nobody ms mid new m y can.there mid_is new_is (e ∙ x_is))
 
   -- It isn't refused for want of a claim.
-  pub busy_so : {T : Type 0} (k : Came) (r : Result T StepFault)
-      → IfErr r (λ fault. (fault ≡ StepFault.NoMemory) ⊎ (answered g logs (Some want.part) k ≡ Err fault))
-      → (r ≡ Err StepFault.FetcherIdle → claim_in ms m f ≡ None)
-      × (claim_in ms m f ≡ None → r ≡ Err StepFault.FetcherIdle)
+  pub busy_so : {T : Type 0} (k : Came) (r : Result T EventFault)
+      → IfErr r (λ fault. (fault ≡ EventFault.NoMemory) ⊎ (answered g logs (Some want.part) k ≡ Err fault))
+      → (r ≡ Err EventFault.FetcherIdle → claim_in ms m f ≡ None)
+      × (claim_in ms m f ≡ None → r ≡ Err EventFault.FetcherIdle)
   busy_so k r h = (
     λ e. absurd
         (go k (subst
-        (λ x. IfErr x (λ fault. (fault ≡ StepFault.NoMemory) ⊎ (answered g logs (Some want.part) k ≡ Err fault))) e h)),
+        (λ x. IfErr x (λ fault.
+        (fault ≡ EventFault.NoMemory) ⊎ (answered g logs (Some want.part) k ≡ Err fault))) e h)),
     λ none. absurd (claims (sym claim ∙ none)),
   ) where
     claims : Some want.part ≡ None → ⊥
     claims e = cc
 
     go : (k : Came)
-        → (StepFault.FetcherIdle ≡ StepFault.NoMemory)
-        ⊎ (answered g logs (Some want.part) k ≡ Err StepFault.FetcherIdle)
+        → (EventFault.FetcherIdle ≡ EventFault.NoMemory)
+        ⊎ (answered g logs (Some want.part) k ≡ Err EventFault.FetcherIdle)
         → ⊥
     go k (inl memory) = cc
     go Nothing (inr e) = cc
@@ -155,14 +156,14 @@ module _ (g : GroupKeys) (logs : Logs) (f m : ℕ) (ms : List Alone) (can : CanG
         go (Err x) e = tt
 
   -- They are foreign where they pass and aren't the publisher's.
-  pub foreign_so : {T : Type 0} (octets : List ℕ) (r : Result T StepFault)
+  pub foreign_so : {T : Type 0} (octets : List ℕ) (r : Result T EventFault)
       → IfErr r (λ fault.
-      (fault ≡ StepFault.NoMemory) ⊎ ((fault ≡ StepFault.Foreign) × (octets_as g logs want.part octets ≡ Another)))
-      → IfErr r (λ fault.
-      (fault ≡ StepFault.NoMemory) ⊎ (answered g logs (Some want.part) (octets_as g logs want.part octets) ≡ Err fault))
+      (fault ≡ EventFault.NoMemory) ⊎ ((fault ≡ EventFault.Foreign) × (octets_as g logs want.part octets ≡ Another)))
+      → IfErr r (λ fault. (fault ≡ EventFault.NoMemory)
+      ⊎ (answered g logs (Some want.part) (octets_as g logs want.part octets) ≡ Err fault))
   foreign_so octets r h = if_err r h (λ fault k. elim k [
     | inl memory ↦ inl memory
     | inr foreign ↦
         inr (ap (answered g logs (Some want.part)) foreign.1
-        ∙ ap (λ (e : StepFault). let a : Result (Option ℕ) StepFault = Err e in a) (sym foreign.0))
+        ∙ ap (λ (e : EventFault). let a : Result (Option ℕ) EventFault = Err e in a) (sym foreign.0))
   ])

@@ -16,7 +16,7 @@ use Rattle.repo_member.specs.Groups.{GroupKeys}
 use Rattle.bench_world.specs.declared.event.Event.{Event}
 use Rattle.bench_world.specs.declared.event.StepFault.{StepFault}
 use Rattle.bench_world.specs.EventValues.{EventValue, event_value, group_event}
-use Rattle.bench_world.specs.Steps.{IsReady, IsFaultOf}
+use Rattle.bench_world.specs.Steps.{IsReady, IsStepFaultOf}
 use Rattle.bench_world.specs.Runs.{event_values, group_events, StandsAsBefore, IsStopped, ListLawFrom}
 use Rattle.bench_world.specs.Worlds.{GroupState, world_of}
 
@@ -92,7 +92,7 @@ module _ (out : Outside) (g : GroupKeys) (begun : World) (events : List Event) w
     pub stopped_here : (out_ : Outside) (begun_ mid_ new_ : GroupState) (fault : StepFault) → out ≡ out_
         → world_of begun_ ≡ begun → begun_.keys ≡ g → world_of mid_ ≡ mid
         → mid_.steps ≡ begun_.steps + i → mid_.keys ≡ begun_.keys
-        → IsFaultOf (refusal out mid (group_event g (event_value item))) fault
+        → IsStepFaultOf (refusal out mid (group_event g (event_value item))) fault
         → StandsAsBefore (event_value item) mid_ new_
         → IsStopped out_ begun_ (event_values events) i fault new_
     stopped_here out_ begun_ mid_ new_ fault out_is begun_is keys_are mid_is steps_are keys_stay cause stands = record {
@@ -115,7 +115,7 @@ module _ (out : Outside) (g : GroupKeys) (begun : World) (events : List Event) w
           mid_is ∙ world ∙ ap (after_events out begun) (sym e)
           ∙ (λ j. after_events (out_is j) (sym begun_is j) (group_events begun_.keys (take i (event_values events))));
       stands = subst (λ (v : EventValue). StandsAsBefore v mid_ new_) (sym (at_place EventValue.Traffic)) stands;
-      because = subst (λ (r : Option Refusal). IsFaultOf r fault)
+      because = subst (λ (r : Option Refusal). IsStepFaultOf r fault)
           (λ j. refusal (out_is j) (sym mid_is j) (group_event (sym keys_are j) (sym (at_place EventValue.Traffic) j)))
           cause;
     }

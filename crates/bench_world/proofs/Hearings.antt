@@ -28,8 +28,8 @@ use Rattle.repo_member.specs.Alone.{Alone, alone_hears}
 use Rattle.repo_member.specs.InGroup.{in_group}
 use Rattle.repo_member.specs.TrueMembers.{IsTrueMember}
 use Rattle.repo_member.proofs.PublicLaws.{hears_true}
-use Rattle.bench_world.specs.declared.event.StepFault.{StepFault}
-use Rattle.bench_world.specs.declared.event.StepFault.TheVariants as fault
+use Rattle.bench_world.specs.declared.event.EventFault.{EventFault}
+use Rattle.bench_world.specs.declared.event.EventFault.TheVariants as fault
 use Rattle.bench_world.specs.Worlds.{GroupState, IsTrueState, IsTrueSync, in_groups, logs_around, sync_in, world_of}
 use Rattle.bench_world.specs.Worlds.{drawing}
 use Rattle.bench_world.specs.Readings.{read_as}
@@ -162,7 +162,8 @@ module _ (s : GroupState) (is : IsTrueState s) (m : ℕ) (there : m < length s.m
         cond b None (unless (has_sent (world_of s) (record { sender = sender; vector = v })) Refusal.Foreign)) few_told
 
     -- They are foreign where the signer didn't send the vector.
-    pub foreign_so : (x : StepFault) → (x ≡ fault.NoMemory) ⊎ ((x ≡ fault.Foreign) × (was_sent sender v s.sent ≡ false))
+    pub foreign_so : (x : EventFault)
+        → (x ≡ fault.NoMemory) ⊎ ((x ≡ fault.Foreign) × (was_sent sender v s.sent ≡ false))
         → IsFaultOf (if_unsent (world_of s) m (read_as r)) x
     foreign_so x h = elim h [
       | inl memory ↦ subst (IsFaultOf (if_unsent (world_of s) m (read_as r))) (sym memory) tt

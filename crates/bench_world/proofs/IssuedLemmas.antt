@@ -14,8 +14,8 @@ use Rattle.indexmap.specs.IndexSet.{insert_key}
 use Rattle.repo_command.specs.declared.command.Command.{Command}
 use Rattle.group_model.specs.World.{World}
 use Rattle.group_model.specs.Refusals.{Refusal, unless, if_unissued}
-use Rattle.bench_world.specs.declared.event.StepFault.{StepFault}
-use Rattle.bench_world.specs.declared.event.StepFault.TheVariants as fault
+use Rattle.bench_world.specs.declared.event.EventFault.{EventFault}
+use Rattle.bench_world.specs.declared.event.EventFault.TheVariants as fault
 use Rattle.bench_world.specs.declared.issued.IssuedCommand.{IssuedCommand}
 use Rattle.bench_world.specs.Commanding.{is_that, may_order}
 use Rattle.bench_world.specs.contracts.issued.IssuedCommandEq.TheImpl.Laws.{laws-law}
@@ -142,7 +142,7 @@ may_foreign w m (Ok order) e = ap (λ (b : Bool). unless b Refusal.Foreign) e
 may_foreign w m (Err code) e = absurd (true≢false e)
 
 -- What keeps an order from being carried out is want of memory, or that it is foreign.
-pub order_fault : (w : World) (m : ℕ) (r : Result (ℕ × Command) ℕ) (told : StepFault)
+pub order_fault : (w : World) (m : ℕ) (r : Result (ℕ × Command) ℕ) (told : EventFault)
     → (told ≡ fault.NoMemory) ⊎ ((told ≡ fault.Foreign) × (may_order w.issued m r ≡ false))
     → IsFaultOf (if_unissued w m r) told
 order_fault w m r told (inl memory) = subst (IsFaultOf (if_unissued w m r)) (sym memory) tt

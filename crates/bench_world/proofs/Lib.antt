@@ -3,6 +3,7 @@ mod EitherAnswer
 mod PacketSizes
 pub mod SetSums
 pub mod NextParts
+mod Lenders
 pub mod Attempts
 pub mod PhaseOutcomes
 pub mod OneByOne
@@ -40,6 +41,7 @@ pub mod EventRuns
 mod Orders
 mod IssuedLemmas
 mod Stepping
+mod Faults
 pub mod ClaimedPackets
 mod TakenOut
 mod ClaimsAmongOthers

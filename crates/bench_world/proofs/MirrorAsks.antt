@@ -16,8 +16,8 @@ use Rattle.repo_holdings.specs.Taking.{Fetched}
 use Rattle.group_model.specs.Member.{Member, with_each_tried}
 use Rattle.group_model.specs.World.{World, logs, someone_holds}
 use Rattle.group_model.proofs.Lists.{same_filter}
-use Rattle.mirror_model.specs.Asked.{is_kept}
-use Rattle.mirror_model.specs.Mirrors.{mirror_holds, IsWantedByMirror}
+use Rattle.repo_mirror.specs.Asked.{is_kept}
+use Rattle.repo_mirror.specs.Mirrors.{mirror_holds, IsWantedByMirror}
 use Rattle.repo_member.specs.Groups.{GroupKeys}
 use Rattle.repo_member.specs.Alone.{Alone}
 use Rattle.repo_member.specs.InGroup.{AreLogs, that_came}

@@ -11,8 +11,8 @@ use Rattle.repo_plan.proofs.Orders.{exact_parts}
 use Rattle.repo_holdings.specs.Hiding.{with_hidden}
 use Rattle.repo_holdings.specs.Taking.{Fetched, with_all_fetched}
 use Rattle.group_model.specs.Publications.{Logs}
-use Rattle.mirror_model.specs.Asked.{is_kept}
-use Rattle.mirror_model.specs.Mirrors.{mirror_holds, IsWantedByMirror}
+use Rattle.repo_mirror.specs.Asked.{is_kept}
+use Rattle.repo_mirror.specs.Mirrors.{mirror_holds, IsWantedByMirror}
 use Rattle.repo_member.specs.Groups.{GroupKeys}
 use Rattle.repo_member.specs.InGroup.{AreLogs, asked_for, that_came}
 use Rattle.repo_mirror.specs.MirrorState.{MirrorState}

@@ -16,10 +16,10 @@ use Rattle.group_model.specs.World.{World, logs, someone_holds}
 use Rattle.group_model.specs.Steps.{settled_vector}
 use Rattle.group_model.specs.Sound.{IsSoundGroup, IsTrueVector}
 use Rattle.group_model.specs.Laws.{NothingHidden}
-use Rattle.mirror_model.specs.Mirrors.{mirror_holds, IsWantedByMirror, IsSoundMirror}
-use Rattle.mirror_model.specs.MirrorLaws.{IsGathering, GainsThose, HasComeToRest, KnowsAll, learns_all}
-use Rattle.mirror_model.proofs.Settling.{exactly}
-use Rattle.mirror_model.proofs.Joins.{learn_all, joins}
+use Rattle.repo_mirror.specs.Mirrors.{mirror_holds, IsWantedByMirror, IsSoundMirror}
+use Rattle.repo_mirror.specs.MirrorLaws.{IsGathering, GainsThose, HasComeToRest, KnowsAll, learns_all}
+use Rattle.repo_mirror.proofs.Settling.{exactly}
+use Rattle.repo_mirror.proofs.Joins.{learn_all, joins}
 use Rattle.repo_member.specs.Groups.{GroupKeys}
 use Rattle.repo_member.specs.Alone.{Alone}
 use Rattle.repo_member.specs.InGroup.{AreLogs}

@@ -1,4 +1,4 @@
--- The parts of a phase, which come in order behind a place.
+-- The parts of a phase, which come in order after a place.
 use Rattle.std.proofs.Common.{◌≡◌, ◌⊎◌, inl, inr, ℕ, suc, zero, ◌≤◌, ◌<◌, Bool, true, false, List, [], ◌∷◌, length}
 use Rattle.std.proofs.Common.{get_or, take, Option, Some, None, refl, sym, ap, ◌∙◌, arith}
 use Rattle.std.specs.Prelude.{filter, slice_get}
@@ -13,12 +13,15 @@ use Rattle.repo_plan.specs.Parts.{part_cmp}
 use Rattle.repo_plan.specs.Plan.{is_unclaimed, unclaimed, is_after}
 use Rattle.repo_plan.proofs.Orders.{exact_parts}
 use Rattle.sorted_lists.proofs.Sets.{In, in_filter, contains_in, in_contains, rises_filter}
+use Rattle.sorted_lists.proofs.Members.{filter_whole}
 use Rattle.repo_plan.proofs.Known.{unclaimed_rises, contains-unclaimed}
 use Rattle.group_model.proofs.Lists.{from_filter, in_at, in_take}
 use Rattle.group_model.proofs.Tries.{rises_take, take_short}
 use Rattle.repo_holdings.specs.HoldingsState.{HoldingsState, held_plan}
-use Rattle.bench_world.specs.Gathering.{next_parts}
-use Rattle.bench_world.proofs.SetSums.{filter_fewer, take_covers}
+use Rattle.repo_member.specs.Alone.{Alone}
+use Rattle.bench_world.specs.Lending.{lends}
+use Rattle.bench_world.specs.Gathering.{next_parts, next_lent}
+use Rattle.bench_world.proofs.SetSums.{filter_fewer}
 
 -- ---- lists
 
@@ -49,61 +52,83 @@ from_slice_get (y ∷ ys) (suc k) x e = inr (from_slice_get ys k x e)
 
 -- ---- the next parts
 
+-- Parts that a phase asks for: in order, few, and each wanted and claimed by no fetcher.
+pub record AreAsked (h : HoldingsState) (ts : List Part) : Type 0 where
+  pub rise : Rises part_cmp ts
+  pub few : length ts ≤ 4096
+  pub unclaimed : (t : Part) → In t ts → is_unclaimed (held_plan h) t ≡ true
+
 module _ (h : HoldingsState) (after : Option Part) where
-  behind_rises : Rises part_cmp (filter (is_after after) (unclaimed (held_plan h)))
-  behind_rises =
+  -- The wanted and unclaimed parts after the place.
+  abbrev later_parts : List Part
+  later_parts = filter (is_after after) (unclaimed (held_plan h))
+
+  later_rise : Rises part_cmp later_parts
+  later_rise =
       rises_filter exact_parts.total (is_after after) (unclaimed (held_plan h)) (unclaimed_rises (held_plan h))
 
-  in_behind : (t : Part) → is_unclaimed (held_plan h) t ≡ true → is_after after t ≡ true
-      → In t (filter (is_after after) (unclaimed (held_plan h)))
-  in_behind t u later =
+  in_later : (t : Part) → is_unclaimed (held_plan h) t ≡ true → is_after after t ≡ true → In t later_parts
+  in_later t u later =
       in_filter (is_after after) (unclaimed (held_plan h)) t
       (in_contains exact_parts (unclaimed (held_plan h)) t (contains-unclaimed (held_plan h) t ∙ u)) later
 
+  from_later : (t : Part) → In t later_parts → (is_unclaimed (held_plan h) t ≡ true) × (is_after after t ≡ true)
+  from_later t i =
+      let r = from_filter (is_after after) (unclaimed (held_plan h)) t i in
+      (sym (contains-unclaimed (held_plan h) t) ∙ contains_in exact_parts (unclaimed (held_plan h)) t r.0, r.1)
+
+  -- ---- of a fetch
+
   pub next_rise : Rises part_cmp (next_parts after h)
-  next_rise = rises_take 4096 (filter (is_after after) (unclaimed (held_plan h))) behind_rises
+  next_rise = rises_take 4096 later_parts later_rise
 
   pub few_next : length (next_parts after h) ≤ 4096
-  few_next = take_short 4096 (filter (is_after after) (unclaimed (held_plan h)))
-
-  from_next : (t : Part) → In t (next_parts after h) → In t (unclaimed (held_plan h)) × (is_after after t ≡ true)
-  from_next t i =
-      from_filter (is_after after) (unclaimed (held_plan h)) t
-      (in_take 4096 (filter (is_after after) (unclaimed (held_plan h))) t i)
+  few_next = take_short 4096 later_parts
 
   pub next_unclaimed : (t : Part) → In t (next_parts after h) → is_unclaimed (held_plan h) t ≡ true
-  next_unclaimed t i =
-      sym (contains-unclaimed (held_plan h) t) ∙ contains_in exact_parts (unclaimed (held_plan h)) t (from_next t i).0
+  next_unclaimed t i = (from_later t (in_take 4096 later_parts t i)).0
 
-  pub next_after : (t : Part) → In t (next_parts after h) → is_after after t ≡ true
-  next_after t i = (from_next t i).1
+  pub next_asked : AreAsked h (next_parts after h)
+  next_asked = record { rise = next_rise; few = few_next; unclaimed = next_unclaimed }
 
-  -- An open part that doesn't come after the last of them is one of them, or was passed before.
-  pub next_covers : (place : Part) → contains part_cmp (next_parts after h) place ≡ true → (t : Part)
-      → is_unclaimed (held_plan h) t ≡ true → is_after (Some place) t ≡ false
-      → (is_after after t ≡ false) ⊎ In t (next_parts after h)
-  next_covers place at t u past = elim (cases_Bool (is_after after t)) [
-    | inl on ↦
-        elim (take_covers exact_parts 4096 (filter (is_after after) (unclaimed (held_plan h))) t behind_rises
-        (in_behind t u on)) [
-          | inl i ↦ inr i
-          | inr later ↦
-              absurd
-              (true≢false (sym (ap is_lt (later place (in_contains exact_parts (next_parts after h) place at))) ∙ past))
-        ]
-    | inr off ↦ inl off
-  ]
+  -- ---- of a settle
 
-  -- Where there is none, all were passed.
-  pub next_none : next_parts after h ≡ [] → (t : Part) → is_unclaimed (held_plan h) t ≡ true → is_after after t ≡ false
-  next_none e t u = elim (cases_Bool (is_after after t)) [
-    | inl on ↦
-        absurd
-        (take_some 4096 (filter (is_after after) (unclaimed (held_plan h))) (omega arith) e t (in_behind t u on))
-    | inr off ↦ off
-  ]
+  module _ (others : List Alone) where
+    abbrev lent_parts : List Part
+    lent_parts = filter (lends others) later_parts
 
--- A later place leaves fewer parts behind it.
+    from_lent : (t : Part) → In t (next_lent others after h) → In t later_parts × (lends others t ≡ true)
+    from_lent t i = from_filter (lends others) later_parts t (in_take 4096 lent_parts t i)
+
+    pub lent_asked : AreAsked h (next_lent others after h)
+    lent_asked = record {
+      rise = rises_take 4096 lent_parts (rises_filter exact_parts.total (lends others) later_parts later_rise);
+      few = take_short 4096 lent_parts;
+      unclaimed = λ t i. (from_later t (from_lent t i).0).0;
+    }
+
+    pub lent_later : (t : Part) → In t (next_lent others after h) → is_after after t ≡ true
+    lent_later t i = (from_later t (from_lent t i).0).1
+
+    pub all_lent : filter (lends others) (next_lent others after h) ≡ next_lent others after h
+    all_lent = filter_whole (lends others) (next_lent others after h) (λ t i. (from_lent t i).1)
+
+    -- Where there is none, each open part was passed, or nobody lends it.
+    pub lent_none : next_lent others after h ≡ [] → (t : Part) → is_unclaimed (held_plan h) t ≡ true
+        → (is_after after t ≡ false) ⊎ (lends others t ≡ false)
+    lent_none e t u = elim (cases_Bool (is_after after t)) [
+      | inl later ↦
+          elim (cases_Bool (lends others t)) [
+            | inl lent ↦
+                absurd
+                (take_some 4096 lent_parts (omega arith) e t
+                (in_filter (lends others) later_parts t (in_later t u later) lent))
+            | inr unlent ↦ inr unlent
+          ]
+      | inr passed ↦ inl passed
+    ]
+
+-- A later place leaves fewer parts after it.
 pub place_later : (after : Option Part) (place : Part) (parts : List Part) → In place parts
     → is_after after place ≡ true
     → length (filter (is_after (Some place)) parts) < length (filter (is_after after) parts)

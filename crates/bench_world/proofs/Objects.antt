@@ -31,7 +31,7 @@ use Rattle.repo_member.proofs.PublicLaws.{publishes_alike, true_stores, logs_gro
 use Rattle.repo_member.proofs.PublicLaws.{logs_have_grown}
 use Rattle.repo_mirror.specs.TrueMirrors.{IsTrueMirror}
 use Rattle.repo_mirror.proofs.PublicLaws.{mirrors_grow_true}
-use Rattle.bench_world.specs.declared.event.StepFault.TheVariants as fault
+use Rattle.bench_world.specs.declared.event.EventFault.TheVariants as fault
 use Rattle.bench_world.specs.Steps.{IsFaultOf}
 use Rattle.bench_world.specs.Withdrawing.{withdraw_fault}
 use Rattle.bench_world.specs.Worlds.{GroupState, IsTrueState, IsTrueSync, nobody, alone_at, in_groups, logs_around}

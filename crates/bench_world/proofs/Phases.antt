@@ -10,7 +10,7 @@ use Rattle.ndn_sign.specs.Ring.{NamedKey}
 use Rattle.repo_plan.specs.declared.part.Part.{Part}
 use Rattle.sorted_lists.specs.SortedList.{contains}
 use Rattle.repo_plan.specs.Parts.{part_cmp}
-use Rattle.repo_plan.specs.Plan.{is_wanted}
+use Rattle.repo_plan.specs.Plan.{is_wanted, is_unclaimed}
 use Rattle.repo_plan.proofs.Orders.{exact_parts}
 use Rattle.sorted_lists.proofs.Sets.{In, from_map, contains_in}
 use Rattle.repo_object.specs.declared.job.Job.{Job}
@@ -25,16 +25,16 @@ use Rattle.repo_holdings.specs.Taking.{Fetched}
 use Rattle.repo_holdings.specs.Wanting.{job_at}
 use Rattle.repo_member.specs.Alone.{Alone}
 use Rattle.repo_member.specs.InGroup.{AreLogs, true_packet, that_came}
-use Rattle.repo_member.specs.Outcomes.{jobs_of, outcome_of, octets_in, AreJobsOf, IsOutcomeOf}
+use Rattle.repo_member.specs.Outcomes.{outcome_of, octets_in, AreJobsOf, IsOutcomeOf}
 use Rattle.repo_member.specs.TrueHolders.{IsTrueHolder}
-use Rattle.repo_member.proofs.PublicLaws.{holders_want_published, holder_jobs_are_planned, holder_jobs_are_outcomes}
+use Rattle.repo_member.proofs.PublicLaws.{holders_want_published, rising_jobs_are_planned, holder_jobs_are_outcomes}
 use Rattle.bench_world.specs.Worlds.{AreTrueMembers}
 use Rattle.bench_world.specs.Truth.{TriedFew}
 use Rattle.bench_world.specs.Sizes.{size_of}
 use Rattle.bench_world.specs.Lending.{lent, lends, attempt_comes, lent_answer}
-use Rattle.bench_world.specs.Gathering.{next_parts, lent_one, lent_all}
+use Rattle.bench_world.specs.Gathering.{lent_one, lent_all}
 use Rattle.bench_world.specs.Fetching.{attempt_at, fetched_one, fetched_all}
-use Rattle.bench_world.proofs.NextParts.{few_next, next_unclaimed, from_slice_get}
+use Rattle.bench_world.proofs.NextParts.{AreAsked, all_from_in, from_slice_get}
 use Rattle.bench_world.proofs.PhaseOutcomes.{lends_true, were_tried, none_counted, first_lengths, counted, octets_sum}
 use Rattle.bench_world.proofs.PhaseOutcomes.{fetched_is, lent_is, came_lent, want_part}
 
@@ -58,31 +58,32 @@ pub record GatherComes (g : GroupKeys) (logs : Logs) (h : HoldingsState) (others
     (jobs : List Job) (values : List (Option CheckedPart)) (zeros : List ℕ) : Type 0 where
   pub outcome : IsOutcomeOf g h jobs values zeros
   pub is : outcome_of jobs values zeros ≡ lent_all others ts
-  pub parts : count_by is_some values ≡ length (filter (lends others) ts)
-  pub octets : sum_by octets_in values ≡ sum_by (size_of g logs) (filter (lends others) ts)
+  pub parts : count_by is_some values ≡ length ts
+  pub octets : sum_by octets_in values ≡ sum_by (size_of g logs) ts
 
 module _ (passes : ℕ → ℕ → ℕ → ℕ → ℕ → ℕ → Bool) (g : GroupKeys) (logs : Logs) (h : HoldingsState) (others : List Alone)
     (asker : ℕ) (loss : Option ℕ) (are : AreLogs g logs) (truly : IsTrueHolder g logs h)
     (all : AreTrueMembers g logs others)
-    (tried : TriedFew h) (after : Option Part) (jobs : List Job) (jobs_are : jobs ≡ jobs_of g h after 4096)
-    (ring : List NamedKey) (ring_is : ring ≡ g.members.ring) where
+    (tried : TriedFew h) (ts : List Part) (asks : AreAsked h ts) (jobs : List Job)
+    (jobs_are : jobs ≡ map (job_at g.members.names g.name h) ts) (ring : List NamedKey)
+    (ring_is : ring ≡ g.members.ring) where
   planned : AreJobsOf g h jobs
   planned =
       subst (AreJobsOf g h) (sym jobs_are)
-      (holder_jobs_are_planned g h after 4096 are.group.members (sym (truly.vector.width ∙ are.width)))
+      (rising_jobs_are_planned g h ts are.group.members (sym (truly.vector.width ∙ are.width)) asks.rise
+      (all_from_in (λ t. is_unclaimed (held_plan h) t ≡ true) ts asks.unclaimed))
 
-  wanted : (t : Part) → In t (next_parts after h) → is_wanted (held_plan h) t ≡ true
-  wanted t i = (and_parts (is_wanted (held_plan h) t) _ (next_unclaimed h after t i)).0
+  wanted : (t : Part) → In t ts → is_wanted (held_plan h) t ≡ true
+  wanted t i = (and_parts (is_wanted (held_plan h) t) _ (asks.unclaimed t i)).0
 
   pub few_jobs : length jobs ≤ 4096
   few_jobs =
-      let e : length jobs ≡ length (next_parts after h) =
-      ap length jobs_are ∙ length-map (next_parts after h) (job_at g.members.names g.name h) in
-      let b : length (next_parts after h) ≤ 4096 = few_next h after in
-      omega (arith, e, b)
+      let e : length jobs ≡ length ts = ap length jobs_are ∙ length-map ts (job_at g.members.names g.name h) in
+      let few = asks.few in
+      omega (arith, e, few)
 
-  pub count_jobs : length jobs ≡ length (next_parts after h)
-  count_jobs = ap length jobs_are ∙ length-map (next_parts after h) (job_at g.members.names g.name h)
+  pub count_jobs : length jobs ≡ length ts
+  count_jobs = ap length jobs_are ∙ length-map ts (job_at g.members.names g.name h)
 
   can_be_tried_here : (tries : ℕ) → tries ≤ 16 → All (CanBeTried (length g.members.ring) tries) jobs
   can_be_tried_here tries few k d l =
@@ -95,18 +96,18 @@ module _ (passes : ℕ → ℕ → ℕ → ℕ → ℕ → ℕ → Bool) (g : Gr
       subst (λ (r : List NamedKey). All (CanBeTried (length r) tries) jobs) (sym ring_is) (can_be_tried_here tries few)
 
   pub planned_place : (job : Job) (k : ℕ) → slice_get jobs k ≡ Some job
-      → contains part_cmp (next_parts after h) job.want.part ≡ true
+      → contains part_cmp ts job.want.part ≡ true
   planned_place job k at =
-      let among : In job (map (job_at g.members.names g.name h) (next_parts after h)) =
-      from_slice_get (map (job_at g.members.names g.name h) (next_parts after h)) k job
+      let among : In job (map (job_at g.members.names g.name h) ts) =
+      from_slice_get (map (job_at g.members.names g.name h) ts) k job
       (ap (λ (js : List Job). slice_get js k) (sym jobs_are) ∙ at) in
-      let r : (t : Part) × (In t (next_parts after h)) × (job ≡ job_at g.members.names g.name h t) =
-      from_map (job_at g.members.names g.name h) (next_parts after h) job among in
-      ap (contains part_cmp (next_parts after h)) (ap (λ (j : Job). j.want.part) r.2 ∙ want_part g h r.0)
-      ∙ contains_in exact_parts (next_parts after h) r.0 r.1
+      let r : (t : Part) × (In t ts) × (job ≡ job_at g.members.names g.name h t) =
+      from_map (job_at g.members.names g.name h) ts job among in
+      ap (contains part_cmp ts) (ap (λ (j : Job). j.want.part) r.2 ∙ want_part g h r.0)
+      ∙ contains_in exact_parts ts r.0 r.1
 
   -- A wanted part has the size of what is lent of it.
-  size_lent : (t : Part) (octets : List ℕ) → In t (next_parts after h) → lent others t ≡ Some octets
+  size_lent : (t : Part) (octets : List ℕ) → In t ts → lent others t ≡ Some octets
       → size_of g logs t ≡ length octets
   size_lent t octets i e =
       let there : contains part_cmp (all_parts logs) t ≡ true =
@@ -115,9 +116,9 @@ module _ (passes : ℕ → ℕ → ℕ → ℕ → ℕ → ℕ → Bool) (g : Gr
       ap (λ (b : Bool). cond b (length (unwrap_or (true_packet g logs t) [])) 0) there
       ∙ ap (λ (o : Option (List ℕ)). length (unwrap_or o [])) (lends_true g logs others all t octets e)
 
-  module _ (tries : ℕ) (few : tries ≤ 16) (asked : List Job) (asked_are : asked ≡ jobs_of g h after 4096)
-      (parts values : List (Option CheckedPart)) (values_are : values ≡ parts) (ns counts : List ℕ)
-      (counts_are : counts ≡ ns)
+  module _ (tries : ℕ) (few : tries ≤ 16) (asked : List Job)
+      (asked_are : asked ≡ map (job_at g.members.names g.name h) ts) (parts values : List (Option CheckedPart))
+      (values_are : values ≡ parts) (ns counts : List ℕ) (counts_are : counts ≡ ns)
       (first : AreFirst (lent_answer passes others asker loss) ring tries asked parts ns) where
     first_here : AreFirst (lent_answer passes others asker loss) g.members.ring tries jobs values counts
     first_here =
@@ -131,7 +132,7 @@ module _ (passes : ℕ → ℕ → ℕ → ℕ → ℕ → ℕ → Bool) (g : Gr
         first)))
 
     first_planned : AreFirst (lent_answer passes others asker loss) g.members.ring tries
-        (map (job_at g.members.names g.name h) (next_parts after h)) values counts
+        (map (job_at g.members.names g.name h) ts) values counts
     first_planned =
         subst (λ (js : List Job). AreFirst (lent_answer passes others asker loss) g.members.ring tries js values counts)
         jobs_are first_here
@@ -151,14 +152,14 @@ module _ (passes : ℕ → ℕ → ℕ → ℕ → ℕ → ℕ → Bool) (g : Gr
         first_here)
 
     fetch_is : outcome_of jobs values counts
-        ≡ fetched_all (attempt_comes passes asker loss) others tries h (next_parts after h)
+        ≡ fetched_all (attempt_comes passes asker loss) others tries h ts
     fetch_is =
         ap (λ (js : List Job). outcome_of js values counts) jobs_are
-        ∙ fetched_is passes g logs h others asker loss are truly all tries (next_parts after h) wanted values counts
+        ∙ fetched_is passes g logs h others asker loss are truly all tries ts wanted values counts
         first_planned
 
     fetch_parts : count_by is_some values
-        ≡ length (that_came (fetched_all (attempt_comes passes asker loss) others tries h (next_parts after h)))
+        ≡ length (that_came (fetched_all (attempt_comes passes asker loss) others tries h ts))
     fetch_parts =
         sym (length-filter is_some values)
         ∙ counted jobs values counts count_parts count_attempts
@@ -166,11 +167,11 @@ module _ (passes : ℕ → ℕ → ℕ → ℕ → ℕ → ℕ → Bool) (g : Gr
 
     fetch_octets : sum_by octets_in values
         ≡ sum_by (size_of g logs)
-        (that_came (fetched_all (attempt_comes passes asker loss) others tries h (next_parts after h)))
+        (that_came (fetched_all (attempt_comes passes asker loss) others tries h ts))
     fetch_octets =
         octets_sum (size_of g logs) jobs values counts count_parts count_attempts (λ x octets i e.
         let r =
-        from_map (fetched_one (attempt_comes passes asker loss) others tries h) (next_parts after h) x
+        from_map (fetched_one (attempt_comes passes asker loss) others tries h) ts x
         (subst (In x) fetch_is i) in
         ap (size_of g logs) (ap (λ (y : Fetched). y.part) r.2)
         ∙ size_lent r.0 octets r.1
@@ -180,7 +181,7 @@ module _ (passes : ℕ → ℕ → ℕ → ℕ → ℕ → ℕ → Bool) (g : Gr
 
     fetch_attempts : counts
         ≡ map (λ (x : Fetched). x.attempts)
-        (fetched_all (attempt_comes passes asker loss) others tries h (next_parts after h))
+        (fetched_all (attempt_comes passes asker loss) others tries h ts)
     fetch_attempts =
         attempts_in jobs values counts count_parts count_attempts
         ∙ ap (map (λ (x : Fetched). x.attempts)) fetch_is where
@@ -195,7 +196,7 @@ module _ (passes : ℕ → ℕ → ℕ → ℕ → ℕ → ℕ → Bool) (g : Gr
               ap (λ (xs : List ℕ). c ∷ xs) (attempts_in js ps cs (omega (arith, e)) (omega (arith, f)))
 
     pub fetch_comes : FetchComes g logs h
-        (fetched_all (attempt_comes passes asker loss) others tries h (next_parts after h)) jobs values counts
+        (fetched_all (attempt_comes passes asker loss) others tries h ts) jobs values counts
     fetch_comes = record {
       outcome = fetch_outcome;
       is = fetch_is;
@@ -207,8 +208,9 @@ module _ (passes : ℕ → ℕ → ℕ → ℕ → ℕ → ℕ → Bool) (g : Gr
 
   -- ---- a phase of a settle
 
-  module _ (none : loss ≡ None) (asked : List Job) (asked_are : asked ≡ jobs_of g h after 4096)
-      (parts values : List (Option CheckedPart)) (values_are : values ≡ parts) (ns : List ℕ)
+  module _ (none : loss ≡ None) (all_come : filter (lends others) ts ≡ ts) (asked : List Job)
+      (asked_are : asked ≡ map (job_at g.members.names g.name h) ts) (parts values : List (Option CheckedPart))
+      (values_are : values ≡ parts) (ns : List ℕ)
       (first : AreFirst (lent_answer passes others asker loss) ring 1 asked parts ns) (zeros : List ℕ)
       (zeros_are : zeros ≡ replicate (length jobs) 0) where
     count_zeros : length zeros ≡ length jobs
@@ -221,31 +223,31 @@ module _ (passes : ℕ → ℕ → ℕ → ℕ → ℕ → ℕ → Bool) (g : Gr
         (none_counted (lent_answer passes others asker loss) g 1 jobs values ns (can_be_tried_here 1 (omega arith))
         (first_here 1 (omega arith) asked asked_are parts values values_are ns ns refl first)))
 
-    gather_is : outcome_of jobs values zeros ≡ lent_all others (next_parts after h)
+    gather_is : outcome_of jobs values zeros ≡ lent_all others ts
     gather_is =
         ap (outcome_of jobs values) zeros_are
         ∙ ap (λ (js : List Job). outcome_of js values (replicate (length js) 0)) jobs_are
-        ∙ lent_is passes g logs h others asker loss are truly all none (next_parts after h) wanted values ns
+        ∙ lent_is passes g logs h others asker loss are truly all none ts wanted values ns
         (first_planned 1 (omega arith) asked asked_are parts values values_are ns ns refl first)
 
-    gather_parts : count_by is_some values ≡ length (filter (lends others) (next_parts after h))
+    gather_parts : count_by is_some values ≡ length ts
     gather_parts =
         sym (length-filter is_some values)
         ∙ counted jobs values zeros
         (count_parts 1 (omega arith) asked asked_are parts values values_are ns ns refl first) count_zeros
         ∙ ap (λ (xs : List Fetched). length (that_came xs)) gather_is
-        ∙ ap length (came_lent others (next_parts after h))
+        ∙ ap length (came_lent others ts ∙ all_come)
 
-    gather_octets : sum_by octets_in values ≡ sum_by (size_of g logs) (filter (lends others) (next_parts after h))
+    gather_octets : sum_by octets_in values ≡ sum_by (size_of g logs) ts
     gather_octets =
         octets_sum (size_of g logs) jobs values zeros
         (count_parts 1 (omega arith) asked asked_are parts values values_are ns ns refl first) count_zeros
         (λ x octets i e.
-        let r = from_map (lent_one others) (next_parts after h) x (subst (In x) gather_is i) in
+        let r = from_map (lent_one others) ts x (subst (In x) gather_is i) in
         ap (size_of g logs) (ap (λ (y : Fetched). y.part) r.2)
         ∙ size_lent r.0 octets r.1 (sym (ap (λ (y : Fetched). y.packet) r.2) ∙ e))
         ∙ ap (λ (xs : List Fetched). sum_by (size_of g logs) (that_came xs)) gather_is
-        ∙ ap (sum_by (size_of g logs)) (came_lent others (next_parts after h))
+        ∙ ap (sum_by (size_of g logs)) (came_lent others ts ∙ all_come)
 
-    pub gather_comes : GatherComes g logs h others (next_parts after h) jobs values zeros
+    pub gather_comes : GatherComes g logs h others ts jobs values zeros
     gather_comes = record { outcome = gather_outcome; is = gather_is; parts = gather_parts; octets = gather_octets }

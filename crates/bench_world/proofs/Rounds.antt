@@ -29,12 +29,12 @@ use Rattle.bench_world.specs.Sizes.{size_of}
 use Rattle.bench_world.specs.Truth.{TriedFew}
 use Rattle.bench_world.specs.Lending.{lent, lends}
 use Rattle.bench_world.specs.Holders.{HolderWords, AreHolders, CameForHolder, CameToNothing, has}
-use Rattle.bench_world.specs.Gathering.{next_parts, lent_one, lent_all, one_each, held_sum, Counts, IsPlaceIn}
+use Rattle.bench_world.specs.Gathering.{next_lent, lent_one, lent_all, one_each, held_sum, Counts, IsPlaceIn}
 use Rattle.bench_world.specs.Gathering.{GainsParts, NothingLeft, RoundSoFar}
 use Rattle.bench_world.proofs.PacketSizes.{size_short}
 use Rattle.bench_world.proofs.SetSums.{sum_insert_keys, ones}
-use Rattle.bench_world.proofs.NextParts.{all_from_in, none_pass, next_rise, next_unclaimed, next_after, next_covers}
-use Rattle.bench_world.proofs.NextParts.{next_none, place_later}
+use Rattle.bench_world.proofs.NextParts.{all_from_in, in_some, none_pass, AreAsked, lent_asked, lent_later, all_lent}
+use Rattle.bench_world.proofs.NextParts.{lent_none, place_later}
 use Rattle.bench_world.proofs.PhaseOutcomes.{lends_true, came_lent}
 
 module _ {H : Type 0} (words : HolderWords H) (holders : AreHolders words) where
@@ -181,25 +181,27 @@ module _ {H : Type 0} (words : HolderWords H) (holders : AreHolders words) where
 
     module _ (after : Option Part) (kept : ℕ) (old mid : H) (so_far : RoundSoFar words g logs others after kept old mid)
         (new : H) (came : ℕ)
-        (new_is : new ≡ words.takes (lent_all others (next_parts after (words.holdings mid))) mid)
-        (came_is : came ≡ length (filter (lends others) (next_parts after (words.holdings mid)))) where
+        (new_is : new ≡ words.takes (lent_all others (next_lent others after (words.holdings mid))) mid)
+        (came_is : came ≡ length (next_lent others after (words.holdings mid))) where
       abbrev asked : List Part
-      asked = next_parts after (words.holdings mid)
+      asked = next_lent others after (words.holdings mid)
 
-      all_open : (t : Part) → In t asked → is_unclaimed (held_plan (words.holdings mid)) t ≡ true
-      all_open = next_unclaimed (words.holdings mid) after
+      asks : AreAsked (words.holdings mid) asked
+      asks = lent_asked (words.holdings mid) after others
+
+      all_come : filter (lends others) asked ≡ asked
+      all_come = all_lent (words.holdings mid) after others
 
       phase : GainsParts words g logs others mid new
       phase =
           subst (GainsParts words g logs others mid) (sym new_is)
-          (phase_gains mid so_far.gains.truly asked all_open)
+          (phase_gains mid so_far.gains.truly asked asks.unclaimed)
 
-      pub went_counts : (weight : Part → ℕ) (n : ℕ) → n ≡ sum_by weight (filter (lends others) asked)
-          → Counts words weight n mid new
+      pub went_counts : (weight : Part → ℕ) (n : ℕ) → n ≡ sum_by weight asked → Counts words weight n mid new
       went_counts weight n e =
-          ap (λ (k : ℕ). k + held_sum words weight mid) e
+          ap (λ (k : ℕ). k + held_sum words weight mid) (e ∙ ap (sum_by weight) (sym all_come))
           ∙ subst (Counts words weight (sum_by weight (filter (lends others) asked)) mid) (sym new_is)
-          (phase_counts mid so_far.gains.truly asked all_open weight (next_rise (words.holdings mid) after))
+          (phase_counts mid so_far.gains.truly asked asks.unclaimed weight asks.rise)
 
       pub went_gains : GainsParts words g logs others old new
       went_gains = gains_both old mid new so_far.gains phase
@@ -207,12 +209,13 @@ module _ {H : Type 0} (words : HolderWords H) (holders : AreHolders words) where
       pub went_count : Counts words one_each (kept + came) old new
       went_count =
           counts_both one_each kept came old mid new so_far.count
-          (went_counts one_each came (came_is ∙ sym (ones (filter (lends others) asked))))
+          (went_counts one_each came (came_is ∙ sym (ones asked)))
 
       stays : kept + came ≡ 0 → new ≡ mid
       stays e =
+          let came_all = ap length all_come in
           new_is
-          ∙ phase_nothing mid so_far.gains.truly asked all_open (omega (arith, e, came_is))
+          ∙ phase_nothing mid so_far.gains.truly asked asks.unclaimed (omega (arith, e, came_is, came_all))
 
       still_open : kept + came ≡ 0 → (t : Part) → is_unclaimed (held_plan (words.holdings new)) t ≡ true
           → is_unclaimed (held_plan (words.holdings mid)) t ≡ true
@@ -223,18 +226,19 @@ module _ {H : Type 0} (words : HolderWords H) (holders : AreHolders words) where
       went_on place o is at = record {
         gains = went_gains;
         count = went_count;
-        still = λ e t u past. elim
-            (next_covers (words.holdings mid) after place (subst (IsPlaceIn asked) is at) t (still_open e t u) past) [
-              | inl before ↦ so_far.still (omega (arith, e)) t (still_open e t u) before
-              | inr i ↦ none_pass (lends others) asked (omega (arith, e, came_is)) t i
-            ];
+        still = λ e t u past.
+            let some : 0 < length asked =
+            in_some asked place (in_contains exact_parts asked place (subst (IsPlaceIn asked) is at)) in
+            absurd (omega (arith, e, came_is, some));
       }
 
       pub went_left : (o : Option Part) → o ≡ None → IsPlaceIn asked o → kept + came ≡ 0
           → NothingLeft words others new
-      went_left o is at none t u =
-          so_far.still (omega (arith, none)) t (still_open none t u)
-          (next_none (words.holdings mid) after (subst (IsPlaceIn asked) is at) t (still_open none t u))
+      went_left o is at none t u = elim
+          (lent_none (words.holdings mid) after others (subst (IsPlaceIn asked) is at) t (still_open none t u)) [
+            | inl passed ↦ so_far.still (omega (arith, none)) t (still_open none t u) passed
+            | inr unlent ↦ unlent
+          ]
 
       pub went_smaller : (place : Part) (o : Option Part) → o ≡ Some place → IsPlaceIn asked o
           → length (filter (is_after (Some place)) (all_parts logs)) < length (filter (is_after after) (all_parts logs))
@@ -242,5 +246,5 @@ module _ {H : Type 0} (words : HolderWords H) (holders : AreHolders words) where
           let there : In place asked =
           in_contains exact_parts asked place (subst (IsPlaceIn asked) is at) in
           place_later after place (all_parts logs)
-          (open_is g logs are mid so_far.gains.truly place (all_open place there))
-          (next_after (words.holdings mid) after place there)
+          (open_is g logs are mid so_far.gains.truly place (asks.unclaimed place there))
+          (lent_later (words.holdings mid) after others place there)

@@ -1,6 +1,6 @@
--- Sums over sets in order, and how long their fronts and filters are.
-use Rattle.std.proofs.Common.{◌≡◌, ◌⊎◌, inl, inr, ℕ, suc, zero, ◌+◌, ◌≤◌, ◌<◌, Bool, true, false, cond, ◌||◌, List, []}
-use Rattle.std.proofs.Common.{◌∷◌, length, take, refl, sym, ap, ◌∙◌, subst, arith}
+-- Sums over sets in order, and how long their filters are.
+use Rattle.std.proofs.Common.{◌≡◌, ◌⊎◌, inl, inr, ℕ, ◌+◌, ◌≤◌, ◌<◌, Bool, true, false, cond, ◌||◌, List, [], ◌∷◌}
+use Rattle.std.proofs.Common.{length, refl, sym, ap, ◌∙◌, arith}
 use Rattle.std.proofs.lemmas.Bool.{true≢false}
 use Rattle.std.specs.Prelude.{filter, sum_by}
 use Rattle.std.proofs.lemmas.List.Sums.{sum_by-cons}
@@ -33,21 +33,6 @@ module _ {K : Type 0} {R : K → K → Ordering} (e : Exact R) where
         sum_by-cons f x (insert_key R k xs) in
         let b : sum_by f (x ∷ xs) ≡ f x + sum_by f xs = sum_by-cons f x xs in
         omega (arith, r, a, b)
-
-  -- Elements behind a front of a list in order come after each of the front.
-  pub take_covers : (n : ℕ) (xs : List K) (t : K) → Rises R xs → In t xs
-      → In t (take n xs) ⊎ ((u : K) → In u (take n xs) → R u t ≡ Less)
-  take_covers zero xs t r i = inr (λ u j. absurd j)
-  take_covers (suc n) [] t r i = absurd i
-  take_covers (suc n) (x ∷ xs) t r (inl same) = inl (inl same)
-  take_covers (suc n) (x ∷ xs) t r (inr i) = elim (take_covers n xs t r.1 i) [
-    | inl j ↦ inl (inr j)
-    | inr f ↦
-        inr (λ u j. elim j [
-          | inl same ↦ subst (λ (y : K). R y t ≡ Less) (sym same) (each_before e.total x xs r.0 t i)
-          | inr k ↦ f u k
-        ])
-  ]
 
 -- A sharper test passes fewer, where it refuses one that the other passes.
 module _ {A : Type 0} (p q : A → Bool) (sharper : (y : A) → q y ≡ true → p y ≡ true) where

@@ -13,8 +13,8 @@ use Rattle.repo_member.specs.Groups.{GroupKeys}
 use Rattle.repo_member.specs.Alone.{Alone, alone_plan, alone_accepts}
 use Rattle.repo_member.specs.InGroup.{true_packet}
 use Rattle.repo_member.specs.TrueMembers.{true_want}
-use Rattle.bench_world.specs.declared.event.StepFault.{StepFault}
-use Rattle.bench_world.specs.declared.event.StepFault.TheVariants.{FetcherIdle, Foreign}
+use Rattle.bench_world.specs.declared.event.EventFault.{EventFault}
+use Rattle.bench_world.specs.declared.event.EventFault.TheVariants.{FetcherIdle, Foreign}
 use Rattle.bench_world.specs.declared.answering.Fed.{Fed}
 use Rattle.bench_world.specs.declared.answering.Fed.TheVariants.{Kept}
 use Rattle.bench_world.specs.Sizes.{size_of}
@@ -45,7 +45,7 @@ lender_of asker (Some other) = other
 -- ---- what is told
 
 -- The octets that are kept, or none, or why it is refused: a fetcher that claims nothing has number 7.
-abbrev pub answered : GroupKeys → Logs → Option Part → Came → Result (Option ℕ) StepFault
+abbrev pub answered : GroupKeys → Logs → Option Part → Came → Result (Option ℕ) EventFault
 answered g logs None came = Err FetcherIdle
 answered g logs (Some t) Nothing = Ok None
 answered g logs (Some t) Its = Ok (Some (size_of g logs t))

@@ -12,9 +12,13 @@ use Rattle.repo_member.specs.Alone.{Alone}
 use Rattle.bench_world.specs.Lending.{lent, lends}
 use Rattle.bench_world.specs.Holders.{HolderWords, has}
 
--- The parts of the next phase: the least 4,096 that are wanted and unclaimed, behind a place.
+-- The parts of the next phase of a fetch: the least 4,096 that are wanted and unclaimed, after a place.
 abbrev pub next_parts : Option Part → HoldingsState → List Part
 next_parts after h = take 4096 (filter (is_after after) (unclaimed (held_plan h)))
+
+-- The parts of the next phase of a settle: the least 4,096 of such parts that others lend.
+abbrev pub next_lent : List Alone → Option Part → HoldingsState → List Part
+next_lent others after h = take 4096 (filter (lends others) (filter (is_after after) (unclaimed (held_plan h))))
 
 -- What a phase brings for a part in a settle, in which no attempt is counted.
 abbrev pub lent_one : List Alone → Part → Fetched

@@ -1,18 +1,22 @@
 -- Whoever holds parts in a group and fetches more of them: the words in which contracts speak of it, and what holds
 -- whatever it is.
-use Rattle.std.specs.Prelude.{◌≡◌, Bool, true, false, ◌||◌, List, Some, None, IfSome}
+use Rattle.std.specs.Prelude.{◌≡◌, ℕ, Bool, true, false, ◌||◌, List, map, filter, take, Option, Some, None, IfSome}
 use Rattle.std.specs.List.{All}
 use Rattle.repo_plan.specs.declared.part.Part.{Part}
 use Rattle.repo_plan.specs.Parts.{part_cmp}
-use Rattle.repo_plan.specs.Plan.{is_wanted, is_unclaimed}
+use Rattle.repo_plan.specs.Plan.{is_wanted, is_unclaimed, unclaimed, is_after}
 use Rattle.sorted_lists.specs.SortedList.{Rises, contains}
 use Rattle.repo_holdings.specs.HoldingsState.{HoldingsState, held_plan}
 use Rattle.repo_holdings.specs.Taking.{Fetched}
+use Rattle.repo_holdings.specs.Wanting.{job_at}
+use Rattle.repo_object.specs.declared.job.Job.{Job}
 use Rattle.group_model.specs.Publications.{Logs}
 use Rattle.group_model.specs.Sound.{IsPublishedPart}
 use Rattle.repo_member.specs.Groups.{GroupKeys}
+use Rattle.repo_member.specs.Alone.{Alone}
 use Rattle.repo_member.specs.InGroup.{AreLogs, true_packet, that_came}
 use Rattle.repo_member.specs.TrueHolders.{IsTrueHolder}
+use Rattle.bench_world.specs.Lending.{lends}
 
 -- What contracts say of a holder of some kind.
 pub record HolderWords (H : Type 0) : Type 1 where
@@ -25,6 +29,12 @@ pub record HolderWords (H : Type 0) : Type 1 where
 -- It holds the part.
 abbrev pub has : {H : Type 0} → HolderWords H → H → Part → Bool
 has words s t = contains part_cmp (words.held s) t
+
+-- The jobs of the least parts that are wanted and unclaimed, after a place, and that others lend, at most so many.
+abbrev pub lent_jobs : GroupKeys → List Alone → HoldingsState → Option Part → ℕ → List Job
+lent_jobs g others h after most =
+    map (job_at g.members.names g.name h)
+    (take most (filter (lends others) (filter (is_after after) (unclaimed (held_plan h)))))
 
 -- A part that it wants and that no fetcher claims was asked for, and nothing came, or its packet.
 pub record CameForHolder (g : GroupKeys) (logs : Logs) (h : HoldingsState) (x : Fetched) : Type 0 where

@@ -8,8 +8,8 @@ use Rattle.repo_plan.specs.Parts.{part_cmp, pair_of}
 use Rattle.repo_plan.specs.Plan.{wanted}
 use Rattle.group_model.specs.Member.{tries_of, with_each_tried}
 use Rattle.group_model.specs.World.{World, logs, someone_holds}
-use Rattle.mirror_model.specs.Asked.{is_kept}
-use Rattle.mirror_model.specs.Mirrors.{mirror_plan, mirror_holds, IsWantedByMirror}
+use Rattle.repo_mirror.specs.Asked.{is_kept}
+use Rattle.repo_mirror.specs.Mirrors.{mirror_plan, mirror_holds, IsWantedByMirror}
 use Rattle.repo_mirror.specs.MirrorState.{MirrorState}
 use Rattle.repo_mirror.specs.TrueMirrors.{mirror_in_group}
 

@@ -6,8 +6,8 @@ use Rattle.repo_holdings.specs.Listed.{alone_catalogue}
 use Rattle.group_model.specs.Publications.{join_of}
 use Rattle.group_model.specs.World.{World, logs}
 use Rattle.group_model.specs.Steps.{settled_vector}
-use Rattle.mirror_model.specs.Mirrors.{mirror_holds, ComeInTurn, is_entry_accepted, path_to}
-use Rattle.mirror_model.specs.MirrorLaws.{GainsThose, HasComeToRest, learns_all}
+use Rattle.repo_mirror.specs.Mirrors.{mirror_holds, ComeInTurn, is_entry_accepted, path_to}
+use Rattle.repo_mirror.specs.MirrorLaws.{GainsThose, HasComeToRest, learns_all}
 use Rattle.repo_member.specs.Groups.{GroupKeys}
 use Rattle.repo_mirror.specs.MirrorState.{MirrorState}
 use Rattle.repo_mirror.specs.TrueMirrors.{mirror_in_group, IsTrueMirror}

@@ -19,7 +19,7 @@ use Rattle.group_model.specs.Publications.{Logs}
 use Rattle.group_model.specs.Sound.{IsPublishedPart}
 use Rattle.group_model.proofs.Lists.{contains-insert_keys, rises_insert_keys}
 use Rattle.group_model.proofs.Members.{known_published}
-use Rattle.mirror_model.specs.Mirrors.{mirror_holds}
+use Rattle.repo_mirror.specs.Mirrors.{mirror_holds}
 use Rattle.repo_watch.specs.declared.pattern.Pattern.{Pattern}
 use Rattle.repo_member.specs.Groups.{GroupKeys}
 use Rattle.repo_member.specs.InGroup.{AreLogs, CameTruly, true_packet, that_came}

@@ -9,10 +9,11 @@ use Rattle.group_model.specs.Laws.{NothingHidden, NothingWanted, AllJoined, Tell
 use Rattle.repo_member.specs.Groups.{GroupKeys}
 use Rattle.bench_world.specs.declared.event.Event.{Event}
 use Rattle.bench_world.specs.declared.event.Happened.{Happened}
+use Rattle.bench_world.specs.declared.event.EventFault.{EventFault}
 use Rattle.bench_world.specs.declared.event.StepFault.{StepFault}
 use Rattle.bench_world.specs.EventValues.{EventValue, Told, event_value, group_event, told_value, telling}
 use Rattle.bench_world.specs.Settling.{ArePartlySettled}
-use Rattle.bench_world.specs.Steps.{IsFaultOf}
+use Rattle.bench_world.specs.Steps.{IsFaultOf, IsStepFaultOf}
 use Rattle.bench_world.specs.Worlds.{GroupState, IsTrueState, in_groups, world_of}
 
 -- What a settle leaves that wanted memory: it counts as a step, each member has come a part of the way, and nothing
@@ -52,7 +53,7 @@ JoinsAfter _ w = Unit {0}
 -- What an event comes to, by what refuses it and what is to become of the world and to be told: where nothing refuses
 -- it, these; else why it isn't taken.
 pub record ComesTo (why : Option Refusal) (then : World) (what : Told) (e : EventValue) (old : GroupState)
-    (result : Result Happened StepFault) (new : GroupState) : Type 0 where
+    (result : Result Happened EventFault) (new : GroupState) : Type 0 where
   pub taken : OnOk result (why ≡ None)
   pub world : OnOk result (world_of new ≡ then)
   pub told : IfOk result (λ happened. told_value happened ≡ what)
@@ -64,7 +65,7 @@ pub record ComesTo (why : Option Refusal) (then : World) (what : Told) (e : Even
   pub err : OnErr result (StandsAsBefore e old new)
 
 -- A step is what the model makes of the world, tells of it and refuses.
-abbrev pub IsStep : Outside → EventValue → GroupState → Result Happened StepFault → GroupState → Type 0
+abbrev pub IsStep : Outside → EventValue → GroupState → Result Happened EventFault → GroupState → Type 0
 IsStep out e old result new =
     ComesTo (refusal out (world_of old) (group_event old.keys e))
     (after_event out (world_of old) (group_event old.keys e))
@@ -88,7 +89,7 @@ pub record IsStopped (out : Outside) (begun : GroupState) (events : List EventVa
   pub keys : before.keys ≡ begun.keys
   pub world : world_of before ≡ after_events out (world_of begun) (group_events begun.keys (take k events))
   pub stands : StandsAsBefore (slice_index_or events k EventValue.Traffic) before new
-  pub because : IsFaultOf
+  pub because : IsStepFaultOf
       (refusal out (world_of before) (group_event begun.keys (slice_index_or events k EventValue.Traffic))) told
 
 -- Where the later events publish nothing and tell each member of all that each other has published, and nothing is

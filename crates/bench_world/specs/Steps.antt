@@ -12,8 +12,10 @@ use Rattle.repo_object.specs.Cuts.{pieces}
 use Rattle.group_model.specs.Refusals.{Refusal}
 use Rattle.repo_member.specs.declared.refusals.HearRefusal.{HearRefusal}
 use Rattle.repo_member.specs.declared.refusals.HearRefusal.TheVariants as hear
+use Rattle.bench_world.specs.declared.event.EventFault.{EventFault}
+use Rattle.bench_world.specs.declared.event.EventFault.TheVariants as fault
 use Rattle.bench_world.specs.declared.event.StepFault.{StepFault}
-use Rattle.bench_world.specs.declared.event.StepFault.TheVariants as fault
+use Rattle.bench_world.specs.declared.event.StepFault.TheVariants as step
 use Rattle.bench_world.specs.EventValues.{EventValue, Told}
 
 -- There are so many members; the members and fetchers that an event names are there, and what is said is within its
@@ -55,7 +57,7 @@ NamesClient n (EventValue.Status m client process) = client < n
 NamesClient n (EventValue.Delete m client name) = client < n
 NamesClient n _ = Unit {0}
 
-abbrev pub fault_of : Refusal → StepFault
+abbrev pub fault_of : Refusal → EventFault
 fault_of Refusal.NoSuchPacket = fault.NoSuchPacket
 fault_of Refusal.FetcherBusy = fault.FetcherBusy
 fault_of Refusal.FetcherIdle = fault.FetcherIdle
@@ -64,10 +66,26 @@ fault_of Refusal.NumbersSpent = fault.NumbersSpent
 fault_of Refusal.NoSuchNumber = fault.NoSuchNumber
 
 -- Memory was wanting, or the event is refused so.
-abbrev pub IsFaultOf : Option Refusal → StepFault → Type 0
+abbrev pub IsFaultOf : Option Refusal → EventFault → Type 0
 IsFaultOf refusal fault.NoMemory = Unit {0}
 IsFaultOf None _ = ⊥
 IsFaultOf (Some refusal) told = told ≡ fault_of refusal
+
+-- Why a step was not made, by why its event was not carried out: a refusal has the number that the report prints.
+abbrev pub step_fault : EventFault → StepFault
+step_fault fault.NoSuchPacket = step.Refused 5
+step_fault fault.FetcherBusy = step.Refused 6
+step_fault fault.FetcherIdle = step.Refused 7
+step_fault fault.NumbersSpent = step.Refused 8
+step_fault fault.NoSuchNumber = step.Refused 14
+step_fault fault.Foreign = step.Foreign
+step_fault fault.NoMemory = step.NoMemory
+
+-- There was not enough memory, or the event is refused so.
+abbrev pub IsStepFaultOf : Option Refusal → StepFault → Type 0
+IsStepFaultOf refusal step.NoMemory = Unit {0}
+IsStepFaultOf None _ = ⊥
+IsStepFaultOf (Some refusal) made = made ≡ step_fault (fault_of refusal)
 
 -- ---- members that are told of
 

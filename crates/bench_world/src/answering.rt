@@ -15,7 +15,7 @@ ghost use Rattle.bench_world.specs.Serving.{octets_as, judged_packet, found};
 ghost use Rattle.bench_world.specs.Answering.{answered, claim_in, came_in, came_for, lender_of, fed_as, kept_of};
 ghost use Rattle.bench_world.specs.Answering.{accepts_claimed, after_claimed};
 
-use crate::event::StepFault;
+use crate::event::EventFault;
 use crate::others::{Others, put_back};
 use repo_member::{Group, Member, WantFault};
 use repo_object::{PartRefusal, Want, check_part};
@@ -50,18 +50,18 @@ fn is_its_packet(
 }
 
 // The want of what a fetcher claims.
-fn want_for(alloc: Global, g: &Group, member: &Member, f: u8) -> Result<Want, StepFault>
+fn want_for(alloc: Global, g: &Group, member: &Member, f: u8) -> Result<Want, EventFault>
     ghost logs: { Logs }
     requires { CanWant g.now logs f member.now }
     ensures claim { IfOk result (λ want. claim_of (alone_plan member.now) f ≡ Some want.part) }
     ensures want { IfOk result (λ want. want ≡ true_want g.now logs want.part) }
-    ensures idle { (result ≡ Err StepFault.FetcherIdle) ↔ (claim_of (alone_plan member.now) f ≡ None) }
-    ensures refused { IfErr result (λ fault. (fault ≡ StepFault.NoMemory) ⊎ (fault ≡ StepFault.FetcherIdle)) }
+    ensures idle { (result ≡ Err EventFault.FetcherIdle) ↔ (claim_of (alone_plan member.now) f ≡ None) }
+    ensures refused { IfErr result (λ fault. (fault ≡ EventFault.NoMemory) ⊎ (fault ≡ EventFault.FetcherIdle)) }
 {
     match member.want(alloc, g, f) {
         Ok(want) => Ok(want),
-        Err(WantFault::FetcherIdle) => Err(StepFault::FetcherIdle),
-        Err(WantFault::NoMemory) => Err(StepFault::NoMemory),
+        Err(WantFault::FetcherIdle) => Err(EventFault::FetcherIdle),
+        Err(WantFault::NoMemory) => Err(EventFault::NoMemory),
     }
 }
 
@@ -74,7 +74,7 @@ fn accept(
     f: u8,
     want: &Want,
     octets: &[u8],
-) -> Result<Fed, StepFault>
+) -> Result<Fed, EventFault>
     ghost logs: { Logs }
     requires { CanAccept g.now logs f want.now publisher.now asker.old }
     ensures fed { IfOk result (λ fed. fed ≡ fed_as g.now logs octets.now want.now.part) }
@@ -82,8 +82,8 @@ fn accept(
         (octets_as g.now logs want.now.part octets.now) asker.old) }
     ensures kept { IfOk result (λ fed. answered g.now logs (Some want.now.part)
         (octets_as g.now logs want.now.part octets.now) ≡ Ok (kept_of octets.now fed)) }
-    ensures foreign { IfErr result (λ fault. (fault ≡ StepFault.NoMemory)
-        ⊎ ((fault ≡ StepFault.Foreign) × (octets_as g.now logs want.now.part octets.now ≡ Another))) }
+    ensures foreign { IfErr result (λ fault. (fault ≡ EventFault.NoMemory)
+        ⊎ ((fault ≡ EventFault.Foreign) × (octets_as g.now logs want.now.part octets.now ≡ Another))) }
     ensures err { OnErr result (asker.new ≡ asker.old) }
 {
     let checked = match check_part(want, octets, g.members()) {
@@ -91,12 +91,12 @@ fn accept(
         Err(refusal) => return Ok(Fed::Refused { refusal }),
     };
     if !is_its_packet(g, publisher, want.part(), octets)? {
-        return Err(StepFault::Foreign);
+        return Err(EventFault::Foreign);
     }
     // The fetcher claims the part, so only memory can be wanting.
     match asker.accept_checked(g, f, &checked) {
         Ok(_) => Ok(Fed::Kept),
-        Err(_) => Err(StepFault::NoMemory),
+        Err(_) => Err(EventFault::NoMemory),
     }
 }
 
@@ -118,14 +118,14 @@ fn accept_served(
     f: u8,
     want: &Want,
     packet: Option<&[u8]>,
-) -> Result<Option<u64>, StepFault>
+) -> Result<Option<u64>, EventFault>
     ghost logs: { Logs }
     requires { CanAccept g.now logs f want.now publisher.now asker.old }
     ensures kept { IfOk result (λ kept. answered g.now logs (Some want.now.part)
         (judged_packet g.now logs want.now.part (option_map (λ octets. octets.now) packet.entry)) ≡ Ok kept) }
     ensures asker { OnOk result (asker.new ≡ accepts_claimed g.now logs f want.now.part
         (judged_packet g.now logs want.now.part (option_map (λ octets. octets.now) packet.entry)) asker.old) }
-    ensures refused { IfErr result (λ fault. (fault ≡ StepFault.NoMemory)
+    ensures refused { IfErr result (λ fault. (fault ≡ EventFault.NoMemory)
         ⊎ (answered g.now logs (Some want.now.part)
         (judged_packet g.now logs want.now.part (option_map (λ octets. octets.now) packet.entry)) ≡ Err fault)) }
     ensures err { OnErr result (asker.new ≡ asker.old) }
@@ -149,7 +149,7 @@ fn answer_from(
     asker: &mut Member,
     f: u8,
     want: &Want,
-) -> Result<Option<u64>, StepFault>
+) -> Result<Option<u64>, EventFault>
     ghost logs: { Logs }
     requires { CanAccept g.now logs f want.now publisher.now asker.old }
     ensures kept { IfOk result (λ kept. answered g.now logs (Some want.now.part) (judged_packet g.now logs want.now.part
@@ -159,7 +159,7 @@ fn answer_from(
         (asker.new ≡ accepts_claimed g.now logs f want.now.part (judged_packet g.now logs want.now.part
         (found (served want.now.interest (lender_of asker.old (option_map (λ a. a.now) lender.entry)).store)))
         asker.old) }
-    ensures refused { IfErr result (λ fault. (fault ≡ StepFault.NoMemory)
+    ensures refused { IfErr result (λ fault. (fault ≡ EventFault.NoMemory)
         ⊎ (answered g.now logs (Some want.now.part) (judged_packet g.now logs want.now.part
         (found (served want.now.interest (lender_of asker.old (option_map (λ a. a.now) lender.entry)).store)))
         ≡ Err fault)) }
@@ -184,7 +184,7 @@ pub(crate) fn answer(
     m: u32,
     f: u8,
     q: u32,
-) -> Result<Option<u64>, StepFault>
+) -> Result<Option<u64>, EventFault>
     ghost logs: { Logs }
     requires { CanAnswerAt g.now logs f m q members.old.items }
     ensures kept { IfOk result (λ kept. answered g.now logs (claim_in members.old.items m f)
@@ -192,8 +192,8 @@ pub(crate) fn answer(
     ensures members { OnOk result (members.new.items ≡ slice_set members.old.items m
         (after_claimed g.now logs f (claim_in members.old.items m f)
         (came_in g.now logs members.old.items q (claim_in members.old.items m f)) (alone_at members.old.items m))) }
-    ensures idle { (result ≡ Err StepFault.FetcherIdle) ↔ (claim_in members.old.items m f ≡ None) }
-    ensures refused { IfErr result (λ fault. (fault ≡ StepFault.NoMemory)
+    ensures idle { (result ≡ Err EventFault.FetcherIdle) ↔ (claim_in members.old.items m f ≡ None) }
+    ensures refused { IfErr result (λ fault. (fault ≡ EventFault.NoMemory)
         ⊎ (answered g.now logs (claim_in members.old.items m f)
         (came_in g.now logs members.old.items q (claim_in members.old.items m f)) ≡ Err fault)) }
     ensures err { OnErr result (members.new.items ≡ members.old.items) }
@@ -218,7 +218,7 @@ pub(crate) fn feed(
     m: u32,
     f: u8,
     octets: &[u8],
-) -> Result<Fed, StepFault>
+) -> Result<Fed, EventFault>
     ghost logs: { Logs }
     requires { CanGetAt g.now logs f m members.old.items }
     ensures fed { IfOk result
@@ -228,8 +228,8 @@ pub(crate) fn feed(
     ensures members { OnOk result (members.new.items ≡ slice_set members.old.items m
         (after_claimed g.now logs f (claim_in members.old.items m f)
         (came_for g.now logs octets.now (claim_in members.old.items m f)) (alone_at members.old.items m))) }
-    ensures idle { (result ≡ Err StepFault.FetcherIdle) ↔ (claim_in members.old.items m f ≡ None) }
-    ensures refused { IfErr result (λ fault. (fault ≡ StepFault.NoMemory)
+    ensures idle { (result ≡ Err EventFault.FetcherIdle) ↔ (claim_in members.old.items m f ≡ None) }
+    ensures refused { IfErr result (λ fault. (fault ≡ EventFault.NoMemory)
         ⊎ (answered g.now logs (claim_in members.old.items m f)
         (came_for g.now logs octets.now (claim_in members.old.items m f)) ≡ Err fault)) }
     ensures err { OnErr result (members.new.items ≡ members.old.items) }

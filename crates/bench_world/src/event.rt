@@ -328,9 +328,9 @@ pub enum Happened {
     },
 }
 
-/// Why an event was not carried out.
+/// Why an event was not carried out, by name.
 #[derive(Clone, Copy, Debug, PartialEq, Eq)]
-pub enum StepFault {
+pub enum EventFault {
     /// No such packet was sent.
     NoSuchPacket,
     /// The fetcher claims a part.
@@ -346,13 +346,42 @@ pub enum StepFault {
     NoMemory,
 }
 
-impl From<AllocError> for StepFault {
+impl From<AllocError> for EventFault {
     ghost use Rattle.std.specs.Prelude.{◌≡◌};
-    ghost use Rattle.bench_world.specs.declared.event.StepFault.TheVariants.{NoMemory};
+    ghost use Rattle.bench_world.specs.declared.event.EventFault.TheVariants.{NoMemory};
 
     ghost from_gives = { λ _ fault. fault ≡ NoMemory };
 
-    fn from(_: AllocError) -> StepFault {
-        StepFault::NoMemory
+    fn from(_: AllocError) -> EventFault {
+        EventFault::NoMemory
+    }
+}
+
+/// Why a step was not made.
+#[derive(Clone, Copy, Debug, PartialEq, Eq)]
+pub enum StepFault {
+    /// The event is refused, by this number of the script's refusals.
+    Refused { number: u32 },
+    /// Octets pass their checks, and nobody of the group made them.
+    Foreign,
+    NoMemory,
+}
+
+impl From<EventFault> for StepFault {
+    ghost use Rattle.std.specs.Prelude.{◌≡◌};
+    ghost use Rattle.bench_world.specs.Steps.{step_fault};
+
+    ghost from_gives = { λ event fault. fault ≡ step_fault event };
+
+    fn from(event: EventFault) -> StepFault {
+        match event {
+            EventFault::NoSuchPacket => StepFault::Refused { number: 5 },
+            EventFault::FetcherBusy => StepFault::Refused { number: 6 },
+            EventFault::FetcherIdle => StepFault::Refused { number: 7 },
+            EventFault::NumbersSpent => StepFault::Refused { number: 8 },
+            EventFault::NoSuchNumber => StepFault::Refused { number: 14 },
+            EventFault::Foreign => StepFault::Foreign,
+            EventFault::NoMemory => StepFault::NoMemory,
+        }
     }
 }

@@ -1,11 +1,10 @@
 // What who holds parts gathers of others in a settle.
 ghost use Rattle.std.specs.Prelude.{◌≡◌, None, IfOk, OnOk, OnErr, length};
-ghost use Rattle.std.specs.List.{filter, sum_by};
+ghost use Rattle.std.specs.List.{sum_by};
 ghost use Rattle.group_model.specs.Publications.{Logs};
-ghost use Rattle.bench_world.specs.Lending.{lends};
 ghost use Rattle.bench_world.specs.Sizes.{size_of};
 ghost use Rattle.bench_world.specs.Conditions.{CanGather};
-ghost use Rattle.bench_world.specs.Gathering.{next_parts, lent_all, one_each, Counts, IsPlaceIn, GainsParts};
+ghost use Rattle.bench_world.specs.Gathering.{next_lent, lent_all, one_each, Counts, IsPlaceIn, GainsParts};
 ghost use Rattle.bench_world.specs.Gathering.{NothingLeft};
 ghost use Rattle.bench_world.specs.Worlds.{logs_around};
 
@@ -27,7 +26,7 @@ const NOTHING: Kept = Kept {
     octets: 0,
 };
 
-// One phase, of the parts behind a place: the last part that was asked for, if one was, and what came.
+// One phase, of parts after a place that the others lend: the last part that was asked for, if one was, and what came.
 fn gather_phase<N: Net + Sync, R: Threads + Sync, H: Holder>(
     rt: &R,
     alloc: Global,
@@ -39,16 +38,17 @@ fn gather_phase<N: Net + Sync, R: Threads + Sync, H: Holder>(
 ) -> Result<(Option<Part>, Kept), AllocError>
     ghost logs: { Logs }
     requires { CanGather H.words g.now logs workers link.now.others.now link.now.loss holder.old }
-    ensures new { OnOk result (holder.new
-        ≡ H.words.takes (lent_all link.now.others.now (next_parts after (H.words.holdings holder.old))) holder.old) }
-    ensures place { IfOk result (λ r. IsPlaceIn (next_parts after (H.words.holdings holder.old)) r.0) }
+    ensures new { OnOk result (holder.new ≡ H.words.takes (lent_all link.now.others.now
+        (next_lent link.now.others.now after (H.words.holdings holder.old))) holder.old) }
+    ensures place { IfOk result (λ r.
+        IsPlaceIn (next_lent link.now.others.now after (H.words.holdings holder.old)) r.0) }
     ensures parts { IfOk result (λ r. r.1.parts
-        ≡ length (filter (lends link.now.others.now) (next_parts after (H.words.holdings holder.old)))) }
+        ≡ length (next_lent link.now.others.now after (H.words.holdings holder.old))) }
     ensures octets { IfOk result (λ r. r.1.octets ≡ sum_by (size_of g.now logs)
-        (filter (lends link.now.others.now) (next_parts after (H.words.holdings holder.old)))) }
+        (next_lent link.now.others.now after (H.words.holdings holder.old))) }
     ensures err { OnErr result (holder.new ≡ holder.old) }
 {
-    let jobs = holder.jobs(alloc, g, after, PHASE_LIMIT)?;
+    let jobs = holder.held_jobs(alloc, g, link.others, after, PHASE_LIMIT)?;
     let Some(last) = jobs.last() else {
         return Ok((None, NOTHING));
     };
@@ -60,7 +60,7 @@ fn gather_phase<N: Net + Sync, R: Threads + Sync, H: Holder>(
     Ok((Some(place), kept))
 }
 
-// Phases from the first wanted part to the last: what came.
+// Phases from the first wanted part that the others lend to the last: what came.
 fn gather_round<N: Net + Sync, R: Threads + Sync, H: Holder>(
     rt: &R,
     alloc: Global,

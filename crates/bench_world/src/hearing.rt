@@ -8,7 +8,7 @@ ghost use Rattle.repo_member.specs.Alone.{IsOfGroup, alone_hears};
 ghost use Rattle.repo_member.specs.Verdicts.{group_verdict};
 ghost use Rattle.bench_world.specs.Hearing.{told_sync};
 
-use crate::event::StepFault;
+use crate::event::EventFault;
 use crate::numbers::numbers;
 use bench_net::Sent;
 use repo_member::{Group, HearRefusal, Member};
@@ -57,7 +57,7 @@ pub(crate) fn hear_sent(
     vector: &Vector,
     now: u64,
     draw: u32,
-) -> Result<Mode, StepFault>
+) -> Result<Mode, EventFault>
     requires own { slice_index vector.now member.old.number ≤ length member.old.log }
     requires width { length vector.now ≡ length member.old.known }
     requires members { length vector.now ≤ node_limit }
@@ -66,13 +66,13 @@ pub(crate) fn hear_sent(
     ensures sent { OnOk result (was_sent signer vector.now sent.now.packets ≡ true) }
     ensures ok { OnOk result (member.new ≡ alone_hears vector.now now draw member.old) }
     ensures mode { IfOk result (λ mode. mode ≡ mode_of member.new.machine.heard) }
-    ensures foreign { IfErr result (λ fault. (fault ≡ StepFault.NoMemory)
-        ⊎ ((fault ≡ StepFault.Foreign) × (was_sent signer vector.now sent.now.packets ≡ false))) }
+    ensures foreign { IfErr result (λ fault. (fault ≡ EventFault.NoMemory)
+        ⊎ ((fault ≡ EventFault.Foreign) × (was_sent signer vector.now sent.now.packets ≡ false))) }
     ensures err { OnErr result (member.new ≡ member.old) }
 {
     let numbers = numbers(alloc, vector)?;
     if !sent.has(signer, numbers.as_slice()) {
-        return Err(StepFault::Foreign);
+        return Err(EventFault::Foreign);
     }
     Ok(member.hear_vector(vector, now, draw))
 }

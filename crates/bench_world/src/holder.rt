@@ -1,11 +1,14 @@
 // Who holds parts, and fetches more of them.
-ghost use Rattle.std.specs.Prelude.{◌≡◌, ◌≤◌, length, is_some, count_by, IfOk, OnOk, OnErr};
-ghost use Rattle.std.specs.List.{sum_by};
+ghost use Rattle.std.specs.Prelude.{◌≡◌, ◌≤◌, length, map, is_some, count_by, IfOk, OnOk, OnErr};
+ghost use Rattle.std.specs.List.{All, sum_by};
 ghost use Rattle.std.specs.Thread.{IsSync};
+ghost use Rattle.repo_holdings.specs.Contents.{IsDigestIn};
+ghost use Rattle.repo_holdings.specs.Taking.{PartsDiffer, with_what_came};
 ghost use Rattle.repo_member.specs.Outcomes.{IsOutcomeOf, jobs_of, job_limit, outcome_of, octets_in};
-ghost use Rattle.bench_world.specs.Holders.{HolderWords, AreHolders};
+ghost use Rattle.bench_world.specs.Holders.{HolderWords, AreHolders, lent_jobs};
 
 use fetch_work::digests;
+use repo_holdings::ContentsDigest;
 use repo_member::{Group, Kept, Member};
 use repo_mirror::Mirror;
 use repo_object::{Checked, Job};
@@ -29,6 +32,19 @@ pub(crate) trait Holder {
     ) -> Result<Vec<Job>, AllocError>
         requires { length g.now.members.names ≡ length (words.holdings self.now).known }
         ensures { IfOk result (λ jobs. jobs.items ≡ jobs_of g.now (words.holdings self.now) after most) };
+
+    /// Such jobs of those parts that one of the others stores.
+    fn held_jobs(
+        &self,
+        alloc: Global,
+        g: &Group,
+        others: &[Member],
+        after: Option<Part>,
+        most: usize,
+    ) -> Result<Vec<Job>, AllocError>
+        requires { length g.now.members.names ≡ length (words.holdings self.now).known }
+        ensures { IfOk result
+            (λ jobs. jobs.items ≡ lent_jobs g.now others.now (words.holdings self.now) after most) };
 
     /// Takes what came of jobs that it planned: for each job its packet, if one came, and how often it was tried. Where
     /// there are several workers, they make the digests over the contents of what becomes whole.
@@ -73,6 +89,17 @@ impl Holder for Member {
         self.plan(alloc, g, after, most)
     }
 
+    fn held_jobs(
+        &self,
+        alloc: Global,
+        g: &Group,
+        others: &[Member],
+        after: Option<Part>,
+        most: usize,
+    ) -> Result<Vec<Job>, AllocError> {
+        self.plan_held(alloc, g, others, after, most)
+    }
+
     fn take<R: Threads + Sync>(
         &mut self,
         rt: &R,
@@ -84,17 +111,31 @@ impl Holder for Member {
         attempts: &[u32],
     ) -> Result<Kept, AllocError> {
         if workers == 1 {
-            return self.take_outcome(g, jobs, parts, attempts);
+            return self.take_digested(g, jobs, parts, attempts, &[]);
         }
-        let all = self.tried(g, jobs, parts, attempts)?;
-        let told = {
-            let whole = self.whole_with(alloc, &all)?;
-            digests(rt, alloc, &whole, workers)?
-        };
-        self.take_digested(all, &told)
+        let digests = digests_with(rt, alloc, self, workers, jobs, parts)?;
+        self.take_digested(g, jobs, parts, attempts, &digests)
     }
 
     ghost are_holders = { members_hold };
+}
+
+// The digests over the contents of what becomes whole in the member by what came of jobs, made by so many workers.
+fn digests_with<R: Threads + Sync>(
+    rt: &R,
+    alloc: Global,
+    member: &Member,
+    workers: u32,
+    jobs: &[Job],
+    parts: &[Option<Checked<'_>>],
+) -> Result<Vec<ContentsDigest>, AllocError>
+    requires workers { (1 ≤ workers) × (workers ≤ 16) }
+    requires apart { PartsDiffer (map (λ job. job.want.part) jobs.now) }
+    ensures { IfOk result
+        (λ digests. All (IsDigestIn (with_what_came jobs.now parts.now member.now.store)) digests.items) }
+{
+    let whole = member.whole_with(alloc, jobs, parts)?;
+    digests(rt, alloc, &whole, workers)
 }
 
 /// A mirror, with the rule by which its pattern is for objects.
@@ -121,10 +162,23 @@ impl<'f> Holder for Filtering<'f> {
         self.mirror.plan(alloc, g.roster(), g.name(), after, most)
     }
 
+    fn held_jobs(
+        &self,
+        alloc: Global,
+        g: &Group,
+        others: &[Member],
+        after: Option<Part>,
+        most: usize,
+    ) -> Result<Vec<Job>, AllocError> {
+        g.is_sound();
+        self.mirror
+            .plan_held(alloc, g.roster(), g.name(), others, after, most)
+    }
+
     fn take<R: Threads + Sync>(
         &mut self,
         _rt: &R,
-        alloc: Global,
+        _alloc: Global,
         _g: &Group,
         _workers: u32,
         jobs: &[Job],
@@ -133,7 +187,7 @@ impl<'f> Holder for Filtering<'f> {
     ) -> Result<Kept, AllocError> {
         let kept = self
             .mirror
-            .take_outcome(alloc, self.filter, jobs, parts, attempts)?;
+            .take_outcome(self.filter, jobs, parts, attempts)?;
         Ok(Kept {
             parts: kept,
             octets: octets_that_came(parts),

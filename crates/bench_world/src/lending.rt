@@ -1,11 +1,11 @@
 // Members that lend their packets to one that asks for parts.
 ghost use Rattle.std.specs.Prelude.{◌≡◌, option_map};
-ghost use Rattle.bench_world.specs.Lending.{attempt_comes, lent, lent_first};
+ghost use Rattle.bench_world.specs.Lending.{attempt_comes, if_comes, lent, lent_first};
 
 use bench_net::Net;
-use fetch_work::{Link, Reply};
+use fetch_work::{Lending, Link, Reply};
 use repo_member::Member;
-use repo_object::Want;
+use repo_object::{Packet, Want};
 use repo_plan::Part;
 
 /// The members that one asks for parts, and the network that its attempts go through.
@@ -25,14 +25,30 @@ impl<'w, N: Net> Link for MemberLink<'w, N> {
     ghost answer = { λ l want attempt. lent_answer (N.passes l.net.now) l.others.now l.asker l.loss want attempt };
 
     fn ask<'a>(&'a self, want: &Want, attempt: u32) -> Reply<'a> {
-        let part = want.part();
-        if !comes_through(self, part, attempt) {
-            return Reply::Lost;
-        }
-        match lent(self.others, self.asker, part) {
-            Some(octets) => Reply::Came(octets),
+        match came(self, want.part(), attempt) {
+            Some(packet) => Reply::Came(packet.octets()),
             None => Reply::Lost,
         }
+    }
+
+    fn lend<'a>(&'a self, want: &Want, attempt: u32) -> Lending<'a> {
+        match came(self, want.part(), attempt) {
+            Some(packet) => Lending::Packet(packet),
+            None => Lending::Lost,
+        }
+    }
+}
+
+// The packet that comes at an attempt at a part.
+fn came<'a, N: Net>(link: &'a MemberLink<'_, N>, part: Part, attempt: u32) -> Option<&'a Packet>
+    ensures { option_map (λ packet. packet.now) result ≡ if_comes
+        (attempt_comes (N.passes link.now.net.now) link.now.asker link.now.loss part attempt)
+        (lent_first link.now.others.now link.now.asker part) }
+{
+    if comes_through(link, part, attempt) {
+        lent(link.others, link.asker, part)
+    } else {
+        None
     }
 }
 
@@ -52,8 +68,8 @@ fn comes_through<'w, N: Net>(link: &MemberLink<'w, N>, part: Part, attempt: u32)
 }
 
 // The packet that is lent for a part. Its publisher is asked first, so that most parts are found at once.
-fn lent<'w>(others: &'w [Member], asker: u32, part: Part) -> Option<&'w [u8]>
-    ensures { option_map (λ octets. octets.now) result ≡ lent_first others.now asker part }
+fn lent<'w>(others: &'w [Member], asker: u32, part: Part) -> Option<&'w Packet>
+    ensures { option_map (λ packet. packet.now) result ≡ lent_first others.now asker part }
 {
     let publisher = part.publisher;
     let place = if publisher < asker {
@@ -62,7 +78,7 @@ fn lent<'w>(others: &'w [Member], asker: u32, part: Part) -> Option<&'w [u8]>
         publisher.saturating_sub(1)
     };
     if let Some(member) = others.get(place as usize) {
-        if let Some(packet) = member.packet(part) {
+        if let Some(packet) = member.stored(part) {
             return Some(packet);
         }
     }
@@ -70,11 +86,11 @@ fn lent<'w>(others: &'w [Member], asker: u32, part: Part) -> Option<&'w [u8]>
 }
 
 // The packet of the first of these members that stores the part's.
-fn lent_by<'w>(members: &'w [Member], part: Part) -> Option<&'w [u8]>
-    ensures { option_map (λ octets. octets.now) result ≡ lent members.now part }
+fn lent_by<'w>(members: &'w [Member], part: Part) -> Option<&'w Packet>
+    ensures { option_map (λ packet. packet.now) result ≡ lent members.now part }
 {
     for member in members {
-        if let Some(packet) = member.packet(part) {
+        if let Some(packet) = member.stored(part) {
             return Some(packet);
         }
     }

@@ -26,7 +26,7 @@ mod step;
 mod telling;
 mod world;
 
-pub use event::{Event, Happened, StepFault};
+pub use event::{Event, EventFault, Happened, StepFault};
 pub use laws::{
     a_settle_can_be_made_again, claimed_parts_can_be_answered, workers_make_no_difference,
 };

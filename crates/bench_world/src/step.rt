@@ -6,24 +6,24 @@ ghost use Rattle.group_model.specs.Refusals.{refusal, EventsAreTaken};
 ghost use Rattle.bench_world.specs.Serving.{outside};
 ghost use Rattle.bench_world.specs.Worlds.{world_of};
 ghost use Rattle.bench_world.specs.EventValues.{event_value, group_event, told_value, telling};
-ghost use Rattle.bench_world.specs.Steps.{IsReady, NamesClient, IsFaultOf, NamesAll};
+ghost use Rattle.bench_world.specs.Steps.{IsReady, NamesClient, IsFaultOf, IsStepFaultOf, NamesAll};
 ghost use Rattle.bench_world.specs.Runs.{StandsAsBefore, JoinsAfter, IsStep, event_values, group_events, IsStopped};
 ghost use Rattle.bench_world.specs.Runs.{ListLawFrom};
 
-use crate::event::{Event, Happened, StepFault};
+use crate::event::{Event, EventFault, Happened, StepFault};
 use crate::world::World;
 use bench_net::{Draws, Net};
 use std::thread::Threads;
 
 impl World {
-    /// Carries out an event, and tells what came of it.
-    pub fn step<N: Net + Sync, D: Draws, R: Threads + Sync>(
+    /// Carries out an event, and tells what came of it. A refusal has its name.
+    pub fn take_event<N: Net + Sync, D: Draws, R: Threads + Sync>(
         &mut self,
         rt: &R,
         event: &Event,
         net: &N,
         draws: &D,
-    ) -> Result<Happened, StepFault>
+    ) -> Result<Happened, EventFault>
         requires ready { IsReady (length self.old.keys.members.names) (event_value event.now) }
         requires clients { NamesClient (length self.old.keys.clients.names) (event_value event.now) }
         requires few { self.old.steps < 100000 }
@@ -49,6 +49,39 @@ impl World {
         self.carry_out(rt, event, net, draws)
     }
 
+    /// Carries out an event, and tells what came of it. A refusal has the number that the report prints.
+    #[tactic(auto, using(crate::proofs::Faults::step_faults))]
+    pub fn step<N: Net + Sync, D: Draws, R: Threads + Sync>(
+        &mut self,
+        rt: &R,
+        event: &Event,
+        net: &N,
+        draws: &D,
+    ) -> Result<Happened, StepFault>
+        requires ready { IsReady (length self.old.keys.members.names) (event_value event.now) }
+        requires clients { NamesClient (length self.old.keys.clients.names) (event_value event.now) }
+        requires few { self.old.steps < 100000 }
+        ensures taken { OnOk result (refusal (outside self.old.keys (D.draw draws.now) (N.passes net.now))
+            (world_of self.old) (group_event self.old.keys (event_value event.now)) ≡ None) }
+        ensures world { OnOk result
+            (world_of self.new ≡ after_event (outside self.old.keys (D.draw draws.now) (N.passes net.now))
+            (world_of self.old) (group_event self.old.keys (event_value event.now))) }
+        ensures told { IfOk result (λ happened. told_value happened ≡ telling self.old.keys
+            (outside self.old.keys (D.draw draws.now) (N.passes net.now)) (world_of self.old) (event_value event.now)) }
+        ensures all { IfOk result (λ happened. NamesAll (length self.old.keys.members.names) (told_value happened)) }
+        // After a settle, where nothing is hidden, each catalogue is the join of all publications.
+        ensures joined { OnOk result (JoinsAfter (event_value event.now) (world_of self.new)) }
+        ensures steps { OnOk result (self.new.steps ≡ self.old.steps + 1) }
+        ensures keys { self.new.keys ≡ self.old.keys }
+        ensures mirrors { self.new.mirrors ≡ self.old.mirrors }
+        ensures refused { IfErr result (IsStepFaultOf
+            (refusal (outside self.old.keys (D.draw draws.now) (N.passes net.now))
+            (world_of self.old) (group_event self.old.keys (event_value event.now)))) }
+        ensures err { OnErr result (StandsAsBefore (event_value event.now) self.old self.new) }
+    {
+        Ok(self.take_event(rt, event, net, draws)?)
+    }
+
     // Who is about to be asked by name has the names of its packets in order.
     fn order_names_for(&mut self, event: &Event)
         requires { IsReady (length self.old.members) (event_value event.now) }
@@ -68,7 +101,7 @@ impl World {
         event: &Event,
         net: &N,
         draws: &D,
-    ) -> Result<Happened, StepFault>
+    ) -> Result<Happened, EventFault>
         requires ready { IsReady (length self.old.members) (event_value event.now) }
         requires clients { NamesClient (length self.old.keys.clients.names) (event_value event.now) }
         requires few { self.old.steps < 100000 }

@@ -7,7 +7,7 @@ ghost use Rattle.bench_world.specs.Blocks.{after_blocked, blocked_told};
 ghost use Rattle.bench_world.specs.Runs.{IsStep};
 
 use super::World;
-use crate::event::{Happened, StepFault};
+use crate::event::{EventFault, Happened};
 use crate::numbers::numbers;
 use bench_net::{Draws, Sent};
 use repo_member::{Blocked, PublishRefusal};
@@ -22,7 +22,7 @@ impl World {
         index: u64,
         content: &[u8],
         draws: &D,
-    ) -> Result<Happened, StepFault>
+    ) -> Result<Happened, EventFault>
         requires there { m < length self.old.members }
         requires content { IsContent content.now }
         requires few { self.old.steps < 100000 }
@@ -36,9 +36,9 @@ impl World {
         let blocked = match member.block(&self.group, process, index, content, self.moment, draw) {
             Ok(blocked) => blocked,
             Err(PublishRefusal::NumbersSpent { .. }) => {
-                return Err(StepFault::NumbersSpent);
+                return Err(EventFault::NumbersSpent);
             }
-            Err(PublishRefusal::NoMemory) => return Err(StepFault::NoMemory),
+            Err(PublishRefusal::NoMemory) => return Err(EventFault::NoMemory),
         };
         let happened = send_blocked(&mut self.sent, m, vector, blocked);
         self.steps += 1;

@@ -6,13 +6,13 @@ ghost use Rattle.bench_world.specs.EventValues.{EventValue, told_value, claim_to
 ghost use Rattle.bench_world.specs.Runs.{IsStep};
 
 use super::World;
-use crate::event::{Happened, StepFault};
+use crate::event::{EventFault, Happened};
 use repo_plan::Part;
 
 impl World {
     /// A member's fetcher claims the least part that is wanted and that no fetcher of the member claims, or none where
     /// there is none.
-    pub(crate) fn claim(&mut self, m: u32, f: u32) -> Result<Happened, StepFault>
+    pub(crate) fn claim(&mut self, m: u32, f: u32) -> Result<Happened, EventFault>
         requires there { m < length self.old.members }
         requires fetcher { IsFetcher f }
         requires few { self.old.steps < 100000 }
@@ -20,14 +20,14 @@ impl World {
     {
         let member = &mut self.members[m as usize];
         let Ok(claim) = member.claim(f as u8) else {
-            return Err(StepFault::FetcherBusy);
+            return Err(EventFault::FetcherBusy);
         };
         self.steps += 1;
         Ok(claimed(m, u64::from(f), claim))
     }
 
     /// A fetcher's claim ends, and its part can be claimed again.
-    pub(crate) fn lose(&mut self, m: u32, f: u32) -> Result<Happened, StepFault>
+    pub(crate) fn lose(&mut self, m: u32, f: u32) -> Result<Happened, EventFault>
         requires there { m < length self.old.members }
         requires fetcher { IsFetcher f }
         requires few { self.old.steps < 100000 }
@@ -35,7 +35,7 @@ impl World {
     {
         let member = &mut self.members[m as usize];
         let Ok(part) = member.lose(f as u8) else {
-            return Err(StepFault::FetcherIdle);
+            return Err(EventFault::FetcherIdle);
         };
         self.steps += 1;
         Ok(Happened::Lose {

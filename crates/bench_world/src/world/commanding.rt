@@ -13,7 +13,7 @@ ghost use Rattle.bench_world.specs.EventValues.{EventValue, told_value, order_to
 ghost use Rattle.bench_world.specs.Runs.{IsStep};
 
 use super::World;
-use crate::event::{Happened, StepFault};
+use crate::event::{EventFault, Happened};
 use crate::issued::{IssuedCommand, IssuedCommands};
 use ndn_name::Name;
 use repo_command::{Answer, Command, CommandRefusal, check_command, make_command};
@@ -59,7 +59,7 @@ impl World {
         name: &Name,
         first: u64,
         last: u64,
-    ) -> Result<Happened, StepFault>
+    ) -> Result<Happened, EventFault>
         requires there { m < length self.old.members }
         requires client { client < length self.old.keys.clients.names }
         requires name { IsTrue (is_object_name name.now) }
@@ -76,7 +76,7 @@ impl World {
             last,
         };
         let Ok(answer) = self.issue(m, client, command) else {
-            return Err(StepFault::NoMemory);
+            return Err(EventFault::NoMemory);
         };
         Ok(Happened::Insert {
             m,
@@ -93,7 +93,7 @@ impl World {
         m: u32,
         client: u32,
         process: u32,
-    ) -> Result<Happened, StepFault>
+    ) -> Result<Happened, EventFault>
         requires there { m < length self.old.members }
         requires client { client < length self.old.keys.clients.names }
         requires few { self.old.steps < 100000 }
@@ -103,7 +103,7 @@ impl World {
             process: u64::from(process),
         };
         let Ok(answer) = self.issue(m, client, command) else {
-            return Err(StepFault::NoMemory);
+            return Err(EventFault::NoMemory);
         };
         Ok(Happened::Status {
             m,
@@ -115,7 +115,12 @@ impl World {
     }
 
     /// A client asks a member to drop every object of this name.
-    pub(crate) fn delete(&mut self, m: u32, client: u32, name: &Name) -> Result<Happened, StepFault>
+    pub(crate) fn delete(
+        &mut self,
+        m: u32,
+        client: u32,
+        name: &Name,
+    ) -> Result<Happened, EventFault>
         requires there { m < length self.old.members }
         requires client { client < length self.old.keys.clients.names }
         requires name { IsTrue (is_object_name name.now) }
@@ -127,7 +132,7 @@ impl World {
             name: name.clone()?,
         };
         let Ok(answer) = self.issue(m, client, command) else {
-            return Err(StepFault::NoMemory);
+            return Err(EventFault::NoMemory);
         };
         Ok(Happened::Delete {
             m,
@@ -141,7 +146,7 @@ impl World {
     /// A member is given octets as a command.
     ///
     /// They are foreign where they pass, and the client whose command they are made none of that kind for the member.
-    pub(crate) fn order(&mut self, m: u32, octets: &[u8]) -> Result<Happened, StepFault>
+    pub(crate) fn order(&mut self, m: u32, octets: &[u8]) -> Result<Happened, EventFault>
         requires there { m < length self.old.members }
         requires few { self.old.steps < 100000 }
         ensures { IsStep (keyed self.old.keys) (EventValue.Order m octets.now) self.old result self.new }
@@ -187,12 +192,12 @@ fn order_verdict(
     issued: &IssuedCommands,
     m: u32,
     octets: &[u8],
-) -> Result<Result<(u32, Command), CommandRefusal>, StepFault>
+) -> Result<Result<(u32, Command), CommandRefusal>, EventFault>
     requires { m < length g.now.members.names }
     ensures verdict { IfOk result (λ verdict. coded verdict ≡ order_of g.now m octets.now) }
     ensures spelled { IfOk result (λ verdict. IfOk verdict (λ order. CommandIsSpelled order.1)) }
     ensures issued { OnOk result (may_order issued.now.commands m (order_of g.now m octets.now) ≡ true) }
-    ensures refused { IfErr result (λ fault. (fault ≡ StepFault.NoMemory) ⊎ ((fault ≡ StepFault.Foreign)
+    ensures refused { IfErr result (λ fault. (fault ≡ EventFault.NoMemory) ⊎ ((fault ≡ EventFault.Foreign)
         × (may_order issued.now.commands m (order_of g.now m octets.now) ≡ false))) }
 {
     g.is_sound();
@@ -206,10 +211,10 @@ fn order_verdict(
             if issued.has(&order) {
                 Ok(Ok((client, order.command)))
             } else {
-                Err(StepFault::Foreign)
+                Err(EventFault::Foreign)
             }
         }
-        Err(CommandRefusal::NoMemory) => Err(StepFault::NoMemory),
+        Err(CommandRefusal::NoMemory) => Err(EventFault::NoMemory),
         refused => Ok(refused),
     }
 }

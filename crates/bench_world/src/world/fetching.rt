@@ -5,7 +5,7 @@ ghost use Rattle.bench_world.specs.EventValues.{EventValue};
 ghost use Rattle.bench_world.specs.Runs.{IsStep};
 
 use super::World;
-use crate::event::{Happened, StepFault};
+use crate::event::{EventFault, Happened};
 use crate::member_fetching::fetch_at;
 use bench_net::Net;
 use std::thread::Threads;
@@ -21,7 +21,7 @@ impl World {
         tries: u32,
         loss: u32,
         net: &N,
-    ) -> Result<Happened, StepFault>
+    ) -> Result<Happened, EventFault>
         requires there { m < length self.old.members }
         requires workers { (1 ≤ workers) × (workers ≤ 16) }
         requires tries { (1 ≤ tries) × (tries ≤ 16) }
@@ -41,7 +41,7 @@ impl World {
             loss,
         );
         let Ok(counts) = fetched else {
-            return Err(StepFault::NoMemory);
+            return Err(EventFault::NoMemory);
         };
         self.attempts += counts.attempts;
         self.parts += u64::from(counts.kept.parts);

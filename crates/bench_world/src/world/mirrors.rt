@@ -4,7 +4,7 @@ ghost use Rattle.std.specs.Prelude.{slice_set, IfOk, IfErr, OnOk, OnErr};
 ghost use Rattle.group_model.specs.World.{sent_at, logs};
 ghost use Rattle.group_model.specs.Refusals.{unless_sent};
 ghost use Rattle.group_model.specs.Refusals.Refusal.{NoSuchPacket};
-ghost use Rattle.mirror_model.specs.Mirrors.{mirror_catalogue};
+ghost use Rattle.repo_mirror.specs.Mirrors.{mirror_catalogue};
 ghost use Rattle.repo_holdings.specs.Listed.{alone_catalogue};
 ghost use Rattle.repo_mirror.specs.MirrorState.{mirror_opening};
 ghost use Rattle.repo_mirror.specs.TrueMirrors.{mirror_in_group};
@@ -13,7 +13,7 @@ ghost use Rattle.bench_world.specs.MirrorFetching.{mirror_asks, mirror_gets, mir
 ghost use Rattle.bench_world.specs.Worlds.{world_of};
 
 use super::World;
-use crate::event::StepFault;
+use crate::event::{EventFault, StepFault};
 use crate::mirror_fetching::fetch_for;
 use crate::numbers::vector_of;
 use bench_net::Net;
@@ -72,7 +72,30 @@ impl World {
         Ok(number)
     }
 
-    /// A mirror is told what a sync Interest tells that was sent, by its number.
+    /// A mirror learns what a sync Interest tells that was sent, by its number. A refusal has its name.
+    pub fn mirror_learns(&mut self, i: u32, k: u32) -> Result<(), EventFault>
+        requires there { i < length self.old.mirrors }
+        ensures sent { OnOk result (unless_sent (world_of self.old) k ≡ None) }
+        ensures ok { OnOk result (self.new ≡ record self.old {
+          mirrors = slice_set self.old.mirrors i
+              (mirror_learns (sent_at (world_of self.old) k).vector (mirror_at self.old.mirrors i));
+        }) }
+        ensures unsent { (result ≡ Err EventFault.NoSuchPacket)
+            ↔ (unless_sent (world_of self.old) k ≡ Some NoSuchPacket) }
+        ensures refused { IfErr result (λ fault. (fault ≡ EventFault.NoMemory) ⊎ (fault ≡ EventFault.NoSuchPacket)) }
+        ensures err { OnErr result (self.new ≡ self.old) }
+    {
+        let Some(numbers) = self.sent.vector(k) else {
+            return Err(EventFault::NoSuchPacket);
+        };
+        let told = vector_of(self.alloc, numbers)?;
+        let mirror = &mut self.mirrors[i as usize];
+        mirror.learn(&told);
+        Ok(())
+    }
+
+    /// A mirror learns what a sync Interest tells that was sent, by its number. It is refused, by number 5, where no
+    /// such packet was sent.
     pub fn mirror_deliver(&mut self, i: u32, k: u32) -> Result<(), StepFault>
         requires there { i < length self.old.mirrors }
         ensures sent { OnOk result (unless_sent (world_of self.old) k ≡ None) }
@@ -80,18 +103,12 @@ impl World {
           mirrors = slice_set self.old.mirrors i
               (mirror_learns (sent_at (world_of self.old) k).vector (mirror_at self.old.mirrors i));
         }) }
-        ensures unsent { (result ≡ Err StepFault.NoSuchPacket)
+        ensures unsent { (result ≡ Err (StepFault.Refused 5))
             ↔ (unless_sent (world_of self.old) k ≡ Some NoSuchPacket) }
-        ensures refused { IfErr result (λ fault. (fault ≡ StepFault.NoMemory) ⊎ (fault ≡ StepFault.NoSuchPacket)) }
+        ensures refused { IfErr result (λ fault. (fault ≡ StepFault.NoMemory) ⊎ (fault ≡ StepFault.Refused 5)) }
         ensures err { OnErr result (self.new ≡ self.old) }
     {
-        let Some(numbers) = self.sent.vector(k) else {
-            return Err(StepFault::NoSuchPacket);
-        };
-        let told = vector_of(self.alloc, numbers)?;
-        let mirror = &mut self.mirrors[i as usize];
-        mirror.learn(&told);
-        Ok(())
+        Ok(self.mirror_learns(i, k)?)
     }
 
     /// A mirror asks the members for the least 4,096 parts that it wants, each so often at most: how many were asked

@@ -13,7 +13,7 @@ ghost use Rattle.bench_world.specs.Runs.{IsStep};
 ghost use Rattle.bench_world.specs.Withdrawing.{withdraw_fault};
 
 use super::World;
-use crate::event::{Happened, StepFault};
+use crate::event::{EventFault, Happened};
 use crate::numbers::numbers;
 use bench_net::Draws;
 use ndn_name::Name;
@@ -29,7 +29,7 @@ impl World {
         size: u32,
         content: &[u8],
         draws: &D,
-    ) -> Result<Happened, StepFault>
+    ) -> Result<Happened, EventFault>
         requires there { m < length self.old.members }
         requires name { IsTrue (is_object_name name.now) }
         requires size { (1 ≤ size) × (size ≤ 8000) }
@@ -40,7 +40,7 @@ impl World {
     {
         // There are few enough segments, so only memory can be wanting.
         let Ok(contents) = cut(self.alloc, content, size as usize) else {
-            return Err(StepFault::NoMemory);
+            return Err(EventFault::NoMemory);
         };
         let segments = contents.len() as u64;
         match self.publish_contents(m, name, &contents, draws) {
@@ -50,8 +50,8 @@ impl World {
                 segments,
                 sync: u64::from(sync),
             }),
-            Err(PublishRefusal::NumbersSpent { .. }) => Err(StepFault::NumbersSpent),
-            Err(PublishRefusal::NoMemory) => Err(StepFault::NoMemory),
+            Err(PublishRefusal::NumbersSpent { .. }) => Err(EventFault::NumbersSpent),
+            Err(PublishRefusal::NoMemory) => Err(EventFault::NoMemory),
         }
     }
 
@@ -101,7 +101,7 @@ impl World {
         m: u32,
         s: u32,
         draws: &D,
-    ) -> Result<Happened, StepFault>
+    ) -> Result<Happened, EventFault>
         requires there { m < length self.old.members }
         requires small { s < 65536 }
         requires few { self.old.steps < 100000 }
@@ -128,12 +128,12 @@ impl World {
 }
 
 // Why a withdrawal is not carried out.
-fn fault_of(refusal: WithdrawRefusal) -> StepFault
+fn fault_of(refusal: WithdrawRefusal) -> EventFault
     ensures { result ≡ withdraw_fault refusal }
 {
     match refusal {
-        WithdrawRefusal::NoSuchNumber { .. } => StepFault::NoSuchNumber,
-        WithdrawRefusal::NumbersSpent { .. } => StepFault::NumbersSpent,
-        WithdrawRefusal::NoMemory => StepFault::NoMemory,
+        WithdrawRefusal::NoSuchNumber { .. } => EventFault::NoSuchNumber,
+        WithdrawRefusal::NumbersSpent { .. } => EventFault::NumbersSpent,
+        WithdrawRefusal::NoMemory => EventFault::NoMemory,
     }
 }

@@ -10,7 +10,7 @@ ghost use Rattle.bench_world.specs.Sums.{totals_in, HasFewTotals};
 ghost use Rattle.bench_world.specs.EventValues.{EventValue, told_value, dump_told};
 
 use super::World;
-use crate::event::{Happened, StepFault};
+use crate::event::{EventFault, Happened};
 use repo_catalog::Entry;
 use repo_member::Member;
 use repo_plan::Part;
@@ -19,7 +19,7 @@ use svs_vector::Vector;
 
 impl World {
     /// Which numbers a member knows.
-    pub(crate) fn vector(&mut self, m: u32) -> Result<Happened, StepFault>
+    pub(crate) fn vector(&mut self, m: u32) -> Result<Happened, EventFault>
         requires there { m < length self.old.members }
         requires few { self.old.steps < 100000 }
         ensures { IsStep (keyed self.old.keys) (EventValue.Vector m) self.old result self.new }
@@ -35,7 +35,7 @@ impl World {
     }
 
     /// What a member's catalogue lists.
-    pub(crate) fn catalogue(&mut self, m: u32) -> Result<Happened, StepFault>
+    pub(crate) fn catalogue(&mut self, m: u32) -> Result<Happened, EventFault>
         requires there { m < length self.old.members }
         requires few { self.old.steps < 100000 }
         ensures { IsStep (keyed self.old.keys) (EventValue.Catalogue m) self.old result self.new }
@@ -66,7 +66,7 @@ impl World {
     }
 
     /// What all catalogues come to.
-    pub(crate) fn summary(&mut self) -> Result<Happened, StepFault>
+    pub(crate) fn summary(&mut self) -> Result<Happened, EventFault>
         requires few { self.old.steps < 100000 }
         ensures { IsStep (keyed self.old.keys) EventValue.Summary self.old result self.new }
     {
@@ -82,7 +82,7 @@ impl World {
     }
 
     /// Which octets the packet of a part has, if the member holds it.
-    pub(crate) fn dump(&mut self, m: u32, p: u32, s: u32, x: u32) -> Result<Happened, StepFault>
+    pub(crate) fn dump(&mut self, m: u32, p: u32, s: u32, x: u32) -> Result<Happened, EventFault>
         requires there { m < length self.old.members }
         requires small { (s < 65536) × (x < 65536) }
         requires few { self.old.steps < 100000 }

@@ -12,7 +12,7 @@ ghost use Rattle.bench_world.specs.Runs.{IsStep};
 
 use super::World;
 use crate::answering::{Fed, answer, feed};
-use crate::event::{Happened, StepFault};
+use crate::event::{EventFault, Happened};
 use crate::hearing::{hear_sent, told_by};
 use bench_net::Draws;
 use repo_member::{HearRefusal, Member};
@@ -31,7 +31,7 @@ impl World {
     /// A member's fetcher asks another member for what it claims.
     ///
     /// The answer is foreign where what came passes for the part and isn't its publisher's packet.
-    pub(crate) fn answer(&mut self, m: u32, f: u32, q: u32) -> Result<Happened, StepFault>
+    pub(crate) fn answer(&mut self, m: u32, f: u32, q: u32) -> Result<Happened, EventFault>
         requires there { m < length self.old.members }
         requires fetcher { IsFetcher f }
         requires other { q < length self.old.members }
@@ -49,7 +49,7 @@ impl World {
     /// Octets come as a packet of what a member's fetcher claims.
     ///
     /// They are foreign where they pass for the part and aren't its publisher's packet.
-    pub(crate) fn feed(&mut self, m: u32, f: u32, octets: &[u8]) -> Result<Happened, StepFault>
+    pub(crate) fn feed(&mut self, m: u32, f: u32, octets: &[u8]) -> Result<Happened, EventFault>
         requires there { m < length self.old.members }
         requires fetcher { IsFetcher f }
         requires few { self.old.steps < 100000 }
@@ -71,7 +71,7 @@ impl World {
     }
 
     /// What a member answers to octets as an Interest: the packet of the least part that satisfies it.
-    pub(crate) fn ask(&mut self, m: u32, octets: &[u8]) -> Result<Happened, StepFault>
+    pub(crate) fn ask(&mut self, m: u32, octets: &[u8]) -> Result<Happened, EventFault>
         requires there { m < length self.old.members }
         requires few { self.old.steps < 100000 }
         ensures { IsStep (keyed self.old.keys) (EventValue.Ask m octets.now) self.old result self.new }
@@ -89,7 +89,7 @@ impl World {
         m: u32,
         octets: &[u8],
         draws: &D,
-    ) -> Result<Happened, StepFault>
+    ) -> Result<Happened, EventFault>
         requires there { m < length self.old.members }
         requires few { self.old.steps < 100000 }
         ensures { IsStep (drawing (D.draw draws.now)) (EventValue.Hear m octets.now) self.old result self.new }
@@ -102,7 +102,7 @@ impl World {
             octets,
         ) {
             Ok(told) => told,
-            Err(HearRefusal::NoMemory) => return Err(StepFault::NoMemory),
+            Err(HearRefusal::NoMemory) => return Err(EventFault::NoMemory),
             Err(HearRefusal::Sync(refusal)) => {
                 self.count();
                 return Ok(Happened::HearRefused {

@@ -9,7 +9,7 @@ ghost use Rattle.bench_world.specs.EventValues.{EventValue};
 ghost use Rattle.bench_world.specs.Runs.{IsStep};
 
 use super::World;
-use crate::event::{Happened, StepFault};
+use crate::event::{EventFault, Happened};
 use crate::settling::{reset_all, send_all, settle_members};
 use bench_net::{Draws, Net};
 use std::alloc::AllocError;
@@ -56,7 +56,7 @@ impl World {
         workers: u32,
         net: &N,
         draws: &D,
-    ) -> Result<Happened, StepFault>
+    ) -> Result<Happened, EventFault>
         requires workers { (1 ≤ workers) × (workers ≤ 16) }
         requires few { self.old.steps < 100000 }
         ensures { IsStep (outside self.old.keys (D.draw draws.now) (N.passes net.now)) (EventValue.Settle workers)
@@ -64,7 +64,7 @@ impl World {
     {
         let syncs = self.members.len() as u64;
         let Ok(kept) = self.settle(rt, workers, net) else {
-            return Err(StepFault::NoMemory);
+            return Err(EventFault::NoMemory);
         };
         reset_all(&mut self.members, self.moment, draws);
         Ok(Happened::Settle { syncs, kept })

@@ -6,7 +6,7 @@ ghost use Rattle.bench_world.specs.EventValues.{EventValue, told_value, delivere
 ghost use Rattle.bench_world.specs.Runs.{IsStep};
 
 use super::World;
-use crate::event::{Happened, StepFault};
+use crate::event::{EventFault, Happened};
 use crate::numbers::{numbers, vector_of};
 use bench_net::{Draws, Sent};
 use repo_member::Fire;
@@ -19,13 +19,13 @@ impl World {
         k: u32,
         m: u32,
         draws: &D,
-    ) -> Result<Happened, StepFault>
+    ) -> Result<Happened, EventFault>
         requires there { m < length self.old.members }
         requires few { self.old.steps < 100000 }
         ensures { IsStep (drawing (D.draw draws.now)) (EventValue.Deliver k m) self.old result self.new }
     {
         let Some(numbers) = self.sent.vector(k) else {
-            return Err(StepFault::NoSuchPacket);
+            return Err(EventFault::NoSuchPacket);
         };
         let told = vector_of(self.alloc, numbers)?;
         let member = &mut self.members[m as usize];
@@ -38,12 +38,12 @@ impl World {
     }
 
     /// The octets of a sync Interest that was sent, by its number.
-    pub(crate) fn sync(&mut self, k: u32) -> Result<Happened, StepFault>
+    pub(crate) fn sync(&mut self, k: u32) -> Result<Happened, EventFault>
         requires few { self.old.steps < 100000 }
         ensures { IsStep (drawing (λ _ _. 0)) (EventValue.Sync k) self.old result self.new }
     {
         let Some(octets) = self.sent.octets(k) else {
-            return Err(StepFault::NoSuchPacket);
+            return Err(EventFault::NoSuchPacket);
         };
         let octets = octets.to_vec(self.alloc)?;
         self.steps += 1;
@@ -65,7 +65,7 @@ impl World {
     }
 
     /// A member's timer fires.
-    pub(crate) fn fire<D: Draws>(&mut self, m: u32, draws: &D) -> Result<Happened, StepFault>
+    pub(crate) fn fire<D: Draws>(&mut self, m: u32, draws: &D) -> Result<Happened, EventFault>
         requires there { m < length self.old.members }
         requires few { self.old.steps < 100000 }
         ensures { IsStep (drawing (D.draw draws.now)) (EventValue.Fire m) self.old result self.new }
@@ -75,7 +75,7 @@ impl World {
         let vector = numbers(self.alloc, member.vector())?;
         let draw = draws.draw(m, member.next_draw());
         let Ok(fire) = member.fire(&self.group, self.moment, draw) else {
-            return Err(StepFault::NoMemory);
+            return Err(EventFault::NoMemory);
         };
         let happened = send_fired(&mut self.sent, m, vector, fire);
         self.steps += 1;

@@ -4,10 +4,11 @@ use Rattle.repo_mirror.proofs.PublicLaws.{holder_outcomes_are_mirrors}
 use Rattle.bench_world.proofs.MirrorFetches.{many_parts}
 use Rattle.bench_world.proofs.holder.FilteringHolder.take.Goals as goal
 
-pub take_outcome-requires-clause-outcome : goal.take_outcome-requires-clause-outcome
-take_outcome-requires-clause-outcome g c =
-    holder_outcomes_are_mirrors c.args._g.now c.args.self.now.mirror c.args.jobs.now c.args.parts.now
-    c.args.attempts.now c.requires.outcome
+pub take_outcome-requires : goal.take_outcome-requires
+take_outcome-requires g c = record {
+  outcome = holder_outcomes_are_mirrors c.args._g.now c.args.self.now.mirror c.args.jobs.now c.args.parts.now
+      c.args.attempts.now c.requires.outcome;
+}
 
 pub octets_that_came-requires : goal.octets_that_came-requires
 octets_that_came-requires g c =

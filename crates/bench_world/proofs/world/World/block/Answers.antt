@@ -7,7 +7,7 @@ use Rattle.group_model.specs.Steps.{after_event, block_at, next_seq_at, next_syn
 use Rattle.repo_member.specs.declared.refusals.PublishRefusal.{PublishRefusal}
 use Rattle.repo_member.specs.declared.refusals.PublishRefusal.TheVariants.{NumbersSpent}
 use Rattle.repo_member.specs.declared.member.block.Blocked.{Blocked}
-use Rattle.bench_world.specs.declared.event.StepFault.TheVariants as fault
+use Rattle.bench_world.specs.declared.event.EventFault.TheVariants as fault
 use Rattle.bench_world.specs.EventValues.{block_told}
 use Rattle.bench_world.specs.Kept.{world_state}
 use Rattle.bench_world.specs.Steps.{IsFaultOf}

@@ -1,7 +1,7 @@
 use Rattle.std.proofs.Common.{◌<◌, length, sym, ap, ◌∙◌, subst}
 use Rattle.std.proofs.lemmas.List.{get_or_default}
 use Rattle.group_model.specs.World.{logs}
-use Rattle.mirror_model.specs.Mirrors.{mirror_catalogue}
+use Rattle.repo_mirror.specs.Mirrors.{mirror_catalogue}
 use Rattle.repo_holdings.specs.Listed.{alone_catalogue}
 use Rattle.repo_mirror.specs.MirrorState.{MirrorState}
 use Rattle.repo_mirror.specs.TrueMirrors.{mirror_in_group}
@@ -15,7 +15,7 @@ pub returns-clause-same : goal.returns-clause-same
 returns-clause-same c =
     let s = world_state c.self.inside in
     let there = subst (λ (x : GroupState). c.args.i < length x.mirrors) (sym c.self.view_is) c.requires.there in
-    c.catalogue.ensures
+    c.catalogue.ensures.whole
     ∙ ap (λ (m : MirrorState). alone_catalogue m.store)
     (c.index.ensures ∙ get_or_default s.mirrors c.args.i c.index.result.now no_mirror there)
     ∙ ap (λ (x : GroupState). alone_catalogue (mirror_at x.mirrors c.args.i).store) c.self.view_is
@@ -24,7 +24,7 @@ pub returns-clause-lists : goal.returns-clause-lists
 returns-clause-lists c =
     let s = world_state c.self.inside in
     let there = subst (λ (x : GroupState). c.args.i < length x.mirrors) (sym c.self.view_is) c.requires.there in
-    c.catalogue.ensures
+    c.catalogue.ensures.whole
     ∙ ap (λ (m : MirrorState). alone_catalogue m.store)
     (c.index.ensures ∙ get_or_default s.mirrors c.args.i c.index.result.now no_mirror there)
     ∙ mirrors_list_alike s.keys (logs_around s.members) (mirror_at s.mirrors c.args.i) c.self.invariant.are

@@ -5,7 +5,7 @@ use Rattle.group_model.specs.Refusals.{refusal}
 use Rattle.repo_member.specs.InGroup.{in_group}
 use Rattle.bench_world.specs.Serving.{outside}
 use Rattle.bench_world.specs.EventValues.{event_value, group_event}
-use Rattle.bench_world.specs.Steps.{IsReady, IsFaultOf}
+use Rattle.bench_world.specs.Steps.{IsReady, IsStepFaultOf}
 use Rattle.bench_world.specs.Runs.{event_values, IsStopped}
 use Rattle.bench_world.specs.Worlds.{world_of}
 use Rattle.bench_world.proofs.EventRuns.{taken_more, world_more, many_more, all_joined, stopped_here}
@@ -84,10 +84,10 @@ returns-in-Err-clause-stopped g c =
     let ready : IsReady (length c.args.self.now.keys.members.names) (event_value c.event-item.result) =
     subst (λ e. IsReady (length c.args.self.now.keys.members.names) (event_value e)) (sym c.event-item.is)
     (c.requires.ready i c.event-item.result inside) in
-    let because : IsFaultOf
+    let because : IsStepFaultOf
     (refusal (outside c.args.self.now.keys (g.D.Draws.draw c.args.draws.now) (g.N.Net.passes c.args.net.now))
     (world_of c.loop-event.self) (group_event c.args.self.now.keys (event_value c.event-item.result))) c.in-Err.fault =
-    subst (λ k. IsFaultOf
+    subst (λ k. IsStepFaultOf
     (refusal (outside k (g.D.Draws.draw c.args.draws.now) (g.N.Net.passes c.args.net.now)) (world_of c.loop-event.self)
     (group_event k (event_value c.event-item.result))) c.in-Err.fault) inv.keys c.in-Err.ensures.refused in
     subst

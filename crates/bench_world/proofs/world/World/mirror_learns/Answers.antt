@@ -10,7 +10,7 @@ use Rattle.bench_world.specs.Worlds.{GroupState, world_of}
 use Rattle.bench_world.specs.Kept.{world_state}
 use Rattle.bench_world.proofs.Deliveries.{there, not_refused, few_numbers, sent_is}
 use Rattle.bench_world.proofs.MirrorStates.{mirror_is, as_many_told, told_mirror}
-use Rattle.bench_world.proofs.world.World.mirror_deliver.Goals as goal
+use Rattle.bench_world.proofs.world.World.mirror_learns.Goals as goal
 
 pub vector_of-requires : goal.vector_of-requires
 vector_of-requires c =

@@ -8,7 +8,7 @@ use Rattle.bench_world.specs.Runs.{IsStep}
 use Rattle.bench_world.specs.Worlds.{GroupState, world_of}
 use Rattle.bench_world.proofs.Names.{names_all}
 use Rattle.bench_world.proofs.Stepping.{all_named}
-use Rattle.bench_world.proofs.world.World.step.Goals as goal
+use Rattle.bench_world.proofs.world.World.take_event.Goals as goal
 
 pub order_names_for-requires : goal.order_names_for-requires
 order_names_for-requires g c =
