@@ -2,16 +2,8 @@ pub mod Numerals
 pub mod Inspections
 pub mod InspectRuns
 pub mod Scripts
-pub mod Readings
 pub mod Stories
 pub mod Runs
 pub mod KnownRuns
 pub mod Stops
-pub mod Labels
-pub mod Judgings
-pub mod Progressings
-pub mod WatchLines
-pub mod MirrorWorlds
-pub mod MirrorSettles
-pub mod MirrorLines
 pub mod Ends

@@ -17,13 +17,14 @@ use Rattle.repo_io.specs.declared.status.Status.TheVariants.{Done, ReadFault, Wr
 use Rattle.script_report.specs.declared.refusal.Refusal.TheVariants.{Limit}
 use Rattle.repo_io.specs.Outside.{GainsText, GainsFront}
 use Rattle.repo_io.specs.Lines.{IsWhole, has_feed, lines}
+use Rattle.bench_world.specs.Worlds.{GroupState}
 use Rattle.script_story.specs.Judging.{Given, Verdict, foreign, refused, says, unjudged}
-use Rattle.repo_top.specs.Reading.{HasLine, LineIsBegun, IsTooLong}
+use Rattle.script_lines.specs.Reading.{HasLine, LineIsBegun, IsTooLong}
 use Rattle.script_story.specs.Story.{Reached, Story, reached_behind, behind_text, ended, judged_next, nothing_reached}
 use Rattle.script_story.specs.Story.{story_from, story_of}
 use Rattle.repo_top.specs.Taken.{FallsShortNear, IsTakenNear, LacksText, can_be_judged, end_of_line, lines_so_far}
 use Rattle.repo_top.specs.Taken.{lines_taken, report_of, report_through, taken}
-use Rattle.repo_top.specs.Carrying.{Carried, EndsIn, Finishes, IsStopping, Ran, Stops, StatusTells, Took}
+use Rattle.repo_top.specs.Carrying.{Carried, Finishes, IsStopping, LeavesWorld, Ran, Stops, StatusTells, Took}
 use Rattle.repo_io.proofs.LineLaws.{open_line, whole_first}
 use Rattle.repo_io.proofs.Outputs.{front_behind, front_so_far, front_whole, nothing_gained}
 use Rattle.repo_top.proofs.Stories.{behind_behind, first_line_story, goes_on, long_refused, no_lines, refused_story}
@@ -266,7 +267,7 @@ falls_short given (Some x) (Some y) input rest near f short =
       near = near (first.before + 1) first.lacks;
     }
 
-module _ (given : Given) (held : List ℕ) (r next : Reached) (a b d : Option (List ℕ)) (input rest : List ℕ)
+module _ (given : Given) (held : List ℕ) (r : Reached) (a b d : Option (List ℕ)) (input rest : List ℕ)
     (so_far : Carried given held r a b input rest) where
   lines_are : lines input ≡ so_far.done ++ lines (held ++ rest)
   lines_are = ap lines so_far.parts ∙ so_far.cut (held ++ rest)
@@ -338,10 +339,10 @@ front_taken given a d input [] whole part = whole
 front_taken given a d input (o ∷ os) whole part = part
 
 -- the source failed
-pub ran_unread : (Last : Story → Type 0) (given : Given) (held : List ℕ) (r : Reached) (a b : Option (List ℕ))
+pub ran_unread : (end : Option GroupState) (given : Given) (held : List ℕ) (r : Reached) (a b : Option (List ℕ))
     (input rest : List ℕ) → Carried given held r a b input rest → LineIsBegun held
-    → Ran given a b ReadFault Last input rest
-ran_unread Last given held r a b input rest so_far begun =
+    → Ran given a b ReadFault end input rest
+ran_unread end given held r a b input rest so_far begun =
     let story = story_is given held r a b input rest so_far in
     let front : GainsFront a b (story_of given input).text (ReadFault ≡ WriteFault) =
     front_so_far a b so_far.text (story_from given r (lines (held ++ rest))).text (story_of given input).text
@@ -357,23 +358,25 @@ ran_unread Last given held r a b input rest so_far begun =
     record {
       tells = record { ending = λ told. absurd told; text = λ told. absurd told; front = front };
       read_to_end = λ e. absurd cc;
-      front_of_taken = front_taken given a b input rest front
-          (front_whole a b (report_of given (lines_so_far (taken input rest))) (λ e. cc) exact);
-      near_line = λ line at. absurd at;
-      near_fault = λ e. absurd cc;
-      exact = λ e. exact;
+      lines = record {
+        front_of_taken = front_taken given a b input rest front
+            (front_whole a b (report_of given (lines_so_far (taken input rest))) (λ e. cc) exact);
+        exact_after_read_fault = λ e. exact;
+        bounded_after_refusal = λ line at. absurd at;
+        bounded_after_write_fault = λ e. absurd cc;
+      };
       last = λ e. absurd cc;
     }
 
 -- the run stopped at a line
-module _ (given : Given) (held : List ℕ) (r next : Reached) (a b d : Option (List ℕ)) (input rest : List ℕ) (count : ℕ)
+module _ (given : Given) (held : List ℕ) (r : Reached) (a b d : Option (List ℕ)) (input rest : List ℕ) (count : ℕ)
     (status : Status) (so_far : Carried given held r a b input rest) (h : HasLine count held)
     (few : length held ≤ 65536) (stops : Stops given r (take count held) b d status) where
   never : (other : Status) → (IsStopping other → ⊥) → status ≡ other → ⊥
   never other not_so e = not_so (subst IsStopping e stops.stops)
 
-  pub ran_stopped : (Last : Story → Type 0) → Ran given a d status Last input rest
-  ran_stopped Last =
+  pub ran_stopped : (end : Option GroupState) → Ran given a d status end input rest
+  ran_stopped end =
       let line = take count held in
       let behind_line = lines (drop count held ++ rest) in
       let story : story_of given input ≡ behind_text so_far.text (story_from given r (line ∷ behind_line)) =
@@ -387,20 +390,23 @@ module _ (given : Given) (held : List ℕ) (r next : Reached) (a b d : Option (L
       record {
         tells = tells;
         read_to_end = λ e. absurd (never Done (λ x. x) e);
-        front_of_taken = front_taken given a d input rest tells.front
-            (front_so_far_is given held r next a b d input rest so_far (line ∷ first.others) first.are fronts.front);
-        near_line = λ n at. near given held r next a b d input rest so_far n (omega (arith, stops.at n at)) few;
-        near_fault = falls_short given a d input rest (near_fault given held r next a b d input rest so_far
-            (story_from given r (line ∷ behind_line)).text (stops.tells behind_line).front few) tells.front;
-        exact = λ e. absurd (never ReadFault (λ x. x) e);
+        lines = record {
+          front_of_taken = front_taken given a d input rest tells.front
+              (front_so_far_is given held r a b d input rest so_far (line ∷ first.others) first.are fronts.front);
+          exact_after_read_fault = λ e. absurd (never ReadFault (λ x. x) e);
+          bounded_after_refusal = λ n at. near given held r a b d input rest so_far n
+              (omega (arith, stops.at n at)) few;
+          bounded_after_write_fault = falls_short given a d input rest (near_fault given held r a b d input rest so_far
+              (story_from given r (line ∷ behind_line)).text (stops.tells behind_line).front few) tells.front;
+        };
         last = λ e. absurd (never Done (λ x. x) e);
       }
 
 -- the run came to the end of its input
-pub ran_finished : (given : Given) (held : List ℕ) (r next : Reached) (a b d : Option (List ℕ)) (input rest : List ℕ)
-    (status : Status) → Carried given held r a b input rest → rest ≡ [] → length held ≤ 65536
-    → Finishes given r (lines held) next b d status → Ran given a d status (EndsIn next.state) input rest
-ran_finished given held r next a b d input rest status so_far none few f =
+pub ran_finished : (given : Given) (held : List ℕ) (r : Reached) (a b d : Option (List ℕ)) (input rest : List ℕ)
+    (end : Option GroupState) (status : Status) → Carried given held r a b input rest → rest ≡ []
+    → length held ≤ 65536 → Finishes given r (lines held) end b d status → Ran given a d status end input rest
+ran_finished given held r a b d input rest end status so_far none few f =
     let story : story_of given input ≡ behind_text so_far.text (story_from given r (lines held)) =
     story_is given held r a b input rest so_far ∙ ap (λ (t : List ℕ).
     behind_text so_far.text (story_from given r (lines t)))
@@ -411,27 +417,26 @@ ran_finished given held r next a b d input rest status so_far none few f =
     record {
       tells = tells;
       read_to_end = λ e. none;
-      front_of_taken = subst (λ (t : List ℕ). GainsFront a d (report_of given (lines_taken input t))
-          (status ≡ WriteFault)) (sym none) tells.front;
-      near_line = λ n at. near given held r next a b d input rest so_far n (omega (arith, f.at n at)) few;
-      near_fault = falls_short given a d input rest (near_fault given held r next a b d input rest so_far
-          (story_from given r (lines held)).text f.tells.front few) tells.front;
-      exact = λ e. absurd (f.read e);
+      lines = record {
+        front_of_taken = subst (λ (t : List ℕ). GainsFront a d (report_of given (lines_taken input t))
+            (status ≡ WriteFault)) (sym none) tells.front;
+        exact_after_read_fault = λ e. absurd (f.read e);
+        bounded_after_refusal = λ n at. near given held r a b d input rest so_far n (omega (arith, f.at n at)) few;
+        bounded_after_write_fault = falls_short given a d input rest (near_fault given held r a b d input rest so_far
+            (story_from given r (lines held)).text f.tells.front few) tells.front;
+      };
       last = λ e. let ends = f.last e in
-          record {
-            keys = ap (λ (s : Story). s.keys) story ∙ ends.keys;
-            world = ap (λ (s : Story). s.world) story ∙ ends.world;
-            mirrors = ap (λ (s : Story). s.mirrors) story ∙ ends.mirrors;
-          };
+          subst (LeavesWorld end) (sym story)
+          (record { world = ends.world; keys = ends.keys; mirrors = ends.mirrors });
     }
 
 -- ---- the last line
 
-pub finishes_none : (given : Given) (r : Reached) (a : Option (List ℕ)) (last : List ℕ) → last ≡ []
-    → Finishes given r (lines last) r a a Done
+pub finishes_none : (given : Given) (r : Reached) (a : Option (List ℕ)) (last : List ℕ) (end : Option GroupState)
+    → last ≡ [] → LeavesWorld end (ended r.state [] ending.Done) → Finishes given r (lines last) end a a Done
 unfolding lines
-finishes_none given r a last none =
-    let F : List ℕ → Type 0 = λ t. Finishes given r (lines t) r a a Done in
+finishes_none given r a last end none leaves =
+    let F : List ℕ → Type 0 = λ t. Finishes given r (lines t) end a a Done in
     let ends = no_lines given r in
     let T : Story → Type 0 = λ s. StatusTells s a a Done in
     subst F (sym none) (record {
@@ -442,20 +447,17 @@ finishes_none given r a last none =
       });
       at = λ number at. absurd at;
       read = λ e. cc;
-      last = λ e. record {
-        keys = ap (λ (s : Story). s.keys) ends;
-        world = ap (λ (s : Story). s.world) ends;
-        mirrors = ap (λ (s : Story). s.mirrors) ends;
-      };
+      last = λ e. subst (LeavesWorld end) (sym ends) leaves;
     })
 
-module _ (given : Given) (r next : Reached) (a b : Option (List ℕ)) (last : List ℕ) (some : last ≢ [])
-    (begun : LineIsBegun last) where
+module _ (given : Given) (r : Reached) (a b : Option (List ℕ)) (last : List ℕ) (end : Option GroupState)
+    (some : last ≢ []) (begun : LineIsBegun last) where
   one_line : lines last ≡ last ∷ []
   one_line = open_line last some begun.free
 
-  pub finishes_line : Took given r last next a b → Finishes given r (lines last) next a b Done
-  finishes_line took =
+  pub finishes_line : (next : Reached) → Took given r last next a b → LeavesWorld end (ended next.state [] ending.Done)
+      → Finishes given r (lines last) end a b Done
+  finishes_line next took leaves =
       let story : story_from given r (lines last) ≡ behind_text took.report (ended next.state [] ending.Done) =
       ap (story_from given r) one_line ∙ goes_on given r last next a b took []
       ∙ ap (behind_text took.report) (no_lines given next) in
@@ -470,15 +472,12 @@ module _ (given : Given) (r next : Reached) (a b : Option (List ℕ)) (last : Li
         });
         at = λ number at. absurd at;
         read = λ e. cc;
-        last = λ e. record {
-          keys = ap (λ (s : Story). s.keys) story;
-          world = ap (λ (s : Story). s.world) story;
-          mirrors = ap (λ (s : Story). s.mirrors) story;
-        };
+        last = λ e. subst (LeavesWorld end) (sym story)
+            (record { world = leaves.world; keys = leaves.keys; mirrors = leaves.mirrors });
       }
 
   pub finishes_stopped : (status : Status) → Stops given r last a b status
-      → Finishes given r (lines last) next a b status
+      → Finishes given r (lines last) end a b status
   finishes_stopped status stops =
       let never : (other : Status) → (IsStopping other → ⊥) → status ≡ other
       → ⊥ = λ other not_so e. not_so (subst IsStopping e stops.stops) in

@@ -3,16 +3,17 @@ use Rattle.std.proofs.Common.{◌≡◌, ℕ, ◌+◌, ◌<◌, List, [], ◌∷
 use Rattle.repo_io.specs.declared.status.Status.{Status}
 use Rattle.repo_io.specs.declared.status.Status.TheVariants.{Done, Usage, Refused, ReadFault, WriteFault, NoMemory}
 use Rattle.repo_io.specs.declared.status.Status.TheVariants.{Foreign}
-use Rattle.repo_top.specs.declared.stop.Stop.{Stop}
-use Rattle.repo_top.specs.declared.stop.Stop.TheVariants as stop
+use Rattle.script_lines.specs.declared.stop.Stop.{Stop}
+use Rattle.script_lines.specs.declared.stop.Stop.TheVariants as stop
 use Rattle.repo_io.specs.Outside.{GainsText, GainsFront}
 use Rattle.script_story.specs.Judging.{Given, State, says}
-use Rattle.repo_top.specs.Progressing.{IsStop}
+use Rattle.script_lines.specs.Progressing.{IsStop}
 use Rattle.script_story.specs.Story.{Reached, Story, reached_behind, judged_next, story_from}
 use Rattle.repo_io.specs.Statuses.{IsTold}
 use Rattle.script_story.specs.Answers.{status_of}
 use Rattle.repo_top.specs.Taken.{IsStoppedAt}
-use Rattle.repo_top.specs.Carrying.{Halts, Stops, StatusTells, stop_status, stop_text}
+use Rattle.script_lines.specs.Stopping.{stop_status, stop_text}
+use Rattle.repo_top.specs.Carrying.{Halts, Stops, StatusTells}
 use Rattle.repo_io.proofs.Outputs.{front_longer, front_taken}
 use Rattle.repo_top.proofs.Stories.{refused_story, stop_tells}
 

@@ -9,17 +9,18 @@ use Rattle.script_lang.specs.declared.line_fault.LineFault.TheVariants as line_f
 use Rattle.script_lang.specs.Lines.{ends_with, line_of, without_last_octet}
 use Rattle.script_story.specs.declared.ending.Ending.TheVariants.{Done, Refused}
 use Rattle.script_report.specs.declared.refusal.Refusal.TheVariants.{Limit}
-use Rattle.repo_top.specs.declared.stop.Stop.{Stop}
-use Rattle.repo_top.specs.declared.stop.Stop.TheVariants as stop
+use Rattle.script_lines.specs.declared.stop.Stop.{Stop}
+use Rattle.script_lines.specs.declared.stop.Stop.TheVariants as stop
 use Rattle.script_story.specs.Judging.{Given, Verdict, judged, refused}
-use Rattle.repo_top.specs.Progressing.{IsStop}
+use Rattle.script_lines.specs.Progressing.{IsStop}
 use Rattle.script_report.specs.Refusals.{refusal_text}
 use Rattle.script_story.specs.Answers.{status_of}
 use Rattle.repo_io.specs.Lines.{IsWhole, has_feed, lines}
-use Rattle.repo_top.specs.Reading.{HasLine, IsTooLong}
+use Rattle.script_lines.specs.Reading.{HasLine, IsTooLong}
 use Rattle.script_story.specs.Story.{Reached, Story, behind_text, ended, is_within_script, judged_next, story_from}
 use Rattle.script_story.specs.Story.{story_of_line}
-use Rattle.repo_top.specs.Carrying.{Took, stop_status, stop_text}
+use Rattle.script_lines.specs.Stopping.{stop_status, stop_text}
+use Rattle.repo_top.specs.Carrying.{Took}
 use Rattle.repo_io.proofs.LineLaws.{long_line, whole_first}
 
 pub behind_behind : (x y : List ℕ) (s : Story) → behind_text x (behind_text y s) ≡ behind_text (x ++ y) s

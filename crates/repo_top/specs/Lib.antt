@@ -4,11 +4,9 @@ pub use Rattle.repo_io.specs.Lines
 pub use Rattle.repo_io.specs.Statuses
 pub use Rattle.script_report.specs.Labels
 pub mod Words
-pub mod Stopping
-pub mod Progressing
 pub mod Taken
-pub mod Reading
 pub mod Carrying
 pub mod Inspection
 pub mod Generator
 pub mod Forms
+pub mod Outcomes

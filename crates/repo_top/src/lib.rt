@@ -4,23 +4,14 @@
 //! What is promised of it: `docs/promises/repo_top.md`.
 #![tactic(auto)]
 
-mod accepting;
 mod asked;
 mod generator;
 mod inspection;
 mod laws;
-mod line_reader;
-mod progress;
 mod running;
-mod said;
-mod script;
-mod stop;
-mod telling;
 mod top;
 mod words;
 
 pub use laws::{small_inspections, small_scripts};
-pub use repo_io::{
-    Failed, ReadSource, Sink, Source, Status, VecSink, VecSource, WriteSink, lines_are_the_input,
-};
+pub use repo_io::{Failed, ReadSource, Sink, Source, Status, VecSink, VecSource, WriteSink};
 pub use top::run;

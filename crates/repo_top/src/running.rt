@@ -1,16 +1,15 @@
-ghost use Rattle.std.specs.Prelude.{◌≡◌, ◌≢◌, [], None};
+ghost use Rattle.std.specs.Prelude.{◌≡◌, ◌≢◌, ◌≤◌, [], None, Err, IfErr, IfOk};
 ghost use Rattle.repo_io.specs.Outside.{HasRisen};
-ghost use Rattle.script_story.specs.Judging.{given_by};
 ghost use Rattle.repo_io.specs.Lines.{lines};
-ghost use Rattle.script_story.specs.Story.{nothing_reached};
-ghost use Rattle.repo_top.specs.Reading.{LineIsBegun};
-ghost use Rattle.repo_top.specs.Carrying.{EndsIn, Finishes, IsScript, Known, LeavesWorld, Leaving, Ran, reached};
+ghost use Rattle.script_story.specs.Judging.{given_by};
+ghost use Rattle.script_lines.specs.Reading.{LineIsBegun};
+ghost use Rattle.script_lines.specs.Scripts.{IsScript, reached};
+ghost use Rattle.repo_top.specs.Carrying.{Finishes, Halts, Known, Ran, Stops, Took};
 
-use crate::line_reader::{LineReader, Next};
-use crate::script::Script;
 use bench_net::{Draws, Net};
 use bench_world::World;
-use repo_io::{Sink, Source, Status};
+use repo_io::{Sink, Source, Status, write_whole};
+use script_lines::{LineReader, Next, Script, Stop, put_stop};
 use std::alloc::Global;
 use std::thread::Threads;
 
@@ -26,8 +25,7 @@ pub(crate) fn run_script<R: Threads + Sync, S: Source, K: Sink, N: Net + Sync, D
 ) -> Status
     requires { end.old ≡ None }
     ensures ran { Known (S.left source.old) (S.left source.new)
-        (Ran (given_by (D.draw draws.now) (N.passes net.now)) (K.out sink.old) (K.out sink.new) result
-        (LeavesWorld end.new)) }
+        (Ran (given_by (D.draw draws.now) (N.passes net.now)) (K.out sink.old) (K.out sink.new) result end.new) }
     ensures no_world { result ≢ Status.Done → end.new ≡ None }
     ensures read_fault { result ≡ Status.ReadFault
         → HasRisen (S.faults source.old) (S.faults source.new) }
@@ -38,81 +36,127 @@ pub(crate) fn run_script<R: Threads + Sync, S: Source, K: Sink, N: Net + Sync, D
     let Ok(mut reader) = LineReader::new(alloc) else {
         return Status::NoMemory;
     };
-    let mut script = Script::new(alloc);
-    let status = run_lines(rt, &mut reader, &mut script, source, sink, net, draws);
-    leave_world(script, status, end);
-    status
-}
-
-// Leaves the world of a script that is done.
-fn leave_world(script: Script, status: Status, end: &mut Option<World>)
-    ensures done { status ≡ Status.Done → Leaving (reached script).state end.new }
-    ensures other { status ≢ Status.Done → end.new ≡ end.old }
-{
-    if let Status::Done = status {
-        *end = script.into_world();
-    }
+    run_lines(rt, alloc, &mut reader, source, sink, net, draws, end)
 }
 
 // Carries out one line after another, each before more is read than stands in the reader's room.
 fn run_lines<R: Threads + Sync, S: Source, K: Sink, N: Net + Sync, D: Draws>(
     rt: &R,
+    alloc: Global,
     reader: &mut LineReader,
-    script: &mut Script,
     source: &mut S,
     sink: &mut K,
     net: &N,
     draws: &D,
+    end: &mut Option<World>,
 ) -> Status
     requires empty { reader.old ≡ [] }
-    requires begins { reached script.old ≡ nothing_reached }
-    requires is { IsScript script.old }
+    requires none { end.old ≡ None }
     ensures ran { Known (S.left source.old) (S.left source.new)
-        (Ran (given_by (D.draw draws.now) (N.passes net.now)) (K.out sink.old) (K.out sink.new) result
-        (EndsIn (reached script.new).state)) }
+        (Ran (given_by (D.draw draws.now) (N.passes net.now)) (K.out sink.old) (K.out sink.new) result end.new) }
+    ensures no_world { result ≢ Status.Done → end.new ≡ None }
     ensures read_fault { result ≡ Status.ReadFault
         → HasRisen (S.faults source.old) (S.faults source.new) }
     ensures write_fault { result ≡ Status.WriteFault
         → HasRisen (K.faults sink.old) (K.faults sink.new) }
     ensures never_usage { result ≢ Status.Usage }
 {
+    let mut script = Script::new(alloc);
+    let mut report = Vec::new(alloc);
     loop {
         match reader.next(source) {
             Ok(Next::Line(count)) => {
                 let line = reader.front(count);
-                if let Err(status) = script.carry_out(rt, line, sink, net, draws) {
-                    return status;
-                }
+                script = match carry_out(rt, script, line, &mut report, sink, net, draws) {
+                    Ok(next) => next,
+                    Err(status) => return status,
+                };
                 reader.pass(count);
             }
-            Ok(Next::Last) => return run_last(rt, script, reader.held(), sink, net, draws),
+            Ok(Next::Last) => {
+                let line = reader.held();
+                return run_last(rt, script, line, &mut report, sink, net, draws, end);
+            }
             Err(_) => return Status::ReadFault,
         }
     }
 }
 
-// Carries out the last line, if there is one.
+// Carries out the last line, if there is one, and leaves the world.
 fn run_last<R: Threads + Sync, K: Sink, N: Net + Sync, D: Draws>(
     rt: &R,
-    script: &mut Script,
+    script: Script,
     line: &[u8],
+    report: &mut Vec<u8>,
     sink: &mut K,
     net: &N,
     draws: &D,
+    end: &mut Option<World>,
 ) -> Status
-    requires is { IsScript script.old }
+    requires is { IsScript script }
     requires last { LineIsBegun line.now }
-    ensures finishes { Finishes (given_by (D.draw draws.now) (N.passes net.now)) (reached script.old)
-        (lines line.now) (reached script.new) (K.out sink.old) (K.out sink.new) result }
+    ensures finishes { Finishes (given_by (D.draw draws.now) (N.passes net.now)) (reached script) (lines line.now)
+        end.new (K.out sink.old) (K.out sink.new) result }
+    ensures no_world { result ≢ Status.Done → end.new ≡ end.old }
     ensures write_fault { result ≡ Status.WriteFault
         → HasRisen (K.faults sink.old) (K.faults sink.new) }
     ensures never_usage { result ≢ Status.Usage }
 {
     if line.is_empty() {
+        *end = script.into_world();
         return Status::Done;
     }
-    match script.carry_out(rt, line, sink, net, draws) {
-        Ok(()) => Status::Done,
+    match carry_out(rt, script, line, report, sink, net, draws) {
+        Ok(next) => {
+            *end = next.into_world();
+            Status::Done
+        }
         Err(status) => status,
+    }
+}
+
+// Carries out the next line, its line feed with it, and writes its report. Where the run stops at the line, what says
+// so is written instead.
+fn carry_out<R: Threads + Sync, K: Sink, N: Net + Sync, D: Draws>(
+    rt: &R,
+    script: Script,
+    line: &[u8],
+    report: &mut Vec<u8>,
+    sink: &mut K,
+    net: &N,
+    draws: &D,
+) -> Result<Script, Status>
+    requires { IsScript script }
+    ensures took { IfOk result (λ next. Took (given_by (D.draw draws.now) (N.passes net.now)) (reached script)
+        line.now (reached next) (K.out sink.old) (K.out sink.new)) }
+    ensures is { IfOk result IsScript }
+    ensures stops { IfErr result (Stops (given_by (D.draw draws.now) (N.passes net.now)) (reached script) line.now
+        (K.out sink.old) (K.out sink.new)) }
+    ensures risen { result ≡ Err Status.WriteFault
+        → HasRisen (K.faults sink.old) (K.faults sink.new) }
+    ensures faults { K.faults sink.old ≤ K.faults sink.new }
+{
+    let number = script.next_line();
+    match script.take(rt, line, report, net, draws) {
+        Ok(next) => match write_whole(sink, report) {
+            Ok(()) => Ok(next),
+            Err(_) => Err(Status::WriteFault),
+        },
+        Err(stop) => Err(write_stop(report, number, stop, sink)),
+    }
+}
+
+// Writes why the run stops at the line of this number.
+fn write_stop<K: Sink>(report: &mut Vec<u8>, line: u32, stop: Stop, sink: &mut K) -> Status
+    ensures halts { Halts line stop (K.out sink.old) (K.out sink.new) result }
+    ensures risen { result ≡ Status.WriteFault → HasRisen (K.faults sink.old) (K.faults sink.new) }
+    ensures faults { K.faults sink.old ≤ K.faults sink.new }
+{
+    let Ok(status) = put_stop(report, line, stop) else {
+        return Status::NoMemory;
+    };
+    match write_whole(sink, report) {
+        Ok(()) => status,
+        Err(_) => Status::WriteFault,
     }
 }

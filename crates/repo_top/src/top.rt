@@ -1,16 +1,14 @@
-ghost use Rattle.std.specs.Prelude.{◌≡◌, ◌≢◌, ◌↔◌, ◌⊎◌, ◌<◌, ℕ, [], None, Some, IfOk, IfSome, map, string_bytes};
+ghost use Rattle.std.specs.Prelude.{◌≡◌, ◌≢◌, ◌⊎◌, ◌<◌, ℕ, [], None, Some, IfSome, map, string_bytes};
 ghost use Rattle.std.specs.Option.{option_map};
-ghost use Rattle.bench_world.specs.Worlds.{world_of};
+ghost use Rattle.repo_io.specs.Outside.{GainsText, GainsFront, HasRisen};
 ghost use Rattle.repo_io.specs.Statuses.{IsTold};
 ghost use Rattle.script_story.specs.Answers.{status_of};
-ghost use Rattle.repo_top.specs.Forms.{IsGenerated, IsInspected, InputIsRead, IsRun, asked_of, asked_story};
+ghost use Rattle.script_story.specs.Judging.{given_by};
+ghost use Rattle.repo_top.specs.Carrying.{Known, WritesLines};
+ghost use Rattle.repo_top.specs.Forms.{IsRun, asked_of, asked_story};
 ghost use Rattle.repo_top.specs.Generator.{gen_text};
 ghost use Rattle.repo_top.specs.Inspection.{inspect_story};
-ghost use Rattle.script_story.specs.Judging.{given_by};
-ghost use Rattle.script_story.specs.Mirrors.{mirror_as};
-ghost use Rattle.repo_io.specs.Outside.{GainsText, GainsFront, HasRisen};
-ghost use Rattle.repo_top.specs.Taken.{FallsShortNear, IsStoppedAt, IsTakenNear, lines_so_far, lines_taken, report_of};
-ghost use Rattle.repo_top.specs.Taken.{taken};
+ghost use Rattle.repo_top.specs.Outcomes.{HasCause, LeavesLast, ReadsInput, ReportsStory, UsageIsOfWords};
 
 use crate::asked::{Asked, asked_of};
 use crate::generator::{Measures, Unwritten, write_script};
@@ -40,83 +38,34 @@ pub fn run<R: Threads + Sync, S: Source, K: Sink, N: Net + Sync, D: Draws>(
 ) -> Status
     requires { end.old ≡ None }
 
-    // The words alone decide on `Usage`. Then nothing is read or written.
-    ensures usage { (result ≡ Status.Usage) ↔ (asked_of (map string_bytes words.now) ≡ None) }
-    ensures untouched { result ≡ Status.Usage → (source.new ≡ source.old) × (sink.new ≡ sink.old) }
+    // `Usage` comes exactly where the words are no form, and then nothing is read or written.
+    ensures usage { UsageIsOfWords (asked_of (map string_bytes words.now)) result
+        (source.new ≡ source.old) (sink.new ≡ sink.old) }
 
     // On `Done`, `Refused` and `Foreign` the status is the end of the story that the words ask for, and what was
-    // written is its text.
-    ensures end { IsTold result
-        → IfSome (asked_story (given_by (D.draw draws.now) (N.passes net.now))
-        (asked_of (map string_bytes words.now)) (S.left source.old))
-        (λ story. result ≡ status_of story.ending) }
-    ensures text { IsTold result
-        → IfSome (asked_story (given_by (D.draw draws.now) (N.passes net.now))
-        (asked_of (map string_bytes words.now)) (S.left source.old))
-        (λ story. GainsText (K.out sink.old) (K.out sink.new) story.text) }
-    ensures read_to_end { result ≡ Status.Done → InputIsRead (asked_of (map string_bytes words.now))
-        → IfSome (S.left source.old) (λ input. S.left source.new ≡ Some []) }
+    // written is its text. Whatever comes, it is a prefix of that text.
+    ensures story { ReportsStory (asked_story (given_by (D.draw draws.now) (N.passes net.now))
+        (asked_of (map string_bytes words.now)) (S.left source.old)) (K.out sink.old) (K.out sink.new) result }
+
+    // A form that reads and is done has read its input to the end. `gen` reads nothing.
+    ensures input { ReadsInput (asked_of (map string_bytes words.now)) (S.left source.old) (S.left source.new) result
+        (source.new ≡ source.old) (sink.new ≡ sink.old) }
 
     // On `Done` the world that is left is the story's, with its mirrors, and there is none in any other case.
-    ensures world { result ≡ Status.Done
-        → IfSome (asked_story (given_by (D.draw draws.now) (N.passes net.now))
-        (asked_of (map string_bytes words.now)) (S.left source.old))
-        (λ story. option_map world_of end.new ≡ story.world) }
-    ensures keys { result ≡ Status.Done
-        → IfSome (asked_story (given_by (D.draw draws.now) (N.passes net.now))
-        (asked_of (map string_bytes words.now)) (S.left source.old))
-        (λ story. IfSome end.new (λ world. world.keys ≡ story.keys)) }
-    ensures mirrors { result ≡ Status.Done
-        → IfSome (asked_story (given_by (D.draw draws.now) (N.passes net.now))
-        (asked_of (map string_bytes words.now)) (S.left source.old))
-        (λ story. IfSome end.new (λ world. map mirror_as world.mirrors ≡ story.mirrors)) }
-    ensures no_world { (result ≢ Status.Done) ⊎ ¬ IsRun (asked_of (map string_bytes words.now))
-        → end.new ≡ None }
+    ensures world { LeavesLast (asked_of (map string_bytes words.now))
+        (asked_story (given_by (D.draw draws.now) (N.passes net.now)) (asked_of (map string_bytes words.now))
+        (S.left source.old)) result end.new }
 
-    // `gen` reads nothing, and answers Done unless the sink fails or memory runs out.
-    ensures unread { IsGenerated (asked_of (map string_bytes words.now)) → source.new ≡ source.old }
-    ensures generated { IsGenerated (asked_of (map string_bytes words.now))
-        → (result ≡ Status.Done) ⊎ ((result ≡ Status.NoMemory) ⊎ (result ≡ Status.WriteFault)) }
+    // The other answers have their causes. Memory may run out at any time.
+    ensures causes { HasCause (asked_of (map string_bytes words.now))
+        (asked_story (given_by (D.draw draws.now) (N.passes net.now)) (asked_of (map string_bytes words.now))
+        (S.left source.old)) result (HasRisen (S.faults source.old) (S.faults source.new))
+        (HasRisen (K.faults sink.old) (K.faults sink.new)) }
 
-    // The other answers have their causes; want of memory may come at any time. Whatever comes, what was written is a
-    // front of the story's text, and after `WriteFault` not the whole of it.
-    ensures read_fault { result ≡ Status.ReadFault
-        → HasRisen (S.faults source.old) (S.faults source.new) }
-    ensures write_fault { result ≡ Status.WriteFault
-        → HasRisen (K.faults sink.old) (K.faults sink.new) }
-    ensures foreign { (line : ℕ) → result ≡ Status.Foreign line
-        → IsRun (asked_of (map string_bytes words.now)) }
-    ensures front { IfSome (asked_story (given_by (D.draw draws.now) (N.passes net.now))
-        (asked_of (map string_bytes words.now)) (S.left source.old))
-        (λ story. GainsFront (K.out sink.old) (K.out sink.new) story.text (result ≡ Status.WriteFault)) }
-    ensures unwritten { IsInspected (asked_of (map string_bytes words.now))
-        → result ≡ Status.ReadFault → sink.new ≡ sink.old }
-    ensures complete { ¬ HasRisen (S.faults source.old) (S.faults source.new)
-        → ¬ HasRisen (K.faults sink.old) (K.faults sink.new)
-        → IfSome (asked_story (given_by (D.draw draws.now) (N.passes net.now))
-        (asked_of (map string_bytes words.now)) (S.left source.old))
-        (λ story. (result ≡ status_of story.ending) ⊎ (result ≡ Status.NoMemory)) }
-
-    // A script is carried out line by line. Whatever comes, what was written is a front of what is reported of the
-    // lines that were taken whole: after `ReadFault` it is all of that, and after `WriteFault` it is not.
-    ensures front_of_taken { IsRun (asked_of (map string_bytes words.now)) → IfSome (S.left source.old)
-        (λ input. IfSome (S.left source.new) (λ rest. GainsFront (K.out sink.old) (K.out sink.new)
-        (report_of (given_by (D.draw draws.now) (N.passes net.now)) (lines_taken input rest))
-        (result ≡ Status.WriteFault))) }
-    ensures exact_after_read_fault { IsRun (asked_of (map string_bytes words.now))
-        → result ≡ Status.ReadFault → IfSome (S.left source.old)
-        (λ input. IfSome (S.left source.new) (λ rest. GainsText (K.out sink.old) (K.out sink.new)
-        (report_of (given_by (D.draw draws.now) (N.passes net.now)) (lines_so_far (taken input rest))))) }
-
-    // At most 65,536 octets are taken past the end of the line that is refused or foreign, and after `WriteFault` past
-    // the end of the line of whose report the first octet is that was not written.
-    ensures bounded_after_refusal { IsRun (asked_of (map string_bytes words.now)) → (line : ℕ)
-        → IsStoppedAt result line → IfSome (S.left source.old) (λ input. IfSome (S.left source.new)
-        (λ rest. IsTakenNear line input rest)) }
-    ensures bounded_after_write_fault { IsRun (asked_of (map string_bytes words.now))
-        → result ≡ Status.WriteFault → IfSome (S.left source.old) (λ input. IfSome (S.left source.new)
-        (λ rest. IfSome (K.out sink.old) (λ _. FallsShortNear (given_by (D.draw draws.now) (N.passes net.now))
-        (K.out sink.old) (K.out sink.new) input rest))) }
+    // A script is carried out line by line: each report is written before the next line is carried out, and little is
+    // read past the line at which the run stops.
+    ensures lines { IsRun (asked_of (map string_bytes words.now)) → Known (S.left source.old) (S.left source.new)
+        (WritesLines (given_by (D.draw draws.now) (N.passes net.now)) (K.out sink.old) (K.out sink.new) result) }
 {
     match asked_of(words) {
         Some(Asked::Run) => run_script(rt, alloc, source, sink, net, draws, end),
@@ -152,12 +101,10 @@ fn inspect<S: Source, K: Sink>(alloc: Global, source: &mut S, sink: &mut K) -> S
     ensures read_to_end { result ≡ Status.Done
         → IfSome (S.left source.old) (λ input. S.left source.new ≡ Some []) }
     ensures read_fault { result ≡ Status.ReadFault
-        → HasRisen (S.faults source.old) (S.faults source.new) }
-    ensures unwritten { result ≡ Status.ReadFault → sink.new ≡ sink.old }
+        → HasRisen (S.faults source.old) (S.faults source.new) × (sink.new ≡ sink.old) }
     ensures write_fault { result ≡ Status.WriteFault
         → HasRisen (K.faults sink.old) (K.faults sink.new) }
-    ensures never_foreign { (line : ℕ) → result ≢ Status.Foreign line }
-    ensures never_usage { result ≢ Status.Usage }
+    ensures never { ((line : ℕ) → result ≢ Status.Foreign line) × (result ≢ Status.Usage) }
     ensures front { IfSome (option_map inspect_story (S.left source.old))
         (λ story. GainsFront (K.out sink.old) (K.out sink.new) story.text (result ≡ Status.WriteFault)) }
     ensures complete { ¬ HasRisen (S.faults source.old) (S.faults source.new)

@@ -12,7 +12,7 @@ use Rattle.group_model.specs.Publications.{join_of}
 use Rattle.group_model.specs.World.{World, logs}
 use Rattle.group_model.specs.Steps.{after_event}
 use Rattle.group_model.specs.Laws.{NothingHidden}
-use Rattle.mirror_model.specs.Mirrors.{is_entry_accepted}
+use Rattle.repo_mirror.specs.Mirrors.{is_entry_accepted}
 use Rattle.bench_world.specs.EventValues.{EventValue, group_event}
 use Rattle.script_story.specs.Mirrors.{Mirroring, mirror_of, mirror_settles, mirrored_entries}
 use Rattle.script_story.specs.MirrorLaws.{ListsOfMirror, MirrorsAreListed, MirrorsListTheirJoin}

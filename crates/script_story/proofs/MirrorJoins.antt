@@ -23,10 +23,10 @@ use Rattle.group_model.specs.Laws.{NothingHidden}
 use Rattle.group_model.proofs.Lists.{all_in, in_at, same_any, same_filter}
 use Rattle.group_model.proofs.Parts.{IsIn, IsPartOf, from_parts_in, in_published, publisher_within}
 use Rattle.group_model.proofs.Settles.{someone, told_by}
-use Rattle.mirror_model.specs.Asked.{is_kept, is_kept_post}
-use Rattle.mirror_model.specs.Mirrors.{is_entry_accepted}
-use Rattle.mirror_model.proofs.Joins.{both_filters}
-use Rattle.mirror_model.proofs.Lists.{kept_object}
+use Rattle.repo_mirror.specs.Asked.{is_kept, is_kept_post}
+use Rattle.repo_mirror.specs.Mirrors.{is_entry_accepted}
+use Rattle.repo_mirror.proofs.Joins.{both_filters}
+use Rattle.repo_mirror.proofs.Lists.{kept_object}
 use Rattle.script_story.specs.Mirrors.{Mirroring, comes_to, is_listed_by, is_withdrawn_to, mirror_settles}
 use Rattle.script_story.specs.Mirrors.{mirrored_entries}
 

@@ -12,7 +12,7 @@ use Rattle.repo_catalog.specs.declared.entry.Entry.{Entry}
 use Rattle.group_model.specs.Publications.{join_of}
 use Rattle.group_model.specs.Laws.{NothingHidden}
 use Rattle.group_model.specs.World.{logs}
-use Rattle.mirror_model.specs.Mirrors.{is_entry_accepted}
+use Rattle.repo_mirror.specs.Mirrors.{is_entry_accepted}
 use Rattle.script_story.specs.Mirrors.{Mirroring, mirror_of, mirrored_entries}
 use Rattle.script_story.specs.ToldTexts.{listing_text}
 use Rattle.script_story.specs.Judging.{Given}

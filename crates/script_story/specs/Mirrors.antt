@@ -17,8 +17,8 @@ use Rattle.group_model.specs.Publications.{shape_at, withdraws}
 use Rattle.group_model.specs.Member.{tries_of}
 use Rattle.group_model.specs.World.{World, logs, someone_holds}
 use Rattle.group_model.specs.Steps.{settled_vector}
-use Rattle.mirror_model.specs.Asked.{is_kept}
-use Rattle.mirror_model.specs.Mirrors.{is_object_accepted, mirror_holds}
+use Rattle.repo_mirror.specs.Asked.{is_kept}
+use Rattle.repo_mirror.specs.Mirrors.{is_object_accepted, mirror_holds}
 use Rattle.repo_mirror.specs.MirrorState.{MirrorState}
 use Rattle.repo_mirror.specs.TrueMirrors.{mirror_in_group}
 

@@ -1,0 +1,62 @@
+-- What a run answers, reads, writes and leaves, topic by topic, of what its words ask for.
+use Rattle.std.specs.Prelude.{◌≡◌, ◌≢◌, ◌↔◌, ◌⊎◌, ℕ, List, [], map, Option, Some, None, IfSome}
+use Rattle.std.specs.Option.{option_map}
+use Rattle.repo_io.specs.declared.status.Status.{Status}
+use Rattle.repo_io.specs.declared.status.Status.TheVariants.{Done, Usage, ReadFault, WriteFault, NoMemory, Foreign}
+use Rattle.repo_io.specs.Outside.{GainsText, GainsFront}
+use Rattle.repo_io.specs.Statuses.{IsTold}
+use Rattle.bench_world.specs.Worlds.{GroupState, world_of}
+use Rattle.script_story.specs.Answers.{status_of}
+use Rattle.script_story.specs.Mirrors.{mirror_as}
+use Rattle.script_story.specs.Story.{Story}
+use Rattle.repo_top.specs.declared.asked.Asked.{Asked}
+use Rattle.repo_top.specs.Forms.{InputIsRead, IsGenerated, IsInspected, IsRun}
+
+-- The words alone decide on `Usage`.
+pub record UsageIsOfWords (asked : Option Asked) (status : Status) (SameSource SameSink : Type 0) : Type 0 where
+  -- It comes exactly where they are no form.
+  pub usage : (status ≡ Usage) ↔ (asked ≡ None)
+  -- Then nothing is read or written.
+  pub untouched : status ≡ Usage → SameSource × SameSink
+
+-- What was written is of the story that the words ask for, where source and sink know their octets.
+pub record ReportsStory (story : Option Story) (old new : Option (List ℕ)) (status : Status) : Type 0 where
+  -- On `Done`, `Refused` and `Foreign` the status is the story's end,
+  pub end : IsTold status → IfSome story (λ s. status ≡ status_of s.ending)
+  -- and what was written is its text.
+  pub text : IsTold status → IfSome story (λ s. GainsText old new s.text)
+  -- Whatever comes, what was written is a prefix of that text, and after `WriteFault` not the whole of it.
+  pub front : IfSome story (λ s. GainsFront old new s.text (status ≡ WriteFault))
+
+-- What the form reads, and what it has written when the source fails.
+pub record ReadsInput (asked : Option Asked) (left rest : Option (List ℕ)) (status : Status)
+    (SameSource SameSink : Type 0) : Type 0 where
+  -- On `Done` of a form that reads, the input was read to its end.
+  pub read_to_end : status ≡ Done → InputIsRead asked → IfSome left (λ _. rest ≡ Some [])
+  -- `gen` reads nothing.
+  pub unread : IsGenerated asked → SameSource
+  -- After `ReadFault` an inspection has written nothing.
+  pub unwritten : IsInspected asked → status ≡ ReadFault → SameSink
+
+-- On `Done` the world that is left is the story's, with its names and keys and its mirrors.
+pub record LeavesLast (asked : Option Asked) (story : Option Story) (status : Status) (end : Option GroupState)
+    : Type 0 where
+  pub world : status ≡ Done → IfSome story (λ s. option_map world_of end ≡ s.world)
+  pub keys : status ≡ Done → IfSome story (λ s. IfSome end (λ world. world.keys ≡ s.keys))
+  pub mirrors : status ≡ Done → IfSome story (λ s. IfSome end (λ world. map mirror_as world.mirrors ≡ s.mirrors))
+  -- In every other case there is none.
+  pub no_world : (status ≢ Done) ⊎ (IsRun asked → ⊥) → end ≡ None
+
+-- The other answers have their causes. Memory may run out at any time.
+pub record HasCause (asked : Option Asked) (story : Option Story) (status : Status)
+    (SourceFailed SinkFailed : Type 0) : Type 0 where
+  -- `ReadFault` comes only where the source failed, and `WriteFault` only where the sink did.
+  pub read_fault : status ≡ ReadFault → SourceFailed
+  pub write_fault : status ≡ WriteFault → SinkFailed
+  -- Only a script has foreign lines.
+  pub foreign : (line : ℕ) → status ≡ Foreign line → IsRun asked
+  -- `gen` answers `Done` unless the sink fails or memory runs out.
+  pub generated : IsGenerated asked → (status ≡ Done) ⊎ ((status ≡ NoMemory) ⊎ (status ≡ WriteFault))
+  -- Where nothing fails, the story's end comes, unless memory runs out.
+  pub complete : (SourceFailed → ⊥) → (SinkFailed → ⊥)
+      → IfSome story (λ s. (status ≡ status_of s.ending) ⊎ (status ≡ NoMemory))

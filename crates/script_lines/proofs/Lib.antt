@@ -1,0 +1,8 @@
+pub mod Readings
+pub mod Labels
+pub mod Judgings
+pub mod Progressings
+pub mod WatchLines
+pub mod MirrorWorlds
+pub mod MirrorSettles
+pub mod MirrorLines

@@ -1,0 +1,108 @@
+-- What a reader holds: parts of its room, and the line at the front.
+use Rattle.std.proofs.Common.{◌≡◌, ℕ, zero, suc, ◌+◌, ◌-◌, ◌<◌, ◌≤◌, false, eqb, ltb, List, [], ◌∷◌}
+use Rattle.std.proofs.Common.{◌++◌, length, take, drop, slice_range, get_or, Option, Some, None, Result, Ok, Err, IfOk}
+use Rattle.std.proofs.Common.{refl, sym, ap, ◌∙◌, append_assoc, arith, inl, inr, position}
+use Rattle.std.specs.Io.KnownBytes.{Consumes, Keeps, prepend_known}
+use Rattle.std.proofs.lemmas.Bool.{or_from, eqb-true, ltb-true, ltb-false, cases_Bool}
+use Rattle.std.specs.Bool.{then_some}
+use Rattle.std.specs.Option.{MatchOption}
+use Rattle.std.proofs.lemmas.List.{take_more, take-append-drop, drop-take, length-drop, length-take}
+use Rattle.std.proofs.lemmas.List.Folds.{list_any-append}
+use Rattle.std.proofs.lemmas.List.Quantifiers.{position-Some}
+use Rattle.std.proofs.Math.Seq.{take-add, take-append-add, drop-drop}
+use Rattle.repo_io.specs.Lines.{IsWhole, has_feed}
+use Rattle.repo_io.proofs.LineLaws.{no_feed_found}
+use Rattle.script_lines.specs.Reading.{HasLine, LineIsBegun}
+
+-- ---- octets that are read
+
+-- what was consumed stands behind what was held
+keeps_read : (a b : Option (List ℕ)) (front read : List ℕ) → Consumes a b read
+    → Keeps (prepend_known front a) (prepend_known (front ++ read) b)
+keeps_read None b front read p = tt
+keeps_read (Some x) None front read p = absurd p
+keeps_read (Some x) (Some y) front read p = append_assoc front read y ∙ ap (λ (t : List ℕ). front ++ t) (sym p)
+
+pub kept_behind : {E : Type 0} (a b : Option (List ℕ)) (h : ℕ) (room front new : List ℕ) (r : Result ℕ E)
+    → length front ≡ h → take h room ≡ front
+    → IfOk r (λ n. Consumes a b (take n new)) → IfOk r (λ n.
+    Keeps (prepend_known (take h room) a) (prepend_known (take (h + n) (front ++ new)) b))
+kept_behind a b h room front new (Err e) len is p = tt
+kept_behind a b h room front new (Ok n) len is p =
+    let taken : take (h + n) (front ++ new) ≡ front ++ take n new = rw (← len) (take-append-add front new n) in
+    rw (is, taken) (keeps_read a b front (take n new) p)
+
+-- ---- the line at the front
+
+none_before : (xs : List ℕ) (i : ℕ) → ((k : ℕ) → k < i → eqb (get_or xs k 0) 10 ≡ false) → has_feed (take i xs) ≡ false
+none_before xs zero none = refl
+none_before [] (suc i) none = refl
+none_before (b ∷ bs) (suc i) none = or_from (eqb b 10) (has_feed (take i bs)) (none 0 (omega arith))
+    (none_before bs i (λ k lt. none (suc k) (omega (arith, lt))))
+
+pub found : (octets : List ℕ) (at : ℕ) → position (λ octet. eqb octet 10) octets ≡ Some at
+    → IsWhole (take (at + 1) octets)
+found octets at e =
+    let facts = position-Some (λ octet. eqb octet 10) octets at 0 e in
+    let feed : get_or octets at 0 ≡ 10 = eqb-true (get_or octets at 0) 10 facts.1 in
+    record {
+      front = take at octets;
+      free = none_before octets at facts.2;
+      is = take_more octets at 0 facts.0 ∙ ap (λ (t : ℕ). take at octets ++ t ∷ []) feed;
+    }
+
+-- octets without a line feed before a line are of it
+pub whole_behind : (front line : List ℕ) → has_feed front ≡ false → IsWhole line → IsWhole (front ++ line)
+whole_behind front line free w = record {
+  front = front ++ w.front;
+  free = list_any-append (λ octet. eqb octet 10) front w.front
+      ∙ or_from (has_feed front) (has_feed w.front) free w.free;
+  is = ap (λ (t : List ℕ). front ++ t) w.is ∙ sym (append_assoc front w.front (10 ∷ []));
+}
+
+module _ (held : List ℕ) (searched : ℕ) (within : searched ≤ length held) (free : has_feed (take searched held) ≡ false)
+  where
+    pub line_found : (at : ℕ) → at < length (drop searched held)
+        → position (λ octet. eqb octet 10) (drop searched held) ≡ Some at → HasLine (searched + at + 1) held
+    line_found at lt e =
+        let count : searched + at + 1 ≡ searched + (at + 1) = omega arith in
+        record {
+          within = omega (arith, lt, length-drop searched held);
+          line = inl (rw (count, take-add searched (at + 1) held)
+              (whole_behind (take searched held) (take (at + 1) (drop searched held)) free
+              (found (drop searched held) at e)));
+        }
+
+    pub all_free : position (λ octet. eqb octet 10) (drop searched held) ≡ None → has_feed held ≡ false
+    all_free e = ap has_feed (sym (take-append-drop searched held))
+        ∙ list_any-append (λ octet. eqb octet 10) (take searched held) (drop searched held)
+        ∙ or_from (has_feed (take searched held)) (has_feed (drop searched held)) free
+        (no_feed_found (drop searched held) e)
+
+too_long : (held : List ℕ) → has_feed held ≡ false → 32768 < length held → HasLine (length held) held
+too_long held free long = record {
+  within = omega arith;
+  line = inr (record { free = free; long = long }, refl);
+}
+
+-- without a line feed octets are too long for a line, or none yet
+pub no_line : (held : List ℕ) → has_feed held ≡ false → MatchOption (then_some (ltb 32768 (length held)) (length held))
+    (LineIsBegun held) (λ count. HasLine count held)
+no_line held free = elim (cases_Bool (ltb 32768 (length held))) [
+  | inl long ↦ rw long (too_long held free (ltb-true 32768 (length held) long))
+  | inr short ↦ rw short (record { free = free; short = ltb-false 32768 (length held) short })
+]
+
+-- ---- parts of the room
+
+-- a part without its first elements
+pub part_behind : (room : List ℕ) (start end count : ℕ) → count ≤ length (slice_range room start end)
+    → take (end - (start + count)) (drop (start + count) room) ≡ drop count (take (end - start) (drop start room))
+part_behind room start end count le =
+    let short : count ≤ end - start = omega (arith, le, length-take (end - start) (drop start room)) in
+    let size : count + (end - (start + count)) ≡ end - start = omega (arith, short) in
+    let parts : drop count (take (count + (end - (start + count))) (drop start room))
+    ≡ take (end - (start + count)) (drop count (drop start room)) =
+    drop-take count (end - (start + count)) (drop start room) in
+    let places : drop count (drop start room) ≡ drop (start + count) room = drop-drop count start room in
+    rw (← size) (rw (← places) (sym parts))

@@ -1,0 +1,17 @@
+//! The lines of a script, carried out one by one: each is read, judged by the lines before it, and done over the world
+//! of its group, and its report is written. Who calls it looks at the world between lines.
+//!
+//! What is promised of it: `docs/promises/script_lines.md`.
+#![tactic(auto)]
+
+mod accepting;
+mod line_reader;
+mod progress;
+mod said;
+mod script;
+mod stop;
+mod telling;
+
+pub use line_reader::{LineReader, Next};
+pub use script::Script;
+pub use stop::{Stop, put_stop};

@@ -1,0 +1,102 @@
+ghost use Rattle.std.specs.Prelude.{◌≡◌, ◌+◌, map, IfErr, IfOk, IfSome};
+ghost use Rattle.std.specs.Option.{option_map};
+ghost use Rattle.bench_world.specs.Worlds.{world_of};
+ghost use Rattle.script_story.specs.Mirrors.{mirror_as};
+ghost use Rattle.script_story.specs.Judging.{given_by, says};
+ghost use Rattle.script_story.specs.Story.{reached_behind, judged_next, nothing_reached};
+ghost use Rattle.script_lines.specs.Progressing.{IsStop};
+ghost use Rattle.script_lines.specs.Scripts.{IsScript, reached};
+
+use crate::progress::Progress;
+use crate::stop::Stop;
+use bench_net::{Draws, Net};
+use bench_world::World;
+use script_lang::{LINES_LIMIT, SCRIPT_LIMIT};
+use script_report::{REPORT_LIMIT, Refusal};
+use std::alloc::Global;
+use std::thread::Threads;
+
+/// A script whose lines are carried out one by one. Contracts see it as what these came to (`reached`): a view would
+/// have to be without functions, and the mirrors of a story have one.
+#[derive(Drop)]
+pub struct Script {
+    progress: Progress,
+    // How many lines were carried out, how many octets they have, and how many their reports.
+    lines: u32,
+    octets: usize,
+    reported: usize,
+}
+
+impl Script {
+    /// No line was carried out.
+    pub fn new(alloc: Global) -> Script
+        ensures reached { reached result ≡ nothing_reached }
+        ensures is { IsScript result }
+    {
+        Script {
+            progress: Progress::new(alloc),
+            lines: 0,
+            octets: 0,
+            reported: 0,
+        }
+    }
+
+    /// The number of the next line, counted from 1.
+    pub fn next_line(&self) -> u32
+        requires { IsScript self.now }
+        ensures { result ≡ (reached self.now).lines + 1 }
+    {
+        self.lines + 1
+    }
+
+    /// Carries out the next line, its line feed with it, and leaves its report in place of what stood there; or tells
+    /// why it isn't taken.
+    pub fn take<R: Threads + Sync, N: Net + Sync, D: Draws>(
+        mut self,
+        rt: &R,
+        line: &[u8],
+        report: &mut Vec<u8>,
+        net: &N,
+        draws: &D,
+    ) -> Result<Script, Stop>
+        requires { IsScript self }
+        ensures taken { IfOk result (λ next. judged_next (given_by (D.draw draws.now) (N.passes net.now))
+            (reached self) line.now ≡ says report.new.items (reached next).state) }
+        ensures reached { IfOk result (λ next. reached next
+            ≡ reached_behind (reached self) line.now report.new.items (reached next).state) }
+        ensures is { IfOk result IsScript }
+        ensures stopped { IfErr result
+            (IsStop (judged_next (given_by (D.draw draws.now) (N.passes net.now)) (reached self) line.now)) }
+    {
+        if self.lines >= LINES_LIMIT || line.len() > SCRIPT_LIMIT - self.octets {
+            return Err(Stop::Refused(Refusal::Limit));
+        }
+        report.clear();
+        self.progress.take(rt, line, report, net, draws)?;
+        if report.len() > REPORT_LIMIT - self.reported {
+            return Err(Stop::Refused(Refusal::TooLarge));
+        }
+        self.lines += 1;
+        self.octets += line.len();
+        self.reported += report.len();
+        Ok(self)
+    }
+
+    /// The world that the events so far made, if there was one.
+    pub fn world(&self) -> Option<&World>
+        ensures world { option_map (λ world. world_of world.now) result ≡ (reached self.now).state.world }
+        ensures keys { IfSome result (λ world. world.now.keys ≡ (reached self.now).state.keys) }
+        ensures mirrors { IfSome result (λ world. map mirror_as world.now.mirrors ≡ (reached self.now).state.mirrors) }
+    {
+        self.progress.world()
+    }
+
+    /// The same, where no line follows.
+    pub fn into_world(self) -> Option<World>
+        ensures world { option_map world_of result ≡ (reached self).state.world }
+        ensures keys { IfSome result (λ world. world.keys ≡ (reached self).state.keys) }
+        ensures mirrors { IfSome result (λ world. map mirror_as world.mirrors ≡ (reached self).state.mirrors) }
+    {
+        self.progress.into_world()
+    }
+}
