@@ -1,6 +1,8 @@
 pub mod Dealing
-pub mod Telling
 pub mod Wiring
 pub mod Turning
 pub mod Seating
 pub mod TakingOut
+pub mod Desks
+pub mod Tickets
+pub mod Ending

@@ -1,8 +1,8 @@
--- A part that a fetcher claims is of a member, and what comes for it ends the claim.
-use Rattle.std.proofs.Common.{◌≡◌, ℕ, ◌-◌, ◌<◌, Bool, true, false, inl, inr}
+-- A part that a fetcher claims is of a member.
+use Rattle.std.proofs.Common.{◌≡◌, ℕ, ◌-◌, ◌<◌, inl, inr}
 use Rattle.std.proofs.Common.{map, length, get_or, set}
 use Rattle.std.proofs.Common.{refl, sym, ap, ◌∙◌, subst, arith, Option, Some, None}
-use Rattle.std.specs.Prelude.{Result, Ok, Err, IfOk, is_some, is_none, if◌then◌else◌}
+use Rattle.std.specs.Prelude.{is_some, if◌then◌else◌}
 use Rattle.std.proofs.lemmas.Bool.{cases_lt}
 use Rattle.std.proofs.lemmas.List.{get_or-set_same, length-set, length-map}
 use Rattle.repo_plan.specs.declared.part.Part.{Part}
@@ -10,7 +10,7 @@ use Rattle.repo_plan.specs.Calls.{IsFetcher}
 use Rattle.group_model.specs.Member.{Member}
 use Rattle.group_model.specs.World.{World, member, no_member}
 use Rattle.group_model.specs.Replies.{Reply}
-use Rattle.group_model.specs.Steps.{claim_at, to_claim, after_claiming, came_as, passes_checks}
+use Rattle.group_model.specs.Steps.{claim_at, to_claim, after_claiming}
 use Rattle.group_model.specs.Changes.{member_with_claim}
 use Rattle.group_model.proofs.Plans.{wanted_parts}
 use Rattle.repo_member.specs.InGroup.{in_group}
@@ -18,50 +18,11 @@ use Rattle.live_member.specs.declared.event.LiveEvent.TheVariants as event
 use Rattle.live_member.specs.declared.event.LiveReply.{LiveReply}
 use Rattle.live_member.specs.declared.event.LiveReply.TheVariants as reply
 use Rattle.live_member.specs.Meanings.{Meaning, logs_at, whole_logs, world_at, with_log, as_posts}
-use Rattle.live_member.specs.Replay.{live_reply, after, fed}
+use Rattle.live_member.specs.Replay.{live_reply, after}
 use Rattle.live_member.specs.Lives.{Living}
-use Rattle.live_member.specs.LockedCalls.{IsEntered, StepsBy, Steps}
+use Rattle.live_member.specs.LockedCalls.{IsEntered, StepsBy}
+use Rattle.live_actors.specs.ActorCalls.{IsOfMember}
 use Rattle.live_settle.proofs.Turning.{in_range}
-use Rattle.live_group.specs.Turns.{EndsTurn}
-
--- ---- what ends a claim
-
-fed_ends : (b : Bool) → EndsTurn (live_reply (Reply.Fed b))
-fed_ends true = tt
-fed_ends false = tt
-
-lost_ends : (c : Option Part) → EndsTurn (if is_none c then reply.Refused else live_reply (Reply.Lost c))
-lost_ends None = tt
-lost_ends (Some part) = tt
-
-module _ (t : Meaning) (most : ℕ) (old new : Living) (f : ℕ) where
-  accept_ends : (part : Part) (r : LiveReply) → StepsBy t most (event.Accept f part) old new r → EndsTurn r
-  accept_ends part r is = elim (cases_lt (length old.journal) most) [
-    | inl room ↦
-        let w = world_at t old.state.number (in_group old.state) in
-        subst EndsTurn (sym (is.1 room).0.replied)
-        (fed_ends (passes_checks (came_as w (fed part) (claim_at w old.state.number f))))
-    | inr full ↦ subst EndsTurn (sym (is.0 full).0) tt
-  ]
-
-  lose_ends : (r : LiveReply) → StepsBy t most (event.Lose f) old new r → EndsTurn r
-  lose_ends r is = elim (cases_lt (length old.journal) most) [
-    | inl room ↦
-        let w = world_at t old.state.number (in_group old.state) in
-        subst EndsTurn (sym (is.1 room).0.replied) (lost_ends (claim_at w old.state.number f))
-    | inr full ↦ subst EndsTurn (sym (is.0 full).0) tt
-  ]
-
-  pub accept_turn : {A : Type 0} (part : Part) (r : Result LiveReply A)
-      → Steps t most (event.Accept f part) old new r → IfOk r EndsTurn
-  accept_turn part (Ok r) is = accept_ends part r is
-  accept_turn part (Err want) is = tt
-
-  pub lose_turn : {A : Type 0} (r : Result LiveReply A) → Steps t most (event.Lose f) old new r → IfOk r EndsTurn
-  lose_turn (Ok r) is = lose_ends r is
-  lose_turn (Err want) is = tt
-
--- ---- what is claimed
 
 told_part : (c d : Option Part) (part : Part)
     → (if is_some c then reply.Refused else live_reply (Reply.Claimed d)) ≡ reply.Claimed part
@@ -141,3 +102,17 @@ module _ (t : Meaning) (most : ℕ) (old new : Living) (r : LiveReply) (f : ℕ)
       let most_told = sound.known part.publisher in
       let less = in_range ls part.publisher part.seq known.from_one (omega (arith, known.to_known, most_told)) in
       omega (arith, less, wide_logs)
+
+-- what is claimed, whatever is replied
+pub of_member : (t : Meaning) (most : ℕ) (old new : Living) (r : LiveReply) (f : ℕ) → IsFetcher f
+    → StepsBy t most (event.Claim f) old new r → IsOfMember (length t.lists) r
+of_member t most old new (reply.Claimed part) f fetcher steps =
+    publisher_there t most old new (reply.Claimed part) f part fetcher steps refl
+of_member t most old new (reply.Published n) f fetcher steps = tt
+of_member t most old new reply.Steady f fetcher steps = tt
+of_member t most old new reply.Suppressed f fetcher steps = tt
+of_member t most old new reply.NoPart f fetcher steps = tt
+of_member t most old new reply.Kept f fetcher steps = tt
+of_member t most old new (reply.Lost part) f fetcher steps = tt
+of_member t most old new reply.Refused f fetcher steps = tt
+of_member t most old new reply.Full f fetcher steps = tt

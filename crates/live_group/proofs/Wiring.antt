@@ -9,19 +9,21 @@ use Rattle.live_inbox.specs.Ends.{InboxView}
 use Rattle.live_group.specs.declared.hand.Hand.{Hand}
 use Rattle.live_group.specs.declared.hand.Job.{Job}
 use Rattle.live_group.specs.declared.hand.Job.TheVariants.{Publish, First, Second}
-use Rattle.live_group.specs.Lines.{EarView, OpenedView, HavePorts, HaveCapacity, inbox_capacity}
-use Rattle.live_group.specs.Jobs.{actor_of, actors_below, IsWired, IsActorBelow}
+use Rattle.live_group.specs.Lines.{LineView, EarView, OpenedView, HavePorts, HaveCapacity, inbox_capacity}
+use Rattle.live_actors.specs.declared.actor.Actor.{Actor}
+use Rattle.live_actors.specs.declared.actor.Actor.TheVariants as actor
+use Rattle.live_group.specs.Jobs.{member_of, actor_of, actors_below, IsWired, IsActorBelow, HasLines}
 use Rattle.live_group.proofs.Dealing.{inboxes_of, inboxes_of_lines, inboxes_of_ears}
 
-below : (n : ℕ) → All (λ (a : ℕ × ℕ). a.0 < n) (actors_below n)
-below zero = All-nil (λ (a : ℕ × ℕ). a.0 < 0)
+below : (n : ℕ) → All (λ (a : Actor). member_of a < n) (actors_below n)
+below zero = All-nil (λ (a : Actor). member_of a < 0)
 below (suc n) =
-    let P : ℕ × ℕ → Type 0 = λ a. a.0 < suc n in
-    All-append P (actors_below n) ((n, 0) ∷ (n, 1) ∷ (n, 2) ∷ [])
-    (All-weaker (λ (a : ℕ × ℕ). a.0 < n) P (λ a less. omega arith) (actors_below n) (below n))
-    (All-cons P (n, 0) ((n, 1) ∷ (n, 2) ∷ []) (omega arith)
-    (All-cons P (n, 1) ((n, 2) ∷ []) (omega arith)
-    (All-cons P (n, 2) [] (omega arith) (All-nil P))))
+    let P : Actor → Type 0 = λ a. member_of a < suc n in
+    All-append P (actors_below n) (actor.Publish n ∷ actor.First n ∷ actor.Second n ∷ [])
+    (All-weaker (λ (a : Actor). member_of a < n) P (λ a less. omega arith) (actors_below n) (below n))
+    (All-cons P (actor.Publish n) (actor.First n ∷ actor.Second n ∷ []) (omega arith)
+    (All-cons P (actor.First n) (actor.Second n ∷ []) (omega arith)
+    (All-cons P (actor.Second n) [] (omega arith) (All-nil P))))
 
 module _ {L : Type 0} where
   -- the actors of the first `n` members, and what is left for the others
@@ -69,8 +71,8 @@ module _ {L : Type 0} where
     suc_actors =
         ap (λ (js : List (Job L)). map actor_of js) three
         ∙ map-append actor_of jobs (Publish hand ∷ First n ∷ Second n ∷ [])
-        ∙ ap (λ (k : ℕ). map actor_of jobs ++ (k, 0) ∷ (n, 1) ∷ (n, 2) ∷ []) number
-        ∙ ap (λ (those : List (ℕ × ℕ)). those ++ (n, 0) ∷ (n, 1) ∷ (n, 2) ∷ []) is.actors
+        ∙ ap (λ (k : ℕ). map actor_of jobs ++ actor.Publish k ∷ actor.First n ∷ actor.Second n ∷ []) number
+        ∙ ap (λ (those : List Actor). those ++ actor.Publish n ∷ actor.First n ∷ actor.Second n ∷ []) is.actors
 
     more_actors : map actor_of after ≡ actors_below (n + 1)
     more_actors = rw add-one suc_actors
@@ -108,9 +110,20 @@ module _ {L : Type 0} where
   pub actors_there : (members : ℕ) (jobs : List (Job L)) → map actor_of jobs ≡ actors_below members
       → All (IsActorBelow members) jobs
   actors_there members jobs same k job less =
-      let P : ℕ × ℕ → Type 0 = λ a. a.0 < members in
+      let P : Actor → Type 0 = λ a. member_of a < members in
       let wide = length-map jobs actor_of in
       subst P
-      (ap (λ (those : List (ℕ × ℕ)). get_or those k (actor_of job)) (sym same)
+      (ap (λ (those : List Actor). get_or those k (actor_of job)) (sym same)
       ∙ get_or-map actor_of jobs k job (actor_of job) less)
-      (below members k (actor_of job) (let long = ap (λ (those : List (ℕ × ℕ)). length those) same in omega arith))
+      (below members k (actor_of job) (let long = ap (λ (those : List Actor). length those) same in omega arith))
+
+  -- the first actor of each has a line to each inbox
+  pub lines_there : (members : ℕ) (inboxes : List InboxView) (jobs : List (Job L)) → length inboxes ≡ members
+      → All (IsWired inboxes) jobs → All (HasLines members) jobs
+  lines_there members inboxes jobs wide wired = All-weaker (IsWired inboxes) (HasLines members) has jobs wired where
+    has : (job : Job L) → IsWired inboxes job → HasLines members job
+    has (Publish hand) is =
+        let long = ap (λ (is : List InboxView). length is) is.0 in
+        omega (arith, wide, long, length-map hand.lines.items (λ (l : LineView). l.inbox))
+    has (First member) is = tt
+    has (Second member) is = tt

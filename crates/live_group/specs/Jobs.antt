@@ -1,17 +1,26 @@
 -- The actors of a run.
-use Rattle.std.specs.Prelude.{ℕ, zero, suc, ◌≡◌, ◌<◌, List, [], ◌∷◌, ◌++◌, map, length, slice_index_or}
+use Rattle.std.specs.Prelude.{ℕ, zero, suc, ◌≡◌, ◌<◌, List, [], ◌∷◌, ◌++◌, map, length, sum_by, slice_index_or}
 use Rattle.std.specs.List.{All}
 use Rattle.live_inbox.specs.Ends.{InboxView}
+use Rattle.live_actors.specs.declared.actor.Actor.{Actor}
+use Rattle.live_actors.specs.declared.actor.Actor.TheVariants as actor
+use Rattle.live_actors.specs.ActorCalls.{tickets_of}
 use Rattle.live_group.specs.declared.hand.Job.{Job}
 use Rattle.live_group.specs.declared.hand.Job.TheVariants.{Publish, First, Second}
 use Rattle.live_group.specs.Lines.{HaveCapacity, inbox_capacity}
 
+-- Whose actor it is.
+abbrev pub member_of : Actor → ℕ
+member_of (actor.Publish member) = member
+member_of (actor.First member) = member
+member_of (actor.Second member) = member
+
 module _ {L : Type 0} where
-  -- Which member's it is, and which of its actors: 0 publishes and hears, and 1 and 2 fetch.
-  abbrev pub actor_of : Job L → ℕ × ℕ
-  actor_of (Publish hand) = (hand.member, 0)
-  actor_of (First member) = (member, 1)
-  actor_of (Second member) = (member, 2)
+  -- Which actor it is.
+  abbrev pub actor_of : Job L → Actor
+  actor_of (Publish hand) = actor.Publish hand.member
+  actor_of (First member) = actor.First member
+  actor_of (Second member) = actor.Second member
 
   -- The first actor of a member has a line to each member's inbox, in order, and hears what comes into its own.
   abbrev pub IsWired : List InboxView → Job L → Type 0
@@ -23,12 +32,22 @@ module _ {L : Type 0} where
 
   -- The member is one of so many.
   abbrev pub IsActorBelow : ℕ → Job L → Type 0
-  IsActorBelow members job = (actor_of job).0 < members
+  IsActorBelow members job = member_of (actor_of job) < members
+
+  -- The first actor has so many lines.
+  abbrev pub HasLines : ℕ → Job L → Type 0
+  HasLines lines (Publish hand) = lines ≡ length hand.lines.items
+  HasLines lines (First member) = Unit {0}
+  HasLines lines (Second member) = Unit {0}
 
 -- Three actors for each of so many members, in order.
-abbrev pub actors_below : ℕ → List (ℕ × ℕ)
+abbrev pub actors_below : ℕ → List Actor
 actors_below zero = []
-actors_below (suc n) = actors_below n ++ (n, 0) ∷ (n, 1) ∷ (n, 2) ∷ []
+actors_below (suc n) = actors_below n ++ actor.Publish n ∷ actor.First n ∷ actor.Second n ∷ []
+
+-- The tickets of these actors.
+abbrev pub all_tickets : ℕ → List Actor → ℕ
+all_tickets turns actors = sum_by (λ (a : Actor). tickets_of a turns) actors
 
 -- All actors of so many members, each once, and the inboxes of the members, each of the same capacity.
 pub record AreJobs {L : Type 0} (members : ℕ) (jobs : List (Job L)) : Type 0 where

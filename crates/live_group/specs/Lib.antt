@@ -2,11 +2,15 @@ pub use Rattle.repo_plan.specs.Calls
 pub use Rattle.repo_member.specs.Groups
 pub use Rattle.live_member.specs.Meanings
 pub use Rattle.live_member.specs.Lives
+pub use Rattle.live_member.specs.Entries
+pub use Rattle.live_actors.specs.ActorCalls
+pub use Rattle.live_actors.specs.Noting
+pub use Rattle.live_settle.specs.Ready
 pub use Rattle.live_settle.specs.Rans
 pub use Rattle.live_inbox.specs.Ends
 pub use Rattle.crossbeam_queue.specs.Fifo
 pub mod Seats
 pub mod Lines
 pub mod Jobs
-pub mod Turns
-pub mod Publishing
+pub mod Desks
+pub mod Outs

@@ -4,14 +4,20 @@
 //! What is promised of it: `docs/promises/live_group.md`.
 #![tactic(auto)]
 
-mod actors;
+mod acting;
+mod desk;
+mod ends;
 mod gate;
 mod hand;
+mod handle;
 mod jobs;
 mod line;
 mod opened;
+mod out;
+mod run;
 mod running;
 mod seat;
+mod ticketed;
 
 pub use gate::{Gate, OpenGate};
 pub use running::run_group;

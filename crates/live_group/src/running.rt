@@ -1,22 +1,25 @@
-ghost use Rattle.std.specs.Prelude.{◌≡◌, ◌≤◌, All, map, length, IfOk};
+ghost use Rattle.std.specs.Prelude.{◌≡◌, ◌≤◌, ◌<◌, ◌+◌, ◌*◌, All, map, length, IfOk, OnOk};
 ghost use Rattle.live_member.specs.Meanings.{meaning_of, IsWithinLimits};
 ghost use Rattle.live_member.specs.Lives.{IsLive};
 ghost use Rattle.live_settle.specs.Rans.{numbers_below, AreRans};
-ghost use Rattle.live_group.specs.Jobs.{IsActorBelow};
+ghost use Rattle.live_group.specs.Desks.{tickets_each};
+ghost use Rattle.live_group.specs.Outs.{IsOut, HasRun, all_left, turns_of};
 
-use crate::actors::act;
+use crate::acting::act_all;
 use crate::gate::Gate;
-use crate::hand::Job;
 use crate::jobs::all_jobs;
+use crate::out::Out;
+use crate::run::Run;
 use crate::seat::Seat;
-use live_member::{Lists, Live, count_parts};
+use crate::ticketed::{all_ticketed, give_back};
+use live_member::{Live, count_parts};
 use live_settle::{Ran, settle};
 use repo_member::Group;
 use repo_object::Object;
 use std::alloc::{AllocError, Global};
 use std::marker::Brand;
 use std::sync::Wait;
-use std::thread;
+use std::sync::ledger::{Blank, Share};
 use std::thread::Threads;
 
 /// Runs a group in threads: each member publishes its list, tells the others, hears them, and fetches what it wants,
@@ -34,95 +37,119 @@ pub fn run_group<R: Threads + Wait + Sync, G: Gate + Sync>(
 ) -> Result<Vec<Ran>, AllocError>
     requires draws { length draws.now ≡ length lists.items }
     requires within { IsWithinLimits (meaning_of g.now (map (λ l. l.items) lists.items) draws.now) }
-    ensures { IfOk result (λ rans.
+    ensures rans { IfOk result (λ rans.
         AreRans (meaning_of g.now (map (λ l. l.items) lists.items) draws.now) rans.items) }
+    ensures acted { IfOk result (λ rans. All
+        (HasRun (meaning_of g.now (map (λ l. l.items) lists.items) draws.now)
+        (turns_of (meaning_of g.now (map (λ l. l.items) lists.items) draws.now))) rans.items) }
 {
-    run_named::<Brand, R, G>(rt, alloc, g, lists, draws, gate)
+    let turns = count_parts(lists.as_slice()) * 2;
+    let tokens = Blank::new(lists.len() as u64 * 4 + 1);
+    run_named::<Brand, R, G>(rt, alloc, g, lists, draws, gate, tokens, turns)
 }
 
-fn run_named<L: Lists + Send + Sync, R: Threads + Wait + Sync, G: Gate + Sync>(
+fn run_named<L: Run + Send + Sync, R: Threads + Wait + Sync, G: Gate + Sync>(
     rt: &R,
     alloc: Global,
     g: &Group,
     lists: Vec<Vec<Object>>,
     draws: &[u32],
     gate: &G,
+    tokens: Blank,
+    turns: u32,
 ) -> Result<Vec<Ran>, AllocError>
     requires meaning { meaning_of g.now (map (λ l. l.items) lists.items) draws.now ≡ L.meaning }
     requires draws { length draws.now ≡ length lists.items }
     requires within { IsWithinLimits L.meaning }
-    ensures { IfOk result (λ rans. AreRans L.meaning rans.items) }
+    requires name { tokens.name ≡ L.name }
+    requires parts { tokens.parts ≡ L.parts }
+    requires enough { tokens.parts ≡ length lists.items * 4 + 1 }
+    requires turns { turns ≡ L.turns }
+    ensures rans { IfOk result (λ rans. AreRans L.meaning rans.items) }
+    ensures acted { IfOk result (λ rans. All (HasRun L.meaning L.turns) rans.items) }
 {
-    let turns = count_parts(lists.as_slice()) * 2;
-    let jobs = all_jobs::<L>(alloc, lists.len())?;
-    let seats = all_seats::<L>(alloc, g, lists, draws)?;
-    act_all(rt, alloc, g, seats.as_slice(), gate, turns, jobs)?;
-    let lives = taken_out::<L>(alloc, g, seats)?;
+    let members = lists.len();
+    let (mut book, mut all) = tokens.open::<L>();
+    book.add(&mut all, members as u64 * (turns as u64 * 2 + 1));
+    let jobs = all_jobs::<L>(alloc, members)?;
+    let jobs = all_ticketed(alloc, &mut all, jobs, turns)?;
+    let seats = all_seats::<L>(alloc, g, lists, draws, &mut all, turns)?;
+    let done = act_all(rt, alloc, g, seats.as_slice(), gate, jobs)?;
+    give_back(&mut all, done);
+    let outs = all_out(alloc, seats, &mut all)?;
+    book.audit(&mut all);
+    let lives = all_placed(alloc, g, outs)?;
     settle::<L>(alloc, g, lives)
 }
 
-fn all_seats<L: Lists>(
+fn all_seats<L: Run>(
     alloc: Global,
     g: &Group,
     lists: Vec<Vec<Object>>,
     draws: &[u32],
+    all: &mut Share<L>,
+    turns: u32,
 ) -> Result<Vec<Seat<L>>, AllocError>
     requires meaning { meaning_of g.now (map (λ l. l.items) lists.items) draws.now ≡ L.meaning }
     requires draws { length draws.now ≡ length lists.items }
     requires within { IsWithinLimits L.meaning }
-    ensures { IfOk result (λ seats. seats.items ≡ numbers_below (length L.meaning.lists)) }
+    requires parts { length lists.items < all.old.parts }
+    requires turns { turns ≡ L.turns }
+    ensures seats { IfOk result (λ seats. seats.items ≡ numbers_below (length L.meaning.lists)) }
+    ensures parts { OnOk result (all.new.parts + length lists.items ≡ all.old.parts) }
+    ensures amount { OnOk result (all.new.amount ≡ all.old.amount) }
 {
     let mut seats = Vec::with_capacity(alloc, lists.len())?;
     for objects in lists {
         let number = seats.len();
-        seats.push(Seat::new(alloc, g, number as u32, objects, draws[number])?)?;
+        let spent = all.split_off(1, 0);
+        seats.push(Seat::new(
+            alloc,
+            g,
+            number as u32,
+            objects,
+            draws[number],
+            turns,
+            spent,
+        )?)?;
     }
     Ok(seats)
 }
 
-// All actors, each in a thread of its own. Where no thread can be started the caller does the actor's work.
-fn act_all<L: Lists + Send + Sync, R: Threads + Wait + Sync, G: Gate + Sync>(
-    rt: &R,
+// What lay under the locks.
+fn all_out<L: Run>(
     alloc: Global,
-    g: &Group,
-    seats: &[Seat<L>],
-    gate: &G,
-    turns: u32,
-    jobs: Vec<Job<L>>,
-) -> Result<(), AllocError>
-    requires group { g.now ≡ L.meaning.group }
-    requires members { length seats.now ≡ length L.meaning.lists }
-    requires jobs { All (IsActorBelow (length seats.now)) jobs.items }
+    seats: Vec<Seat<L>>,
+    all: &mut Share<L>,
+) -> Result<Vec<Out<L>>, AllocError>
+    ensures numbers { IfOk result (λ outs. map (λ o. o.number) outs.items ≡ seats.items) }
+    ensures parts { OnOk result (all.new.parts ≡ all.old.parts + length seats.items) }
+    ensures amount { IfOk result (λ outs.
+        all.new.amount + all_left outs.items ≡ all.old.amount + length seats.items * tickets_each L.turns) }
 {
-    let ends = thread::map_vec(
-        rt,
-        jobs,
-        &|job: Job<L>| -> Result<(), AllocError>
-            requires group { g.now ≡ L.meaning.group }
-            requires members { length seats.now ≡ length L.meaning.lists }
-            requires job { IsActorBelow (length seats.now) job }
-        { act(rt, alloc, g, seats, gate, turns, job) },
-    )?;
-    for end in ends {
-        end?;
+    let mut outs = Vec::with_capacity(alloc, seats.len())?;
+    for seat in seats {
+        outs.push(seat.out(all))?;
     }
-    Ok(())
+    Ok(outs)
 }
 
-// The members out of their locks, each at its place.
-fn taken_out<L: Lists>(
+// The members, each at its place.
+fn all_placed<L: Run>(
     alloc: Global,
     g: &Group,
-    seats: Vec<Seat<L>>,
+    outs: Vec<Out<L>>,
 ) -> Result<Vec<Live<L, 1000000>>, AllocError>
     requires group { g.now ≡ L.meaning.group }
-    ensures numbers { IfOk result (λ lives. map (λ l. l.state.number) lives.items ≡ seats.items) }
+    requires none_left { All (λ o. o.left ≡ 0) outs.items }
+    ensures numbers { IfOk result (λ lives. map (λ l. l.state.number) lives.items ≡ map (λ o. o.number) outs.items) }
     ensures live { IfOk result (λ lives. All (IsLive L.meaning 1000000) lives.items) }
     ensures room { IfOk result (λ lives. All (λ l. length l.journal ≤ 900000) lives.items) }
+    ensures outs { IfOk result (λ lives. All (IsOut L.meaning L.turns) lives.items) }
 {
-    let mut lives = Vec::with_capacity(alloc, seats.len())?;
-    for seat in seats {
-        lives.push(seat.end(alloc, g)?)?;
+    let mut lives = Vec::with_capacity(alloc, outs.len())?;
+    for out in outs {
+        lives.push(out.placed(alloc, g)?)?;
     }
     Ok(lives)
 }

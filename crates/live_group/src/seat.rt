@@ -1,25 +1,29 @@
-ghost use Rattle.std.specs.Prelude.{◌≡◌, ◌≤◌, length, IfOk};
-ghost use Rattle.live_member.specs.Lives.{IsLive};
+ghost use Rattle.std.specs.Prelude.{◌≡◌, ◌+◌, IfOk};
 ghost use Rattle.live_group.specs.Seats.{IsSeat};
+ghost use Rattle.live_group.specs.Desks.{tickets_each};
 
-use live_member::{Lists, Live};
+use crate::desk::Desk;
+use crate::out::Out;
+use crate::run::Run;
+use live_member::Live;
 use repo_member::Group;
 use repo_object::Object;
 use std::alloc::{AllocError, Global};
 use std::marker::Model;
 use std::sync::Mutex;
+use std::sync::ledger::Share;
 
 /// A member's place: its lock, and a second copy of its list.
 #[derive(Drop)]
-pub struct Seat<L: Lists> {
+pub struct Seat<L: Run> {
     number: u32,
     draw: u32,
     objects: Vec<Object>,
-    lock: Mutex<Live<L, 900000>>,
+    lock: Mutex<Desk<L>>,
 }
 
 // A place is seen as its number. What stands under the lock no contract can tell.
-impl<L: Lists> Model for Seat<L> {
+impl<L: Run> Model for Seat<L> {
     ghost use Rattle.std.specs.Prelude.{ℕ};
     ghost use Rattle.live_group.specs.Seats.{IsSeat};
 
@@ -30,37 +34,40 @@ impl<L: Lists> Model for Seat<L> {
     ghost invariant = { λ s. IsSeat L.meaning s.number s.draw s.objects.items };
 }
 
-impl<L: Lists> Seat<L> {
+impl<L: Run> Seat<L> {
     pub fn new(
         alloc: Global,
         g: &Group,
         number: u32,
         objects: Vec<Object>,
         draw: u32,
+        turns: u32,
+        spent: Share<L>,
     ) -> Result<Seat<L>, AllocError>
         requires group { g.now ≡ L.meaning.group }
         requires seat { IsSeat L.meaning number draw objects.items }
+        requires turns { turns ≡ L.turns }
+        requires parts { spent.parts ≡ 1 }
+        requires none { spent.amount ≡ 0 }
         ensures { IfOk result (λ seat. seat ≡ number) }
     {
         Ok(Seat {
             number,
             draw,
             objects: copied(alloc, objects.as_slice())?,
-            lock: Mutex::new(Live::new(alloc, g, number, objects, draw)?),
+            lock: Mutex::new(Desk::new(Live::new(alloc, g, number, objects, draw)?, turns, spent)),
         })
     }
 
-    pub fn lock(&self) -> &Mutex<Live<L, 900000>> {
+    pub fn lock(&self) -> &Mutex<Desk<L>> {
         &self.lock
     }
 
-    /// The member out of its lock. What a lock held is known by its type alone, and so the member's number is compared
-    /// with the place's: where it is another's, the member is made anew.
-    pub fn end(self, alloc: Global, g: &Group) -> Result<Live<L, 1000000>, AllocError>
-        requires { g.now ≡ L.meaning.group }
-        ensures number { IfOk result (λ live. live.state.number ≡ self) }
-        ensures live { IfOk result (λ live. IsLive L.meaning 1000000 live) }
-        ensures room { IfOk result (λ live. length live.journal ≤ 900000) }
+    /// What lay under the lock. The tickets that were spent on it come back, and those that weren't are what is left.
+    pub fn out(self, all: &mut Share<L>) -> Out<L>
+        ensures number { result.number ≡ self }
+        ensures parts { all.new.parts ≡ all.old.parts + 1 }
+        ensures amount { all.new.amount + result.left ≡ all.old.amount + tickets_each L.turns }
     {
         let Seat {
             number,
@@ -68,11 +75,9 @@ impl<L: Lists> Seat<L> {
             objects,
             lock,
         } = self;
-        let live = lock.into_inner();
-        if live.number() == number {
-            return Ok(live.widen());
-        }
-        Live::new(alloc, g, number, objects, draw)
+        let (live, left, spent) = lock.into_inner().into_parts();
+        all.merge(spent);
+        Out::new(number, draw, objects, live, left)
     }
 }
 

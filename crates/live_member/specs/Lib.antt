@@ -14,5 +14,6 @@ pub mod Meanings
 pub mod Tellings
 pub mod Replay
 pub mod Lives
+pub mod Entries
 pub mod LockedCalls
 pub mod Calls

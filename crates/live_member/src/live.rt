@@ -142,7 +142,7 @@ impl<L: Lists, const M: u32> Live<L, M> {
     }
 
     /// A fetcher claims the first part that is wanted and that nobody claims.
-    pub fn claim(&mut self, f: u8) -> Result<LiveReply, AllocError>
+    pub fn claim(&mut self, _g: &Group, f: u8) -> Result<LiveReply, AllocError>
         requires { IsFetcher f }
         ensures { Steps L.meaning M (event.Claim f) self.old self.new result }
     {
@@ -178,7 +178,7 @@ impl<L: Lists, const M: u32> Live<L, M> {
     }
 
     /// A fetcher's claim ends.
-    pub fn lose(&mut self, f: u8) -> Result<LiveReply, AllocError>
+    pub fn lose(&mut self, _g: &Group, f: u8) -> Result<LiveReply, AllocError>
         requires { IsFetcher f }
         ensures { Steps L.meaning M (event.Lose f) self.old self.new result }
     {
@@ -195,7 +195,7 @@ impl<L: Lists, const M: u32> Live<L, M> {
     }
 
     /// A copy of the packet of an own part that was published; `None` where there is no such part.
-    pub fn lend(&self, part: Part) -> Result<Option<Lent<L>>, AllocError>
+    pub fn lend(&self, alloc: Global, part: Part) -> Result<Option<Lent<L>>, AllocError>
         ensures own { IfOk result (λ lent.
             option_map (λ l. l.octets) lent ≡ logged L.meaning.group self.now.state part) }
         ensures part { IfOk result (λ lent. IfSome lent (λ l. l.part ≡ part)) }
@@ -206,16 +206,16 @@ impl<L: Lists, const M: u32> Live<L, M> {
         let Some(packet) = self.member.packet(part) else {
             return Ok(None);
         };
-        let octets = packet.to_vec(*self.journal.allocator())?;
+        let octets = packet.to_vec(alloc)?;
         Ok(Some(Lent::new(part, octets)))
     }
 
     /// The sync Interest that tells what the member knows now.
-    pub fn tell(&self, g: &Group) -> Result<Told<L>, AllocError>
+    pub fn tell(&self, alloc: Global, g: &Group) -> Result<Told<L>, AllocError>
         requires { g.now ≡ L.meaning.group }
         ensures { IfOk result (λ told. told ≡ sync_of L.meaning.group self.now.state.number self.now.state.known) }
     {
-        let octets = self.member.sync(*self.journal.allocator(), g)?;
+        let octets = self.member.sync(alloc, g)?;
         Ok(Told::new(octets))
     }
 

@@ -1,5 +1,5 @@
 -- The calls of a settle over members in their places.
-use Rattle.std.proofs.Common.{◌≡◌, ℕ, ◌+◌, ◌-◌, ◌≤◌, ◌<◌, List, length, get_or, set}
+use Rattle.std.proofs.Common.{refl, ◌≡◌, ℕ, ◌+◌, ◌-◌, ◌≤◌, ◌<◌, List, length, get_or, set}
 use Rattle.std.proofs.Common.{inl, inr, sym, ap, ◌∙◌}
 use Rattle.std.proofs.Common.{subst, arith, true, false, Option, Some, None}
 use Rattle.std.specs.Prelude.{IsSomeAnd, slice_index}
@@ -110,7 +110,7 @@ module _ (t : Meaning) (ls : List Living) (j : ℕ) (d mid : Living) (r : LiveRe
       let now = at_set ls j mid there in (
         record {
           only = only_set ls j mid there mid_number
-              (continues_with (at ls j).journal _ mid.journal (enters_none t (at ls j) mid r is less here none));
+              (continues_with (at ls j).journal _ mid.journal (enters_none t (at ls j) mid r is less here none) refl);
           joined = subst (IsJoined t) (sym now) (nothing_left t (at ls j) mid r is less here none);
         },
         subst (λ (m : Living). EntersTurn (at ls j) m false) (sym now)
@@ -165,7 +165,7 @@ module _ (t : Meaning) (ls : List Living) (j : ℕ) (d mid : Living) (r : LiveRe
         let now : at (set (set ls j mid) j new) j ≡ new = at_set (set ls j mid) j new wide in (
           record {
             only = only_again ls j mid new there h.number
-                (continues_with (at ls j).journal _ new.journal h.entries.journal);
+                (continues_with (at ls j).journal _ new.journal h.entries.journal refl);
             gathering = subst (IsGathering t) (sym now) h.gathering;
             fewer = subst (λ (m : Living). missing_of t m.state + 1 ≤ missing_of t (at ls j).state) (sym now) h.fewer;
             few =

@@ -63,7 +63,7 @@ pub one_published : (t : Meaning) (old l new : Living) (octets : List ℕ) → I
     → IsNext t 1000000 l new octets → IsPublishingRest t old new
 one_published t old l new octets is next =
     let front : Continues l.journal new.journal =
-    continues_with l.journal _ new.journal next.entered.entered in
+    continues_with l.journal _ new.journal next.entered.entered refl in
     let one = ap length next.first in
     let long = ap length next.entered.entered ∙ length-append l.journal _ in
     record {

@@ -131,5 +131,5 @@ has_heard t l other new p octets r is others number knows room told steps =
           (hears_one_more ls p l.state.known other.state.known knows
           (subst (λ (k : ℕ). slice_index other.state.known k ≡ last_of ls k) number theirs.sound.own));
       entries = ap length entered.entered ∙ length-append l.journal _;
-      front = continues_with l.journal _ new.journal entered.entered;
+      front = continues_with l.journal _ new.journal entered.entered refl;
     }

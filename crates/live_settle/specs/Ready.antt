@@ -15,6 +15,7 @@ use Rattle.live_member.specs.declared.event.LiveReply.TheVariants as reply
 use Rattle.live_member.specs.declared.event.LiveEntry.{LiveEntry}
 use Rattle.live_member.specs.Meanings.{Meaning, whole_logs}
 use Rattle.live_member.specs.Lives.{Living, living, IsLive}
+use Rattle.live_member.specs.Entries.{claims_by}
 use Rattle.live_member.specs.LockedCalls.{entry}
 
 -- The member at a place.
@@ -33,10 +34,11 @@ pub record ArePlaced (t : Meaning) (ls : List Living) : Type 0 where
 abbrev pub HasRoom : ℕ → ℕ → List Living → Type 0
 HasRoom from most ls = (p : ℕ) → from ≤ p → p < length ls → length (at ls p).journal ≤ most
 
--- A journal that begins with an earlier one, unchanged.
+-- A journal that begins with an earlier one, unchanged. Fetcher 2 claims nothing more in it.
 pub record Continues (old new : List LiveEntry) : Type 0 where
   pub more : List LiveEntry
   pub journal : new ≡ old ++ more
+  pub second : claims_by 2 more ≡ 0
 
 -- Each member's journal begins with the one that it had.
 abbrev pub KeepFronts : List Living → List Living → Type 0

@@ -4,10 +4,14 @@ ghost use Rattle.live_settle.specs.Ready.{AfterTurn, EntersTurn, KeepFronts};
 
 use live_member::{Lists, Live, LiveReply};
 use repo_member::Group;
-use std::alloc::AllocError;
+use std::alloc::{AllocError, Global};
 
 /// Each member fetches all that it wants.
-pub fn all_gather<L: Lists>(g: &Group, lives: &mut [Live<L, 1000000>]) -> Result<(), AllocError>
+pub fn all_gather<L: Lists>(
+    alloc: Global,
+    g: &Group,
+    lives: &mut [Live<L, 1000000>],
+) -> Result<(), AllocError>
     requires group { g.now ≡ L.meaning.group }
     requires ready { AreReady L.meaning lives.old }
     requires gathering { AreGathering L.meaning lives.old }
@@ -17,13 +21,18 @@ pub fn all_gather<L: Lists>(g: &Group, lives: &mut [Live<L, 1000000>]) -> Result
     ensures fronts { OnOk result (KeepFronts lives.old lives.new) }
 {
     for j in 0..lives.len() {
-        gather(g, lives, j)?;
+        gather(alloc, g, lives, j)?;
     }
     Ok(())
 }
 
 // Fetcher 1 of a member claims and takes parts until nothing is to be claimed.
-fn gather<L: Lists>(g: &Group, lives: &mut [Live<L, 1000000>], j: usize) -> Result<(), AllocError>
+fn gather<L: Lists>(
+    alloc: Global,
+    g: &Group,
+    lives: &mut [Live<L, 1000000>],
+    j: usize,
+) -> Result<(), AllocError>
     requires group { g.now ≡ L.meaning.group }
     requires ready { AreReady L.meaning lives.old }
     requires there { j < length lives.old }
@@ -31,12 +40,17 @@ fn gather<L: Lists>(g: &Group, lives: &mut [Live<L, 1000000>], j: usize) -> Resu
     requires room { length (at lives.old j).journal ≤ 900232 }
     ensures { OnOk result (Joins L.meaning j lives.old lives.new) }
 {
-    while turn(g, lives, j)? {}
+    while turn(alloc, g, lives, j)? {}
     Ok(())
 }
 
 // Fetcher 1 of a member claims a part and takes its publisher's packet; false where nothing is to be claimed.
-fn turn<L: Lists>(g: &Group, lives: &mut [Live<L, 1000000>], j: usize) -> Result<bool, AllocError>
+fn turn<L: Lists>(
+    alloc: Global,
+    g: &Group,
+    lives: &mut [Live<L, 1000000>],
+    j: usize,
+) -> Result<bool, AllocError>
     requires group { g.now ≡ L.meaning.group }
     requires ready { AreReady L.meaning lives.old }
     requires there { j < length lives.old }
@@ -45,10 +59,10 @@ fn turn<L: Lists>(g: &Group, lives: &mut [Live<L, 1000000>], j: usize) -> Result
     ensures turned { IfOk result (AfterTurn L.meaning j lives.old lives.new) }
     ensures entries { IfOk result (EntersTurn (at lives.old j) (at lives.new j)) }
 {
-    let LiveReply::Claimed { part } = lives[j].claim(1)? else {
+    let LiveReply::Claimed { part } = lives[j].claim(g, 1)? else {
         return Ok(false);
     };
-    if let Some(lent) = lives[part.publisher as usize].lend(part)? {
+    if let Some(lent) = lives[part.publisher as usize].lend(alloc, part)? {
         lives[j].accept(g, 1, &lent)?;
     }
     Ok(true)

@@ -5,10 +5,14 @@ ghost use Rattle.live_settle.specs.Hearings.{HearsTelling, HearsFirst};
 
 use live_member::{Lists, Live};
 use repo_member::Group;
-use std::alloc::AllocError;
+use std::alloc::{AllocError, Global};
 
 /// Each member hears all others.
-pub fn all_hear<L: Lists>(g: &Group, lives: &mut [Live<L, 1000000>]) -> Result<(), AllocError>
+pub fn all_hear<L: Lists>(
+    alloc: Global,
+    g: &Group,
+    lives: &mut [Live<L, 1000000>],
+) -> Result<(), AllocError>
     requires group { g.now ≡ L.meaning.group }
     requires ready { AreReady L.meaning lives.old }
     requires room { HasRoom 0 900216 lives.old }
@@ -18,13 +22,14 @@ pub fn all_hear<L: Lists>(g: &Group, lives: &mut [Live<L, 1000000>]) -> Result<(
     ensures fronts { OnOk result (KeepFronts lives.old lives.new) }
 {
     for j in 0..lives.len() {
-        hear_others(g, lives, j)?;
+        hear_others(alloc, g, lives, j)?;
     }
     Ok(())
 }
 
 // A member hears all others, in order.
 fn hear_others<L: Lists>(
+    alloc: Global,
     g: &Group,
     lives: &mut [Live<L, 1000000>],
     j: usize,
@@ -37,13 +42,14 @@ fn hear_others<L: Lists>(
     ensures heard { OnOk result (HearsFirst L.meaning j (length lives.old) lives.old lives.new) }
 {
     for p in 0..lives.len() {
-        hear_one(g, lives, j, p)?;
+        hear_one(alloc, g, lives, j, p)?;
     }
     Ok(())
 }
 
 // A member hears one other, and not itself.
 fn hear_one<L: Lists>(
+    alloc: Global,
     g: &Group,
     lives: &mut [Live<L, 1000000>],
     j: usize,
@@ -63,7 +69,7 @@ fn hear_one<L: Lists>(
     if p == j {
         return Ok(());
     }
-    let told = lives[p].tell(g)?;
+    let told = lives[p].tell(alloc, g)?;
     lives[j].hear(g, &told)?;
     Ok(())
 }

@@ -37,7 +37,7 @@ fn ready<L: Lists>(g: &Group, live: &mut Live<L, 1000000>) -> Result<(), AllocEr
     ensures front { OnOk result (Continues live.old.journal live.new.journal) }
 {
     publish_rest(g, live)?;
-    lose_claims(live)
+    lose_claims(g, live)
 }
 
 // What is still to come of the list is published.
@@ -56,7 +56,7 @@ fn publish_rest<L: Lists>(g: &Group, live: &mut Live<L, 1000000>) -> Result<(), 
 }
 
 // Each held claim ends.
-fn lose_claims<L: Lists>(live: &mut Live<L, 1000000>) -> Result<(), AllocError>
+fn lose_claims<L: Lists>(g: &Group, live: &mut Live<L, 1000000>) -> Result<(), AllocError>
     requires live { IsLive L.meaning 1000000 live.old }
     requires coming { live.old.coming ≡ [] }
     requires room { length live.old.journal ≤ 900200 }
@@ -66,14 +66,14 @@ fn lose_claims<L: Lists>(live: &mut Live<L, 1000000>) -> Result<(), AllocError>
     ensures front { OnOk result (Continues live.old.journal live.new.journal) }
 {
     for earlier in 0..LAST_FETCHER {
-        lose_claim(live, earlier + 1)?;
+        lose_claim(g, live, earlier + 1)?;
     }
     Ok(())
 }
 
 // The claim of a fetcher ends, if it has one.
-#[tactic(auto, using(crate::proofs::Fronts::continues_more, crate::proofs::Fronts::continues_itself))]
-fn lose_claim<L: Lists>(live: &mut Live<L, 1000000>, f: u8) -> Result<(), AllocError>
+#[tactic(auto, using(crate::proofs::Fronts::continues_lost, crate::proofs::Fronts::continues_itself))]
+fn lose_claim<L: Lists>(g: &Group, live: &mut Live<L, 1000000>, f: u8) -> Result<(), AllocError>
     requires fetcher { IsFetcher f }
     requires live { IsLive L.meaning 1000000 live.old }
     requires room { length live.old.journal < 1000000 }
@@ -82,6 +82,6 @@ fn lose_claim<L: Lists>(live: &mut Live<L, 1000000>, f: u8) -> Result<(), AllocE
     if live.member().claimed(f).is_none() {
         return Ok(());
     }
-    live.lose(f)?;
+    live.lose(g, f)?;
     Ok(())
 }

@@ -28,8 +28,8 @@ pub fn settle<L: Lists>(
     ensures fronts { IfOk result (λ rans. AreContinued lives.items rans.items) }
 {
     all_ready(g, lives.as_mut_slice())?;
-    all_hear(g, lives.as_mut_slice())?;
-    all_gather(g, lives.as_mut_slice())?;
+    all_hear(alloc, g, lives.as_mut_slice())?;
+    all_gather(alloc, g, lives.as_mut_slice())?;
     all_ran(alloc, lives)
 }
 

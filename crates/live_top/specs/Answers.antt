@@ -1,5 +1,6 @@
 -- What a run of a live group answers, writes and leaves.
-use Rattle.std.specs.Prelude.{◌≡◌, ⊤, ℕ, Bool, true, false, List, [], ◌∷◌, codes, Option, Some, None, Vec}
+use Rattle.std.specs.Prelude.{◌≡◌, ◌≢◌, ◌↔◌, ◌⊎◌, ⊤, ℕ, Bool, true, false, List, [], ◌∷◌, codes, Option, Some, None}
+use Rattle.std.specs.Prelude.{IfSome, IsSome, Vec}
 use Rattle.std.specs.Global.{Global}
 use Rattle.std.specs.Str.{bytes_eq}
 use Rattle.std.specs.Io.KnownBytes.{IsAtEnd, Keeps, prepend_known}
@@ -8,6 +9,7 @@ use Rattle.live_settle.specs.Rans.{AreRans}
 use Rattle.repo_io.specs.declared.status.Status.{Status}
 use Rattle.repo_io.specs.declared.status.Status.TheVariants as status
 use Rattle.repo_io.specs.Outside.{GainsText, GainsFront}
+use Rattle.repo_io.specs.Statuses.{IsTold}
 use Rattle.script_report.specs.declared.refusal.Refusal.{Refusal}
 use Rattle.script_report.specs.Refusals.{refusal_number, refusal_text}
 use Rattle.live_script.specs.Judging.{Reached, is_of_live}
@@ -62,6 +64,44 @@ pub record WritesFront (draw : ℕ → ℕ → ℕ) (outcome : Outcome) (old new
   pub text : List ℕ
   pub may : MayWrite draw outcome text
   pub front : GainsFront old new text FellShort
+
+-- ---- a run, topic by topic
+
+-- The words alone decide on `Usage`.
+pub record UsageIsOfWords (words : List (List ℕ)) (answer : Status) (SameSource SameSink : Type 0) : Type 0 where
+  -- It comes exactly where they aren't `live`.
+  pub usage : (answer ≡ status.Usage) ↔ (is_live words ≡ false)
+  -- Then nothing is read or written.
+  pub untouched : answer ≡ status.Usage → SameSource × SameSink
+
+-- The status is of the lines of the input.
+pub record IsOfLines (left : Option (List ℕ)) (answer : Status) : Type 0 where
+  -- On `Done` and `Refused` it is what they come to.
+  pub told : IsTold answer → IfSome left (λ input. answer ≡ status_of (outcome_of input))
+  -- No line brings octets, so none is foreign.
+  pub never_foreign : (line : ℕ) → answer ≢ status.Foreign line
+
+-- The members that are left.
+pub record LeavesRans (draw : ℕ → ℕ → ℕ) (left rest old new : Option (List ℕ)) (answer : Status)
+    (end : Option (Vec Ran Global)) : Type 0 where
+  -- On `Done` they are there,
+  pub there : answer ≡ status.Done → IsSome end
+  -- and ran as the input says, which was read to its end, and their journals and catalogues were written.
+  pub done : answer ≡ status.Done → IfSome end (λ rans. HasRun draw left rest old new rans.items)
+  -- In every other case there are none.
+  pub none : answer ≢ status.Done → end ≡ None
+
+-- The other answers have their causes. Memory may run out at any time.
+pub record HasCause (words : List (List ℕ)) (left : Option (List ℕ)) (answer : Status)
+    (SameSink SourceFailed SinkFailed : Type 0) : Type 0 where
+  -- `ReadFault` comes only where the source failed, and then nothing was written.
+  pub read_fault : answer ≡ status.ReadFault → SourceFailed
+  pub unwritten : answer ≡ status.ReadFault → SameSink
+  -- `WriteFault` comes only where the sink failed.
+  pub write_fault : answer ≡ status.WriteFault → SinkFailed
+  -- Where nothing fails, what the lines come to is answered, unless memory runs out.
+  pub complete : is_live words ≡ true → (SourceFailed → ⊥) → (SinkFailed → ⊥)
+      → IfSome left (λ input. (answer ≡ status_of (outcome_of input)) ⊎ (answer ≡ status.NoMemory))
 
 -- ---- the two ends of a run
 

@@ -1,10 +1,9 @@
-ghost use Rattle.std.specs.Prelude.{◌≡◌, ◌≢◌, ◌↔◌, ◌⊎◌, ◌<◌, ◌^◌, ℕ, true, false, None, IsSome, IfSome, IfOk, length};
-ghost use Rattle.std.specs.Prelude.{map, string_bytes};
+ghost use Rattle.std.specs.Prelude.{◌≡◌, ◌⊎◌, ◌<◌, ◌^◌, ℕ, None, IfSome, IfOk, length, map, string_bytes};
 ghost use Rattle.live_member.specs.Meanings.{IsWithinLimits, meaning_of};
 ghost use Rattle.live_settle.specs.Rans.{AreRans};
-ghost use Rattle.repo_io.specs.Statuses.{IsTold};
 ghost use Rattle.repo_io.specs.Outside.{HasRisen};
-ghost use Rattle.live_top.specs.Answers.{HasRun, Refuses, Runs, SaysRefused, WritesFront, is_live, status_of};
+ghost use Rattle.live_top.specs.Answers.{HasCause, IsOfLines, LeavesRans, Refuses, Runs, SaysRefused, UsageIsOfWords};
+ghost use Rattle.live_top.specs.Answers.{WritesFront, is_live};
 ghost use Rattle.script_report.specs.Refusals.{refusal_text};
 ghost use Rattle.live_top.specs.Outcomes.{first_draws, outcome_of};
 
@@ -39,40 +38,33 @@ pub fn run_live<R: Threads + Wait + Sync, S: Source, K: Sink, D: Draws, G: Gate 
 ) -> Status
     requires { end.old ≡ None }
 
-    // The words alone decide on `Usage`. Then nothing is read or written.
-    ensures usage { (result ≡ Status.Usage) ↔ (is_live (map string_bytes words.now) ≡ false) }
-    ensures untouched { result ≡ Status.Usage → (source.new ≡ source.old) × (sink.new ≡ sink.old) }
+    // `Usage` comes exactly where the words aren't `live`, and then nothing is read or written.
+    ensures usage { UsageIsOfWords (map string_bytes words.now) result
+        (source.new ≡ source.old) (sink.new ≡ sink.old) }
 
     // On `Done` and `Refused` the status is what the lines of the input come to: the first that is refused, or that all
     // are taken. No line brings octets, so none is foreign.
-    ensures told { IsTold result → IfSome (S.left source.old) (λ input. result ≡ status_of (outcome_of input)) }
-    ensures never_foreign { (line : ℕ) → result ≢ Status.Foreign line }
+    ensures lines { IsOfLines (S.left source.old) result }
 
     // On `Done` the members that are left ran as the input says: the journal of each replays to it, from its beginning
     // with the input's group and lists and the member's first draw for every one, and its catalogue is the join of all
     // lists. What was written are their journals and then their catalogues.
-    ensures there { result ≡ Status.Done → IsSome end.new }
-    ensures done { result ≡ Status.Done → IfSome end.new (λ rans. HasRun (D.draw draws.now)
-        (S.left source.old) (S.left source.new) (K.out sink.old) (K.out sink.new) rans.items) }
-    ensures none { result ≢ Status.Done → end.new ≡ None }
+    ensures left { LeavesRans (D.draw draws.now) (S.left source.old) (S.left source.new) (K.out sink.old)
+        (K.out sink.new) result end.new }
 
     // On `Refused` what was written is the refusal's line alone.
     ensures refused { (line number : ℕ) → result ≡ Status.Refused line number
         → SaysRefused line number (K.out sink.old) (K.out sink.new) }
 
-    // The other answers have their causes; want of memory may come at any time. Whatever comes, nothing was written, or
-    // a front of a text that such a run may write, and after `WriteFault` not the whole of it.
-    ensures read_fault { result ≡ Status.ReadFault → HasRisen (S.faults source.old) (S.faults source.new) }
-    ensures unwritten { result ≡ Status.ReadFault → sink.new ≡ sink.old }
-    ensures write_fault { result ≡ Status.WriteFault → HasRisen (K.faults sink.old) (K.faults sink.new) }
+    // The other answers have their causes. Memory may run out at any time.
+    ensures causes { HasCause (map string_bytes words.now) (S.left source.old) result (sink.new ≡ sink.old)
+        (HasRisen (S.faults source.old) (S.faults source.new)) (HasRisen (K.faults sink.old) (K.faults sink.new)) }
+
+    // Whatever comes, nothing was written, or a prefix of a text that such a run may write, and after `WriteFault` not
+    // the whole of it.
     ensures front { IfSome (S.left source.old) (λ input. (sink.new ≡ sink.old)
         ⊎ WritesFront (D.draw draws.now) (outcome_of input) (K.out sink.old) (K.out sink.new)
         (result ≡ Status.WriteFault)) }
-    ensures complete { is_live (map string_bytes words.now) ≡ true
-        → ¬ HasRisen (S.faults source.old) (S.faults source.new)
-        → ¬ HasRisen (K.faults sink.old) (K.faults sink.new)
-        → IfSome (S.left source.old)
-        (λ input. (result ≡ status_of (outcome_of input)) ⊎ (result ≡ Status.NoMemory)) }
 {
     if !is_live(words) {
         return Status::Usage;

@@ -1,0 +1,15 @@
+//! What the actors of a live group do, as the whole list of their calls: one publishes a member's list and hears, two
+//! fetch.
+//!
+//! What is promised of it: `docs/promises/live_actors.md`.
+#![tactic(auto)]
+
+mod actor;
+mod actors;
+mod noted;
+mod places;
+
+pub use actor::Actor;
+pub use actors::{act, fetch, publish};
+pub use noted::Noted;
+pub use places::Places;

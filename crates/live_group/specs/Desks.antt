@@ -1,0 +1,37 @@
+-- What lies under a member's lock, and what has come out of it.
+use Rattle.std.specs.Prelude.{ℕ, ◌≡◌, ◌+◌, ◌*◌, ◌<◌, [], length}
+use Rattle.live_member.specs.Lives.{Living}
+use Rattle.live_member.specs.Entries.{claims_by}
+
+-- The journal has room, so that no call was answered Full.
+abbrev pub HasRoom : Living → Type 0
+HasRoom l = length l.journal < 900000
+
+-- Nothing was done with the member.
+abbrev pub HasBegun : Living → Type 0
+HasBegun l = l.journal ≡ []
+
+-- How many tickets the actors of a member have: one for each claim of its two fetchers, and one for the call that finds
+-- nothing to publish.
+abbrev pub tickets_each : ℕ → ℕ
+tickets_each turns = turns * 2 + 1
+
+-- Under a lock lies a member with so many claims and last looks still to come, and so many tickets spent. As long as
+-- its journal has room, the claims of each fetcher in it and those still to come are its turns; and once there was the
+-- last look, nothing is to be published.
+pub record IsDesk (turns : ℕ) (l : Living) (first second look spent : ℕ) : Type 0 where
+  pub tickets : spent + first + second + look ≡ tickets_each turns
+  pub firsts : HasRoom l → claims_by 1 l.journal + first ≡ turns
+  pub seconds : HasRoom l → claims_by 2 l.journal + second ≡ turns
+  pub published : HasRoom l → look ≡ 0 → l.coming ≡ []
+
+-- All that a member's own actors do was done with it: its journal has so many claims of each of its two fetchers, and
+-- its whole list is published.
+pub record HasActed (turns : ℕ) (l : Living) : Type 0 where
+  pub first : claims_by 1 l.journal ≡ turns
+  pub second : claims_by 2 l.journal ≡ turns
+  pub published : l.coming ≡ []
+
+-- Where no ticket of a member's actors is left, they have done all of this, as long as the journal had room.
+abbrev pub HasEnded : ℕ → Living → ℕ → Type 0
+HasEnded turns l left = left ≡ 0 → HasRoom l → HasActed turns l
