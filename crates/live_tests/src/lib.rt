@@ -4,6 +4,10 @@
 #![tactic(auto)]
 
 #[cfg(test)]
+mod actors;
+#[cfg(test)]
+mod gated;
+#[cfg(test)]
 mod group;
 #[cfg(test)]
 mod inbox;
@@ -13,5 +17,7 @@ mod inputs;
 mod limits;
 #[cfg(test)]
 mod member;
+#[cfg(test)]
+mod memory;
 #[cfg(test)]
 mod settle;

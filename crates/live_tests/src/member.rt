@@ -46,15 +46,20 @@ fn publish_first<L: Lists>(
 )
     requires { g.now ≡ L.meaning.group }
 {
-    let early = bob.tell(g).expect(rt, "memory");
-    assert!(rt; alice.lend(part(1, 0)).expect(rt, "memory").is_none());
+    let early = bob.tell(rt.alloc(), g).expect(rt, "memory");
+    assert!(rt;
+        alice
+            .lend(rt.alloc(), part(1, 0))
+            .expect(rt, "memory")
+            .is_none()
+    );
     let first = told(alice.publish_next(g).expect(rt, "memory")).expect(rt, "a publication");
-    assert!(rt; first.octets() == alice.tell(g).expect(rt, "memory").octets());
+    assert!(rt; first.octets() == alice.tell(rt.alloc(), g).expect(rt, "memory").octets());
     assert!(rt; first.octets() != early.octets());
     assert!(rt; matches!(alice.publish_next(g), Ok(NextTold::Full)));
     assert!(rt; alice.hear(g, &early) == Ok(LiveReply::Full));
-    assert!(rt; alice.claim(1) == Ok(LiveReply::Full));
-    assert!(rt; alice.lose(1) == Ok(LiveReply::Full));
+    assert!(rt; alice.claim(g, 1) == Ok(LiveReply::Full));
+    assert!(rt; alice.lose(g, 1) == Ok(LiveReply::Full));
     compare_journal(rt, alice.journal(), &[LiveReply::Published { seq: 1 }]);
     let copy = first.copy(rt.alloc()).expect(rt, "memory");
     assert!(rt; copy.octets() == first.octets());
@@ -77,18 +82,21 @@ fn fetch<L: Lists, const M: u32>(
 )
     requires { g.now ≡ L.meaning.group }
 {
-    let lent = alice.lend(part).expect(rt, "memory").expect(rt, "a part");
+    let lent = alice
+        .lend(rt.alloc(), part)
+        .expect(rt, "memory")
+        .expect(rt, "a part");
     assert!(rt; lent.part() == part);
     compare_packet(rt, alice.member(), part, lent.octets());
     assert!(rt; bob.accept(g, 1, &lent) == Ok(LiveReply::Refused));
-    assert!(rt; bob.claim(1) == Ok(LiveReply::Claimed { part }));
-    assert!(rt; bob.claim(1) == Ok(LiveReply::Refused));
-    assert!(rt; bob.lose(1) == Ok(LiveReply::Lost { part }));
-    assert!(rt; bob.lose(1) == Ok(LiveReply::Refused));
-    assert!(rt; bob.claim(1) == Ok(LiveReply::Claimed { part }));
+    assert!(rt; bob.claim(g, 1) == Ok(LiveReply::Claimed { part }));
+    assert!(rt; bob.claim(g, 1) == Ok(LiveReply::Refused));
+    assert!(rt; bob.lose(g, 1) == Ok(LiveReply::Lost { part }));
+    assert!(rt; bob.lose(g, 1) == Ok(LiveReply::Refused));
+    assert!(rt; bob.claim(g, 1) == Ok(LiveReply::Claimed { part }));
     assert!(rt; bob.accept(g, 1, &lent) == Ok(LiveReply::Kept));
     compare_packet(rt, bob.member(), part, lent.octets());
-    assert!(rt; bob.lend(part).expect(rt, "memory").is_none());
+    assert!(rt; bob.lend(rt.alloc(), part).expect(rt, "memory").is_none());
 }
 
 // With more room alice publishes the second object, after hearing of a member that knows less.
@@ -102,10 +110,10 @@ fn publish_second<L: Lists>(
 {
     let second = told(alice.publish_next(g).expect(rt, "memory")).expect(rt, "a publication");
     assert!(rt; matches!(alice.publish_next(g), Ok(NextTold::Done)));
-    let earlier = bob.tell(g).expect(rt, "memory");
+    let earlier = bob.tell(rt.alloc(), g).expect(rt, "memory");
     assert!(rt; alice.hear(g, &earlier) == Ok(LiveReply::Suppressed));
     assert!(rt; bob.hear(g, &second) == Ok(LiveReply::Steady));
-    assert!(rt; alice.claim(2) == Ok(LiveReply::NoPart));
+    assert!(rt; alice.claim(g, 2) == Ok(LiveReply::NoPart));
 }
 
 // The replies at bob, in order.

@@ -8,7 +8,8 @@
 mod tests;
 
 use bench_net::Seeded;
-use repo_top::{ReadSource, Status, WriteSink, run};
+use repo_io::{ReadSource, Status, WriteSink};
+use repo_top::run;
 use std::env::{self, Env};
 use std::io;
 use std::process::ExitCode;

@@ -1,6 +1,7 @@
 ghost use Rattle.std.specs.Prelude.{◌≡◌, ◌≤◌, None};
 
 mod changed;
+mod checks;
 mod ended;
 mod events;
 mod faults;
@@ -17,9 +18,11 @@ mod serial;
 mod streams;
 mod words;
 
+use self::checks::{is, same};
 use bench_net::{Draws, FixedDraws, Net, OpenNet};
 use bench_world::World;
-use repo_top::*;
+use repo_io::*;
+use repo_top::run;
 use std::process::Abort;
 use std::str;
 use std::thread::Threads;
@@ -99,14 +102,14 @@ fn status_of<R: Threads + Sync + AllocGlobal + Abort, S: Source, K: Sink>(
     let given = (&OpenNet::new(), &FixedDraws::new(100));
     let mut end = None;
     let answered = run_over(rt, words, source, sink, given, &mut end);
-    assert!(rt; end.is_none() || answered == Status::Done);
+    is(rt, end.is_none() || answered == Status::Done, words);
     answered
 }
 
 // What was answered and written is this.
 fn compare(rt: &impl Abort, came: (Status, &[u8]), wanted: Status, text: &str) {
-    assert_eq!(rt; str::from_utf8(came.1), Ok(text));
-    assert_eq!(rt; came.0, wanted);
+    same(rt, str::from_utf8(came.1), Ok(text), "printed");
+    same(rt, came.0, wanted, "status");
 }
 
 // Expects a status and what is written.

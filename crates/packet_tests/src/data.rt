@@ -1,6 +1,7 @@
 mod hostile;
 mod worked;
 
+use crate::expect::{is, is_of, same, same_octets, same_of};
 use hostile::HOSTILE;
 use ndn_data::*;
 use ndn_name::{Name, NameView};
@@ -33,24 +34,25 @@ fn worked_segment_is_read(rt: HostRuntime) {
     let data = DataView::read(&SEGMENT).expect(&rt, "a packet");
     is_the_segment(&rt, &data);
     is_signed_by_alice(&rt, &data);
-    assert!(rt; data.all_signed());
+    is(&rt, data.all_signed(), "all is signed");
 }
 
 fn is_the_segment(rt: &impl Abort, data: &DataView<'_>) {
-    assert!(rt; data.name.octets() == DOC);
-    assert!(rt; data.content == b"abc".as_slice());
-    assert!(rt; data.content_type == 0);
+    same_octets(rt, data.name.octets(), DOC, "name");
+    same_octets(rt, data.content, b"abc", "content");
+    same(rt, data.content_type, 0, "content type");
     let last = data.last.expect(rt, "a last segment");
-    assert!(rt; last.typ == 0x32 && last.value.len() == 1);
+    same(rt, (last.typ, last.value.len()), (0x32, 1), "last segment");
 }
 
 fn is_signed_by_alice(rt: &impl Abort, data: &DataView<'_>) {
-    assert!(rt; data.signature_type == 4);
+    same(rt, data.signature_type, 4, "signature type");
     let locator = data.locator.as_ref().expect(rt, "a locator");
-    assert!(rt; locator.octets() == ALICE_KEY);
-    assert!(rt; data.signature == &SEGMENT[47..]);
-    assert!(rt; data.signed_portion() == &SEGMENT[2..45]);
-    assert!(rt; hmac(KEY, data.signed_portion(), &[]).as_slice() == data.signature);
+    same_octets(rt, locator.octets(), ALICE_KEY, "locator");
+    same_octets(rt, data.signature, &SEGMENT[47..], "signature");
+    same_octets(rt, data.signed_portion(), &SEGMENT[2..45], "signed portion");
+    let mac = hmac(KEY, data.signed_portion(), &[]);
+    same_octets(rt, mac.as_slice(), data.signature, "mac");
 }
 
 #[test]
@@ -70,14 +72,18 @@ fn is_written(
 ) {
     let name = name(rt, value);
     let packet = write_signed(rt.alloc(), &name, last, content, key_name, KEY);
-    assert!(rt; packet.expect(rt, "memory").as_slice() == octets);
+    same_octets(
+        rt,
+        packet.expect(rt, "memory").as_slice(),
+        octets,
+        "a packet",
+    );
 }
 
 #[test]
 fn hostile_packets(rt: HostRuntime) {
-    for (octets, fault) in HOSTILE {
-        let refused = DataView::read(octets).err();
-        assert!(rt; refused == Some(fault), "{refused:?}: {octets:?}");
+    for (octets, fault) in &HOSTILE {
+        same_of(&rt, DataView::read(octets).err(), Some(*fault), octets);
     }
 }
 
@@ -159,16 +165,16 @@ const STRANGERS: [(&[u8], usize, usize, bool); 5] = [
 
 #[test]
 fn strangers_are_passed_over_and_signed(rt: HostRuntime) {
-    for (octets, start, end, all_signed) in STRANGERS {
+    for (octets, start, end, all_signed) in &STRANGERS {
         let data = DataView::read(octets).expect(&rt, "a packet");
-        signs(&rt, &data, octets.get(start..end).expect(&rt, "octets"));
-        assert!(rt; data.all_signed() == all_signed, "{octets:?}");
+        signs(&rt, &data, octets.get(*start..*end).expect(&rt, "octets"));
+        is_of(&rt, data.all_signed() == *all_signed, octets);
     }
 }
 
 fn signs(rt: &impl Abort, data: &DataView<'_>, octets: &[u8]) {
-    assert!(rt; data.signed_portion() == octets, "{octets:?}");
-    assert!(rt; data.content == b"abc".as_slice());
+    same_octets(rt, data.signed_portion(), octets, "signed portion");
+    same_octets(rt, data.content, b"abc", "octets");
 }
 
 // Signature infos that are read: each with the octets of the key's name, where it has one.
@@ -231,17 +237,18 @@ const INFOS: [(&[u8], u64, Option<&[u8]>); 6] = [
 
 #[test]
 fn signature_infos(rt: HostRuntime) {
-    for (octets, signature_type, locator) in INFOS {
+    for (octets, signature_type, locator) in &INFOS {
         let data = DataView::read(octets).expect(&rt, "a packet");
-        assert!(rt; data.signature_type == signature_type, "{octets:?}");
-        has_locator(&rt, &data, locator);
+        same_of(&rt, data.signature_type, *signature_type, octets);
+        has_locator(&rt, &data, *locator);
     }
 }
 
 fn has_locator(rt: &impl Abort, data: &DataView<'_>, locator: Option<&[u8]>) {
     let found = data.locator.as_ref().map(|name| name.octets());
-    assert!(rt; found == locator, "{locator:?}");
-    assert!(rt; data.content.is_empty() && data.last.is_none());
+    same(rt, found, locator, "locator");
+    is(rt, data.content.is_empty(), "no content, no last segment");
+    is(rt, data.last.is_none(), "no content, no last segment");
 }
 
 // Packets with a MetaInfo: the content type, and the type of the last segment's component.
@@ -278,13 +285,11 @@ const META_INFOS: [(&[u8], u64, Option<u16>); 3] = [
 
 #[test]
 fn meta_infos(rt: HostRuntime) {
-    for (octets, content_type, last) in META_INFOS {
+    for (octets, content_type, last) in &META_INFOS {
         let data = DataView::read(octets).expect(&rt, "a packet");
-        assert!(rt; data.content_type == content_type, "{octets:?}");
-        assert!(rt;
-            data.last.map(|component| component.typ) == last,
-            "{octets:?}"
-        );
+        same_of(&rt, data.content_type, *content_type, octets);
+        let typ = data.last.map(|component| component.typ);
+        same_of(&rt, typ, *last, octets);
     }
 }
 
@@ -305,9 +310,9 @@ const ASKED: [(&[u8], bool, bool); 8] = [
 fn names_that_a_packet_satisfies(rt: HostRuntime) {
     let data = DataView::read(&SEGMENT).expect(&rt, "a packet");
     let id = digest(&SEGMENT);
-    for (value, exactly, by_prefix) in ASKED {
+    for (value, exactly, by_prefix) in &ASKED {
         let name = NameView::read(value, 0).expect(&rt, "a name");
-        assert!(rt; data.satisfies(&name, false, &id) == exactly, "{value:?}");
-        assert!(rt; data.satisfies(&name, true, &id) == by_prefix, "{value:?}");
+        is_of(&rt, data.satisfies(&name, false, &id) == *exactly, value);
+        is_of(&rt, data.satisfies(&name, true, &id) == *by_prefix, value);
     }
 }

@@ -1,3 +1,4 @@
+use crate::expect::{is, same};
 use ndn_inspect::*;
 use std::process::Abort;
 use std::str;
@@ -87,9 +88,9 @@ const TEXTS: [(&str, &str, bool); 10] = [
 
 #[test]
 fn texts(rt: HostRuntime) {
-    for (digits, text, sound) in TEXTS {
+    for (digits, text, sound) in &TEXTS {
         let octets = octets_of(&rt, digits);
-        is_inspected(&rt, &octets, text, sound);
+        is_inspected(&rt, &octets, text, *sound);
     }
 }
 
@@ -100,8 +101,6 @@ fn octets_of(rt: &(impl Abort + AllocGlobal), digits: &str) -> Vec<u8> {
 
 fn is_inspected(rt: &(impl Abort + AllocGlobal), octets: &[u8], text: &str, sound: bool) {
     let (told, free) = inspect(rt.alloc(), octets).expect(rt, "memory");
-    assert!(rt;
-        str::from_utf8(&told) == Ok(text) && free == sound,
-        "{text}"
-    );
+    same(rt, str::from_utf8(&told), Ok(text), "lines");
+    is(rt, free == sound, text);
 }

@@ -1,5 +1,6 @@
 mod hostile;
 
+use crate::expect::{is, is_of, same, same_octets, same_of};
 use hostile::HOSTILE;
 use ndn_interest::*;
 use ndn_name::{Name, NameView};
@@ -52,21 +53,26 @@ fn name(rt: &(impl Abort + AllocGlobal), value: &[u8]) -> Name {
 #[test]
 fn plain_interest_is_read(rt: HostRuntime) {
     let interest = InterestView::read(&PLAIN).expect(&rt, "an Interest");
-    assert!(rt; interest.name.octets() == ALICE_1);
+    same_octets(&rt, interest.name.octets(), ALICE_1, "name");
     has_no_other_field(&rt, &interest);
     is_unsigned(&rt, &interest);
 }
 
 fn has_no_other_field(rt: &impl Abort, interest: &InterestView<'_>) {
-    assert!(rt; !interest.can_be_prefix && !interest.must_be_fresh);
-    assert!(rt; interest.nonce.is_none() && interest.lifetime.is_none());
-    assert!(rt; interest.hop_limit.is_none() && interest.parameters.is_none());
+    is(rt, !interest.can_be_prefix, "no CanBePrefix");
+    is(rt, !interest.must_be_fresh, "no MustBeFresh");
+    is(rt, interest.nonce.is_none(), "no Nonce");
+    is(rt, interest.lifetime.is_none(), "no InterestLifetime");
+    is(rt, interest.hop_limit.is_none(), "no HopLimit");
+    is(rt, interest.parameters.is_none(), "no parameters");
 }
 
 fn is_unsigned(rt: &impl Abort, interest: &InterestView<'_>) {
-    assert!(rt; interest.signature_type.is_none() && interest.locator.is_none());
-    assert!(rt; interest.signature.is_none() && interest.signed_portion().is_none());
-    assert!(rt; !interest.params_digest_matches());
+    is(rt, interest.signature_type.is_none(), "no signature type");
+    is(rt, interest.locator.is_none(), "no locator");
+    is(rt, interest.signature.is_none(), "no signature");
+    is(rt, interest.signed_portion().is_none(), "no signed portion");
+    is(rt, !interest.params_digest_matches(), "no digest");
 }
 
 #[test]
@@ -74,23 +80,24 @@ fn sync_interest_is_read(rt: HostRuntime) {
     let interest = InterestView::read(&SYNC).expect(&rt, "an Interest");
     has_the_vector(&rt, &interest);
     is_signed(&rt, &interest);
-    assert!(rt; interest.params_digest_matches());
-    assert!(rt; digest(&SYNC[44..]).as_slice() == &SYNC[12..44]);
+    is(&rt, interest.params_digest_matches(), "the digest matches");
+    same_octets(&rt, digest(&SYNC[44..]).as_slice(), &SYNC[12..44], "digest");
 }
 
 fn has_the_vector(rt: &impl Abort, interest: &InterestView<'_>) {
-    assert!(rt; interest.name.octets() == &SYNC[4..44]);
-    assert!(rt; interest.parameters == Some(VECTOR));
-    assert!(rt; interest.signature_type == Some(4));
+    same_octets(rt, interest.name.octets(), &SYNC[4..44], "name");
+    same(rt, interest.parameters, Some(VECTOR), "parameters");
+    same(rt, interest.signature_type, Some(4), "signature type");
     let locator = interest.locator.as_ref().expect(rt, "a locator");
-    assert!(rt; locator.octets() == ALICE_KEY);
+    same_octets(rt, locator.octets(), ALICE_KEY, "locator");
 }
 
 fn is_signed(rt: &impl Abort, interest: &InterestView<'_>) {
-    assert!(rt; interest.signature == Some(&SYNC[85..]));
+    same(rt, interest.signature, Some(&SYNC[85..]), "signature");
     let (first, second) = interest.signed_portion().expect(rt, "a signed portion");
-    assert!(rt; first == SYNC_2 && second == &SYNC[44..83]);
-    assert!(rt; Some(hmac(KEY, first, second).as_slice()) == interest.signature);
+    same_octets(rt, first, SYNC_2, "first piece");
+    same_octets(rt, second, &SYNC[44..83], "second piece");
+    same_octets(rt, hmac(KEY, first, second).as_slice(), &SYNC[85..], "mac");
 }
 
 #[test]
@@ -100,7 +107,12 @@ fn worked_interests_are_written(rt: HostRuntime) {
     let group = name(&rt, SYNC_2);
     let key_name = name(&rt, ALICE_KEY);
     let sync = write_signed(rt.alloc(), &group, VECTOR, &key_name, KEY);
-    assert!(rt; sync.expect(&rt, "memory").as_slice() == SYNC.as_slice());
+    same_octets(
+        &rt,
+        sync.expect(&rt, "memory").as_slice(),
+        &SYNC,
+        "a sync Interest",
+    );
 }
 
 // Sees how the plain Interest in a name is written.
@@ -108,14 +120,14 @@ fn is_written(rt: &(impl Abort + AllocGlobal), value: &[u8], can_be_prefix: bool
     let name = name(rt, value);
     assert!(rt; name.view().len() > 0);
     let plain = write_plain(rt.alloc(), &name, can_be_prefix).expect(rt, "memory");
-    assert!(rt; plain.as_slice() == octets);
+    same_octets(rt, plain.as_slice(), octets, "a packet");
 }
 
 #[test]
 fn hostile_packets(rt: HostRuntime) {
-    for (octets, fault) in HOSTILE {
+    for (octets, fault) in &HOSTILE {
         let refused = InterestView::read(octets).err();
-        assert!(rt; refused == Some(fault), "{refused:?}: {octets:?}");
+        same_of(&rt, refused, Some(*fault), octets);
     }
 }
 
@@ -132,10 +144,11 @@ fn plain_fields(rt: HostRuntime) {
 }
 
 fn has_the_fields(rt: &impl Abort, interest: &InterestView<'_>) {
-    assert!(rt; interest.can_be_prefix && interest.must_be_fresh);
-    assert!(rt; interest.nonce == Some(16_909_060));
-    assert!(rt; interest.lifetime == Some(4_000));
-    assert!(rt; interest.hop_limit == Some(255));
+    is(rt, interest.can_be_prefix, "CanBePrefix");
+    is(rt, interest.must_be_fresh, "MustBeFresh");
+    same(rt, interest.nonce, Some(16_909_060), "Nonce");
+    same(rt, interest.lifetime, Some(4_000), "InterestLifetime");
+    same(rt, interest.hop_limit, Some(255), "HopLimit");
 }
 
 // Interests that count as unsigned.
@@ -170,9 +183,9 @@ const UNSIGNED: [&[u8]; 5] = [
 
 #[test]
 fn lenient_forms_count_as_unsigned(rt: HostRuntime) {
-    for octets in UNSIGNED {
+    for octets in &UNSIGNED {
         let interest = InterestView::read(octets).expect(&rt, "an Interest");
-        assert!(rt; interest.signed_portion().is_none(), "{octets:?}");
+        is_of(&rt, interest.signed_portion().is_none(), octets);
     }
 }
 
@@ -238,18 +251,22 @@ const STRANGERS: [(&[u8], usize, usize); 5] = [
 
 #[test]
 fn strangers_are_passed_over_and_signed(rt: HostRuntime) {
-    for (octets, start, end) in STRANGERS {
+    for (octets, start, end) in &STRANGERS {
         let interest = InterestView::read(octets).expect(&rt, "an Interest");
-        signs(&rt, &interest, octets.get(start..end).expect(&rt, "octets"));
+        signs(
+            &rt,
+            &interest,
+            octets.get(*start..*end).expect(&rt, "octets"),
+        );
     }
 }
 
 fn signs(rt: &impl Abort, interest: &InterestView<'_>, octets: &[u8]) {
     let (first, second) = interest.signed_portion().expect(rt, "a signed portion");
-    assert!(rt; first == SYNC_2);
-    assert!(rt; second == octets, "{octets:?}");
-    assert!(rt; interest.signature == Some([0].as_slice()));
-    assert!(rt; !interest.params_digest_matches());
+    same_octets(rt, first, SYNC_2, "octets");
+    same_octets(rt, second, octets, "second piece");
+    same_of(rt, interest.signature, Some(&[0]), octets);
+    is_of(rt, !interest.params_digest_matches(), octets);
 }
 
 // A ring in which alice's key has the number 1.
@@ -291,5 +308,5 @@ fn is_signed_by(
 ) {
     let interest = InterestView::read(octets).expect(rt, "an Interest");
     let found = signer_of(&interest, ring);
-    assert!(rt; found == signer, "{found:?}, and not {signer:?}");
+    same_of(rt, found, signer, octets);
 }

@@ -1,5 +1,6 @@
 ghost use Rattle.std.specs.Prelude.{◌<◌, ◌^◌, length};
 
+use crate::expect::{is, same, same_octets, same_of, same_text};
 use ndn_name::*;
 use ndn_tlv::TlvFault;
 use std::process::Abort;
@@ -46,9 +47,9 @@ const TEXTS: [(&str, &[u8], &str); 24] = [
 
 #[test]
 fn texts_are_read_and_printed(rt: HostRuntime) {
-    for (text, octets, printed) in TEXTS {
+    for (text, octets, printed) in &TEXTS {
         let name = name_of(&rt, text);
-        assert!(rt; name.octets() == octets, "{text}");
+        same_octets(&rt, name.octets(), octets, text);
         is_printed(&rt, &name, printed);
     }
 }
@@ -59,7 +60,7 @@ fn name_of(rt: &(impl Abort + AllocGlobal), text: &str) -> Name {
 
 fn is_printed(rt: &(impl Abort + AllocGlobal), name: &Name, text: &str) {
     let printed = name.to_uri(rt.alloc()).expect(rt, "memory");
-    assert!(rt; printed.as_str() == text, "{printed}, and not {text}");
+    same_text(rt, printed.as_str(), text);
 }
 
 // Texts that leave the form of a URI, and where.
@@ -114,14 +115,14 @@ const LEAVES: [(&str, usize); 46] = [
 
 #[test]
 fn texts_leave_the_form(rt: HostRuntime) {
-    for (text, place) in LEAVES {
-        is_refused(&rt, text, NameFault::BadUri { place });
+    for (text, place) in &LEAVES {
+        is_refused(&rt, text, NameFault::BadUri { place: *place });
     }
 }
 
 fn is_refused(rt: &(impl Abort + AllocGlobal), text: &str, fault: NameFault) {
     let refused = Name::from_uri(rt.alloc(), text).err();
-    assert!(rt; refused == Some(fault), "{refused:?}: {text}");
+    same(rt, refused, Some(fault), text);
 }
 
 // The full name of "/a", and as it is read too.
@@ -148,7 +149,7 @@ fn digests_and_long_names(rt: HostRuntime) {
 fn digests_are_read_and_printed(rt: &(impl Abort + AllocGlobal)) {
     let full = full_name(rt.alloc(), &name_of(rt, "/a"), &DIGEST).expect(rt, "memory");
     is_printed(rt, &full, FULL);
-    assert!(rt; name_of(rt, FULL_IN_CAPITALS) == full);
+    is(rt, name_of(rt, FULL_IN_CAPITALS) == full, "in capitals");
 }
 
 // A name that has no room for a further component.
@@ -156,8 +157,9 @@ fn longest(rt: &(impl Abort + AllocGlobal)) -> Name {
     let letters = vec![in rt.alloc(); b'a'; 996].expect(rt, "memory");
     let mut long = Name::new(rt.alloc());
     long.push(8, &letters).expect(rt, "a component");
-    assert!(rt; long.octets().len() == NAME_LIMIT);
-    assert!(rt; long.push(8, &[]) == Err(NameFault::NameTooLong));
+    same(rt, long.octets().len(), NAME_LIMIT, "a long name");
+    let pushed = long.push(8, &[]);
+    same(rt, pushed, Err(NameFault::NameTooLong), "a long name");
     long
 }
 
@@ -192,22 +194,22 @@ fn values_are_read(rt: HostRuntime) {
     let view = NameView::read(&[8, 1, 97, 50, 1, 0], 2).expect(&rt, "a name");
     is_read(&rt, &view);
     is_copied(&rt, &view);
-    assert!(rt; fault_of(&[]).is_none());
-    for (octets, fault) in BROKEN {
+    same(&rt, fault_of(&[]), None, "no octets");
+    for (octets, fault) in &BROKEN {
         assert!(rt; octets.len() < 1000);
-        assert!(rt; fault_of(octets) == Some(fault), "{octets:?}");
+        same_of(&rt, fault_of(octets), Some(*fault), octets);
     }
 }
 
 fn is_read(rt: &impl Abort, view: &NameView<'_>) {
     assert!(rt; view.len() == 2);
     let second = view.component(1);
-    assert!(rt; second.typ == 50 && second.value == [0].as_slice());
+    same(rt, (second.typ, second.value), (50, &[0]), "the second");
 }
 
 fn is_copied(rt: &(impl Abort + AllocGlobal), view: &NameView<'_>) {
     let name = Name::from_view(rt.alloc(), view).expect(rt, "memory");
-    assert!(rt; name.clone().expect(rt, "memory") == name);
+    is(rt, name.clone().expect(rt, "memory") == name, "a copy");
 }
 
 // Names in canonical order.
@@ -227,16 +229,16 @@ fn names_are_in_order(rt: HostRuntime) {
 fn stands_at(rt: &(impl Abort + AllocGlobal), name: &Name, i: usize) {
     for (k, text) in ORDER.iter().enumerate() {
         let other = name_of(rt, text);
-        compares(rt, name, &other, (i, k));
+        compares(rt, name, &other, (i, k), text);
     }
 }
 
 // Sees that two names compare as their places do.
-fn compares(rt: &impl Abort, a: &Name, b: &Name, (i, k): (usize, usize)) {
-    assert!(rt; a.view().compare(&b.view()) == i.cmp(&k), "{i} {k}");
-    assert!(rt; (a < b) == (i < k), "{i} {k}");
+fn compares(rt: &impl Abort, a: &Name, b: &Name, (i, k): (usize, usize), text: &str) {
+    same(rt, a.view().compare(&b.view()), i.cmp(&k), text);
+    is(rt, (a < b) == (i < k), text);
     let prefix = i == k || i == 0 || (i == 2 && (k == 3 || k == 4));
-    assert!(rt; a.view().is_prefix_of(&b.view()) == prefix, "{i} {k}");
+    is(rt, a.view().is_prefix_of(&b.view()) == prefix, text);
 }
 
 // Texts, and how many octets the value has of the plain name whose URI each is.
@@ -277,12 +279,12 @@ const ENDS: [(&str, Option<usize>); 3] = [
 
 #[test]
 fn plain_texts_tell_their_size(rt: HostRuntime) {
-    for (text, len) in SIZES {
-        assert!(rt; plain_uri_len(text) == len, "{text}");
+    for (text, len) in &SIZES {
+        same(&rt, plain_uri_len(text), *len, text);
     }
-    for (end, len) in ENDS {
+    for (end, len) in &ENDS {
         let text = long_text(&rt, end);
-        assert!(rt; plain_uri_len(text.as_str()) == len, "{end}");
+        same(&rt, plain_uri_len(text.as_str()), *len, end);
     }
 }
 

@@ -1,5 +1,6 @@
 ghost use Rattle.std.specs.Prelude.{◌≡◌, length};
 
+use crate::expect::{is, same, same_octets, same_text};
 use hex::encode;
 use ndn_sign::*;
 use std::process::Abort;
@@ -16,7 +17,7 @@ fn digests(rt: HostRuntime) {
 
 fn is_printed(rt: &(impl Abort + AllocGlobal), octets: &[u8; 32], text: &str) {
     let printed = encode(rt.alloc(), octets).expect(rt, "memory");
-    assert!(rt; printed.as_str() == text, "{printed}, and not {text}");
+    same_text(rt, printed.as_str(), text);
 }
 
 // The cases 1, 2, 3, 4, 6 and 7 of RFC 4231, section 4: key, message and HMAC-SHA-256.
@@ -59,7 +60,7 @@ const PUBLISHED: [(&[u8], &[u8], &str); 6] = [
 
 #[test]
 fn macs_as_published(rt: HostRuntime) {
-    for (key, message, mac) in PUBLISHED {
+    for (key, message, mac) in &PUBLISHED {
         let (first, second) = message.split_at(message.len() / 2);
         is_printed(&rt, &hmac(key, first, second), mac);
     }
@@ -69,34 +70,58 @@ fn macs_as_published(rt: HostRuntime) {
 fn a_long_key_counts_as_its_digest(rt: HostRuntime) {
     let key = [7; 65];
     let short = digest(&key);
-    assert!(rt; hmac(&key, b"a", b"b") == hmac(&short, b"a", b"b"));
+    same(
+        &rt,
+        hmac(&key, b"a", b"b"),
+        hmac(&short, b"a", b"b"),
+        "a long key",
+    );
 }
 
 #[test]
 fn rings(rt: HostRuntime) {
     let mut ring = KeyRing::new(rt.alloc());
-    assert!(rt; ring.add(b"alice", b"k1") == Ok(0));
-    assert!(rt; ring.add(b"bob", b"Jefe") == Ok(1));
+    let alice = ring.add(b"alice", b"k1").expect(&rt, "memory");
+    let bob = ring.add(b"bob", b"Jefe").expect(&rt, "memory");
+    same(&rt, (alice, bob), (0, 1), "numbers");
     has_both(&rt, &ring);
     checks_macs(&rt, &ring);
-    assert!(rt; ring.add(b"alice", b"k3") == Err(RingFault::Duplicate { number: 0 }));
+    let again = ring.add(b"alice", b"k3");
+    same(
+        &rt,
+        again,
+        Err(RingFault::Duplicate { number: 0 }),
+        "alice again",
+    );
 }
 
 fn has_both(rt: &impl Abort, ring: &KeyRing)
     requires { length ring.now ≡ 2 }
 {
-    assert!(rt; ring.find(b"bob") == Some(1));
-    assert!(rt; ring.find(b"carol").is_none());
-    assert!(rt; ring.name(1) == b"bob".as_slice());
-    assert!(rt; ring.key(0) == b"k1".as_slice());
+    same(rt, ring.find(b"bob"), Some(1), "bob");
+    same(rt, ring.find(b"carol"), None, "carol");
+    same_octets(rt, ring.name(1), b"bob", "a name");
+    same_octets(rt, ring.key(0), b"k1", "a key");
 }
 
 fn checks_macs(rt: &impl Abort, ring: &KeyRing)
     requires { length ring.now ≡ 2 }
 {
     let mac = hmac(b"Jefe", b"what do ya want ", b"for nothing?");
-    assert!(rt; ring.check_mac(1, b"what do ya want ", b"for nothing?", &mac));
-    assert!(rt; !ring.check_mac(0, b"what do ya want ", b"for nothing?", &mac));
+    is(
+        rt,
+        ring.check_mac(1, b"what do ya want ", b"for nothing?", &mac),
+        "the mac",
+    );
+    is(
+        rt,
+        !ring.check_mac(0, b"what do ya want ", b"for nothing?", &mac),
+        "another key",
+    );
     let front = mac.get(..31).expect(rt, "a front");
-    assert!(rt; !ring.check_mac(1, b"what do ya want ", b"for nothing?", front));
+    is(
+        rt,
+        !ring.check_mac(1, b"what do ya want ", b"for nothing?", front),
+        "31 octets",
+    );
 }

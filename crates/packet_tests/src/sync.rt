@@ -3,6 +3,7 @@ ghost use Rattle.std.specs.Prelude.{◌≡◌, ◌<◌, ◌^◌, length};
 mod hostile;
 mod interests;
 
+use crate::expect::same;
 use std::process::Abort;
 use std::test::*;
 use svs_sync::*;
@@ -18,17 +19,17 @@ const PERIODIC: [(u32, u64); 4] = [
 
 #[test]
 fn periods(rt: HostRuntime) {
-    for (draw, due) in PERIODIC {
-        let machine = Machine::new(rt.alloc(), 1, 5, draw).expect(&rt, "memory");
-        is_steady(&rt, &machine, due, 1);
+    for (draw, due) in &PERIODIC {
+        let machine = Machine::new(rt.alloc(), 1, 5, *draw).expect(&rt, "memory");
+        is_steady(&rt, &machine, *due, 1);
     }
 }
 
 // Sees that a member is Steady, when it is due and what its next draw is.
 fn is_steady(rt: &impl Abort, machine: &Machine, due: u64, next_draw: u64) {
-    assert!(rt; machine.mode() == Mode::Steady);
-    assert!(rt; machine.deadline() == due, "{}", machine.deadline());
-    assert!(rt; machine.next_draw() == next_draw);
+    same(rt, machine.mode(), Mode::Steady, "steady");
+    same(rt, machine.deadline(), due, "deadline");
+    same(rt, machine.next_draw(), next_draw, "steady");
 }
 
 // What a member of two knows, or is told, of publications of the first.
@@ -57,16 +58,18 @@ fn is_told_of_none(rt: &(impl Abort + AllocGlobal), machine: &mut Machine, known
     ensures { machine.new.members ≡ 2 }
 {
     let told = vector(rt, 0);
-    assert!(rt; machine.heard(10, &told, known, 302) == Mode::Suppressed);
-    assert!(rt; machine.deadline() == 111 && machine.next_draw() == 2);
+    let mode = machine.heard(10, &told, known, 302);
+    same(rt, mode, Mode::Suppressed, "told of none");
+    same(rt, machine.deadline(), 111, "deadline");
+    same(rt, machine.next_draw(), 2, "next draw");
 }
 
 fn sends(rt: &impl Abort, machine: &mut Machine, known: &Vector)
     requires { length known.now ≡ machine.old.members }
 {
     assert!(rt; machine.next_draw() == 2);
-    assert!(rt; machine.fired(110, known, 0) == Fired::Early);
-    assert!(rt; machine.fired(111, known, 0) == Fired::Send);
+    same(rt, machine.fired(110, known, 0), Fired::Early, "at 110");
+    same(rt, machine.fired(111, known, 0), Fired::Send, "at 111");
 }
 
 // A member that knows of two publications is told of one at moment 0, and then of both. Each draw
@@ -87,19 +90,26 @@ fn is_told_of_both(rt: &(impl Abort + AllocGlobal), machine: &mut Machine, known
     ensures { machine.new.members ≡ 2 }
 {
     let told = vector(rt, 1);
-    assert!(rt; machine.fired(27_099, known, 100) == Fired::Early);
-    assert!(rt; machine.heard(0, &told, known, 100) == Mode::Suppressed);
-    assert!(rt; machine.deadline() == 100);
-    assert!(rt; machine.heard(0, known, known, 100) == Mode::Suppressed);
-    assert!(rt; machine.deadline() == 100);
+    same(
+        rt,
+        machine.fired(27_099, known, 100),
+        Fired::Early,
+        "at 27099",
+    );
+    let mode = machine.heard(0, &told, known, 100);
+    same(rt, mode, Mode::Suppressed, "told of one");
+    same(rt, machine.deadline(), 100, "deadline");
+    let mode = machine.heard(0, known, known, 100);
+    same(rt, mode, Mode::Suppressed, "told of both");
+    same(rt, machine.deadline(), 100, "deadline");
 }
 
 fn is_quiet(rt: &impl Abort, machine: &mut Machine, known: &Vector)
     requires { length known.now ≡ machine.old.members }
 {
     assert!(rt; machine.next_draw() == 2);
-    assert!(rt; machine.fired(99, known, 100) == Fired::Early);
-    assert!(rt; machine.fired(100, known, 100) == Fired::Quiet);
+    same(rt, machine.fired(99, known, 100), Fired::Early, "at 99");
+    same(rt, machine.fired(100, known, 100), Fired::Quiet, "at 100");
 }
 
 #[test]

@@ -1,5 +1,6 @@
 ghost use Rattle.std.specs.Prelude.{◌<◌, length};
 
+use crate::expect::{is, same, same_octets, same_of};
 use ndn_tlv::*;
 use std::process::Abort;
 use std::test::*;
@@ -11,9 +12,9 @@ const NAME: [u8; 8] = [0x07, 0x06, 0x08, 0x01, 0x61, 0x32, 0x01, 0x00];
 fn elements_in_order(rt: HostRuntime) {
     let mut outer = Reader::new(&NAME, 0);
     let name = next_of(&rt, &mut outer);
-    assert!(rt; name.typ == 7 && name.start == 0);
-    assert!(rt; name.value_start == 2 && name.end == 8);
-    assert!(rt; outer.next() == Ok(None));
+    same(&rt, (name.typ, name.start), (7, 0), "the name");
+    same(&rt, (name.value_start, name.end), (2, 8), "its value");
+    same(&rt, outer.next(), Ok(None), "the end");
     components_in_order(&rt, name.value);
 }
 
@@ -25,10 +26,20 @@ fn next_of<'p>(rt: &impl Abort, reader: &mut Reader<'p>) -> Element<'p> {
 fn components_in_order(rt: &impl Abort, value: &[u8]) {
     let mut components = Reader::new(value, 2);
     let first = next_of(rt, &mut components);
-    assert!(rt; first.typ == 8 && first.start == 2 && first.end == 5);
+    same(
+        rt,
+        (first.typ, first.start, first.end),
+        (8, 2, 5),
+        "the first",
+    );
     let second = next_of(rt, &mut components);
-    assert!(rt; second.typ == 0x32 && second.start == 5 && second.value_start == 7);
-    assert!(rt; second.value == [0].as_slice());
+    same(
+        rt,
+        (second.typ, second.start, second.value_start),
+        (0x32, 5, 7),
+        "the second",
+    );
+    same_octets(rt, second.value, &[0], "its value");
 }
 
 // What `next` answers first about octets at offset 100.
@@ -62,9 +73,9 @@ const FAULTS: [(&[u8], Option<TlvFault>); 9] = [
 
 #[test]
 fn faults(rt: HostRuntime) {
-    for (octets, fault) in FAULTS {
+    for (octets, fault) in &FAULTS {
         assert!(rt; octets.len() < 1000);
-        assert!(rt; first_fault(octets) == fault, "{octets:?}");
+        same_of(&rt, first_fault(octets), *fault, octets);
     }
 }
 
@@ -109,11 +120,12 @@ fn fields_of_a_table(rt: HostRuntime) {
 fn comes_next(rt: &impl Abort, fields: &mut FieldReader<'_, Field>, field: Field, start: usize) {
     let next = fields.next().expect(rt, "fields");
     let (found, element) = next.expect(rt, "a field");
-    assert!(rt; found == field && element.start == start);
+    same(rt, (found, element.start), (field, start), "a field");
 }
 
 fn is_critical_at(rt: &impl Abort, fields: &mut FieldReader<'_, Field>, typ: u32, at: usize) {
-    assert!(rt; fields.next().err() == Some(FieldFault::Critical { typ, at }));
+    let fault = Some(FieldFault::Critical { typ, at });
+    same(rt, fields.next().err(), fault, "a fault");
 }
 
 // Each type or length at an edge of its spelling, and its octets.
@@ -138,19 +150,20 @@ const EDGES: [(u32, usize, &[u8]); 8] = [
 
 #[test]
 fn heads_at_the_edges(rt: HostRuntime) {
-    for (typ, len, octets) in EDGES {
-        assert!(rt; typ > 0 && head_len(typ, len) == octets.len());
-        is_spelled(&rt, typ, len, octets);
+    for (typ, len, octets) in &EDGES {
+        assert!(rt; *typ > 0);
+        is_spelled(&rt, *typ, *len, octets);
     }
 }
 
 fn is_spelled(rt: &(impl Abort + AllocGlobal), typ: u32, len: usize, octets: &[u8])
     requires { 0 < typ }
 {
+    same_of(rt, head_len(typ, len), octets.len(), octets);
     let made = Writer::with_capacity(rt.alloc(), head_len(typ, len));
     let mut writer = made.expect(rt, "memory");
     writer.put_head(typ, len).expect(rt, "memory");
-    assert!(rt; writer.octets() == octets, "{octets:?}");
+    same_octets(rt, writer.octets(), octets, "octets");
 }
 
 // Elements of the types 7, 27 and 300.
@@ -164,8 +177,8 @@ fn spellings(rt: HostRuntime) {
     writer.put(7, &NAME[2..]).expect(&rt, "memory");
     writer.put_number(0x1b, 4).expect(&rt, "memory");
     writer.put_number(300, 65_536).expect(&rt, "memory");
-    let octets = writer.finish();
-    assert!(rt; octets.as_slice() == SPELLED.as_slice());
+    same_octets(&rt, writer.octets(), &SPELLED, "three elements");
+    same_octets(&rt, writer.finish().as_slice(), &SPELLED, "three elements");
 }
 
 // The octets of number fields, and the number that each is.
@@ -180,8 +193,10 @@ const NUMBERS: [(&[u8], Option<u64>); 6] = [
 
 #[test]
 fn number_fields(rt: HostRuntime) {
-    for (octets, number) in NUMBERS {
-        assert!(rt; read_number(octets) == number, "{octets:?}");
+    for (octets, number) in &NUMBERS {
+        same_of(&rt, read_number(octets), *number, octets);
     }
-    assert!(rt; is_critical(31) && !is_critical(32) && is_critical(33));
+    for (typ, critical) in &[(31, true), (32, false), (33, true)] {
+        is(&rt, is_critical(*typ) == *critical, "critical");
+    }
 }

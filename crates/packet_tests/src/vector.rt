@@ -1,5 +1,6 @@
 ghost use Rattle.std.specs.Prelude.{◌≡◌, length};
 
+use crate::expect::{same, same_octets, same_of};
 use ndn_name::{Name, NameView};
 use std::process::Abort;
 use std::test::*;
@@ -10,7 +11,7 @@ const NAMES: [&[u8]; 2] = [&[8, 5, 97, 108, 105, 99, 101], &[8, 3, 98, 111, 98]]
 
 fn two_members(rt: &(impl Abort + AllocGlobal)) -> Roster {
     let mut roster = Roster::new(rt.alloc());
-    for octets in NAMES {
+    for octets in &NAMES {
         add(rt, &mut roster, octets);
     }
     roster
@@ -50,16 +51,16 @@ const TOLD: [(&[u8], u16, u16); 4] = [
 #[test]
 fn vectors_are_read(rt: HostRuntime) {
     let roster = two_members(&rt);
-    for (octets, alice, bob) in TOLD {
+    for (octets, alice, bob) in &TOLD {
         let vector = Vector::read(rt.alloc(), octets, &roster).expect(&rt, "a vector");
-        tells(&rt, &vector, alice, bob);
+        tells(&rt, &vector, *alice, *bob);
     }
 }
 
 fn tells(rt: &impl Abort, vector: &Vector, alice: u16, bob: u16) {
     assert!(rt; vector.members() == 2);
     let told = (vector.get(0), vector.get(1));
-    assert!(rt; told == (alice, bob), "{told:?}, and not {alice} {bob}");
+    same(rt, told, (alice, bob), "alice and bob");
 }
 
 // Bob, whose name is shorter, at 258 before alice at 255.
@@ -74,9 +75,9 @@ const VECTORS: [(u16, u16, &[u8]); 3] = [(0, 0, &[0xc9, 0]), (3, 0, &WRITTEN), (
 #[test]
 fn vectors_are_written(rt: HostRuntime) {
     let roster = two_members(&rt);
-    for (alice, bob, octets) in VECTORS {
+    for (alice, bob, octets) in &VECTORS {
         let mut vector = Vector::new(rt.alloc(), roster.len()).expect(&rt, "memory");
-        raise(&rt, &mut vector, alice, bob);
+        raise(&rt, &mut vector, *alice, *bob);
         is_written(&rt, &vector, &roster, octets);
     }
 }
@@ -93,7 +94,7 @@ fn is_written(rt: &(impl Abort + AllocGlobal), vector: &Vector, roster: &Roster,
     requires { length vector.now ≡ length roster.now }
 {
     let written = vector.write(rt.alloc(), roster).expect(rt, "memory");
-    assert!(rt; written.as_slice() == octets, "{octets:?}");
+    same_octets(rt, written.as_slice(), octets, "a vector");
 }
 
 // Octets that are no state vector of the two, and the offset of the element that breaks it.
@@ -120,14 +121,14 @@ const BROKEN: [(&[u8], usize); 12] = [
 #[test]
 fn broken_vectors(rt: HostRuntime) {
     let roster = two_members(&rt);
-    for (octets, at) in BROKEN {
-        is_refused(&rt, octets, &roster, VectorFault::BadVector { at });
+    for (octets, at) in &BROKEN {
+        is_refused(&rt, octets, &roster, VectorFault::BadVector { at: *at });
     }
 }
 
 fn is_refused(rt: &(impl Abort + AllocGlobal), octets: &[u8], roster: &Roster, fault: VectorFault) {
     let refused = Vector::read(rt.alloc(), octets, roster).err();
-    assert!(rt; refused == Some(fault), "{refused:?}: {octets:?}");
+    same_of(rt, refused, Some(fault), octets);
 }
 
 // Alice at the greatest number of eight octets.
@@ -170,7 +171,7 @@ const LARGE: [(&[u8], VectorFault); 3] = [
 #[test]
 fn numbers_above_65535(rt: HostRuntime) {
     let roster = two_members(&rt);
-    for (octets, fault) in LARGE {
-        is_refused(&rt, octets, &roster, fault);
+    for (octets, fault) in &LARGE {
+        is_refused(&rt, octets, &roster, *fault);
     }
 }

@@ -1,1 +1,2 @@
 mod NodeNames
+mod OneJob

@@ -3,6 +3,7 @@ ghost use Rattle.fetch_board.specs.Counts.{items};
 ghost use Rattle.fetch_board.specs.Seats.{fresh, IsSeatOf};
 ghost use Rattle.fetch_board.specs.Answers.{Rests};
 
+use crate::expect::{is, same};
 use fetch_board::*;
 use std::alloc::Global;
 use std::test::*;
@@ -95,32 +96,34 @@ fn outcome(alloc: Global, tries: u32) -> Option<Outcome<u32>>
     board.close(alloc, one).ok()
 }
 
+// How often each item may be tried, and how often each was then.
+const SHARED: [(u32, [u32; 2]); 2] = [(1, [1, 1]), (2, [2, 1])];
+
 #[test]
-fn two_seats_share_two_items(rt: HostRuntime) -> Result<(), Fail> {
-    let alloc: Global = rt.alloc();
-    for (tries, attempts) in [(1u32, [1u32, 1]), (2, [2, 1])] {
-        let shared = outcome(alloc, tries).expect(&rt, "an outcome");
-        assert!(rt; shared.values.as_slice() == [None, Some(7)].as_slice());
-        assert!(rt; shared.attempts.as_slice() == attempts.as_slice());
+fn two_seats_share_two_items(rt: HostRuntime) {
+    for (tries, attempts) in &SHARED {
+        assert!(rt; 1 <= *tries && *tries <= 2);
+        let shared = outcome(rt.alloc(), *tries).expect(&rt, "an outcome");
+        same(&rt, shared.values.as_slice(), &[None, Some(7)], "values");
+        same(&rt, shared.attempts.as_slice(), attempts, "attempts");
     }
-    Ok(())
 }
 
 #[test]
-fn a_board_may_have_no_items(rt: HostRuntime) -> Result<(), Fail> {
-    let alloc: Global = rt.alloc();
-    let (board, mut seats) = Board::<u32>::new(alloc, 0, 1, 1)?;
+fn a_board_may_have_no_items(rt: HostRuntime) {
+    let made = Board::<u32>::new(rt.alloc(), 0, 1, 1);
+    let (board, mut seats) = made.expect(&rt, "memory");
     let seat = seats.pop().expect(&rt, "a seat");
-    let outcome = board.close(alloc, seat)?;
-    assert!(rt; outcome.values.is_empty() && outcome.attempts.is_empty());
-    Ok(())
+    let outcome = board.close(rt.alloc(), seat).expect(&rt, "memory");
+    is(&rt, outcome.values.is_empty(), "no values");
+    is(&rt, outcome.attempts.is_empty(), "no attempts");
 }
 
 #[test]
-fn a_look_tells_the_word(rt: HostRuntime) -> Result<(), Fail> {
-    let alloc: Global = rt.alloc();
-    let (board, mut seats) = Board::<u32>::new(alloc, 1, 2, 1)?;
+fn a_look_tells_the_word(rt: HostRuntime) {
+    let made = Board::<u32>::new(rt.alloc(), 1, 2, 1);
+    let (board, mut seats) = made.expect(&rt, "memory");
     let mut seat = seats.pop().expect(&rt, "a seat");
-    assert_eq!(rt; board.look(&mut seat, 0), Seen::Wanted { attempt: 0 });
-    Ok(())
+    let seen = board.look(&mut seat, 0);
+    same(&rt, seen, Seen::Wanted { attempt: 0 }, "a look");
 }

@@ -1,10 +1,12 @@
-ghost use Rattle.std.specs.Prelude.{◌≡◌, ◌≤◌, length, IfOk};
+ghost use Rattle.std.specs.Prelude.{◌≡◌, ◌≤◌, length};
 ghost use Rattle.ndn_name.specs.Names.{encoding};
+ghost use Rattle.repo_command.specs.Commands.{named_length};
 
 mod answers;
 mod hostile;
 mod parameters;
 
+use crate::expect::{is, same_octets, same_of};
 use crate::worked::INSERT;
 use answers::ANSWERS;
 use hostile::HOSTILE;
@@ -13,7 +15,7 @@ use ndn_name::{Name, NameView};
 use ndn_sign::KeyRing;
 use parameters::PARAMETERS;
 use repo_command::*;
-use std::alloc::Global;
+use std::process::Abort;
 use std::test::*;
 
 // The values of the names "/alice", "/in", "/carl/KEY" and "/dora/KEY".
@@ -25,102 +27,105 @@ const CARL_KEY: &[u8] = &[8, 4, 0x63, 0x61, 0x72, 0x6c, 8, 3, 0x4b, 0x45, 0x59];
 
 const DORA_KEY: &[u8] = &[8, 4, 0x64, 0x6f, 0x72, 0x61, 8, 3, 0x4b, 0x45, 0x59];
 
-fn name(alloc: Global, value: &[u8]) -> Result<Name, Fail>
+fn name(rt: &(impl Abort + AllocGlobal), value: &[u8]) -> Name
     requires { length value.now ≤ 200 }
-    ensures { IfOk result (λ name. length (encoding name) ≡ length value.now) }
+    ensures { length (encoding result) ≡ length value.now }
 {
-    Ok(Name::from_view(alloc, &NameView::read(value, 0)?)?)
+    let view = NameView::read(value, 0).expect(rt, "a name");
+    Name::from_view(rt.alloc(), &view).expect(rt, "memory")
 }
 
 // The keys of dora and carl.
-fn two_clients(alloc: Global) -> Result<KeyRing, Fail> {
-    let mut ring = KeyRing::new(alloc);
-    ring.add(DORA_KEY, b"k5")?;
-    ring.add(CARL_KEY, b"k4")?;
-    Ok(ring)
+fn two_clients(rt: &(impl Abort + AllocGlobal)) -> KeyRing {
+    let mut ring = KeyRing::new(rt.alloc());
+    ring.add(DORA_KEY, b"k5").expect(rt, "memory");
+    ring.add(CARL_KEY, b"k4").expect(rt, "memory");
+    ring
 }
 
-// Whose command alice takes, and which.
-fn taken(alloc: Global, octets: &[u8]) -> Result<(u32, Command), Fail> {
-    let node = name(alloc, ALICE)?;
-    let clients = two_clients(alloc)?;
-    Ok(check_command(alloc, octets, &node, &clients)?)
+// Whose command alice takes, and which, or why she takes none.
+fn taken(rt: &(impl Abort + AllocGlobal), octets: &[u8]) -> Result<(u32, Command), CommandRefusal> {
+    let node = name(rt, ALICE);
+    let clients = two_clients(rt);
+    check_command(rt.alloc(), octets, &node, &clients)
 }
 
-// Why alice takes none.
-fn refusal(alloc: Global, octets: &[u8]) -> Result<Option<CommandRefusal>, Fail> {
-    let node = name(alloc, ALICE)?;
-    let clients = two_clients(alloc)?;
-    Ok(check_command(alloc, octets, &node, &clients).err())
+// The command is refused so, or taken.
+fn is_refused(
+    rt: &(impl Abort + AllocGlobal),
+    octets: &[u8],
+    refusal: Option<CommandRefusal>,
+    row: &[u8],
+) {
+    same_of(rt, taken(rt, octets).err(), refusal, row);
 }
 
 #[test]
-fn carl_asks_alice_to_insert(rt: HostRuntime) -> Result<(), Fail> {
-    let alloc = rt.alloc();
+fn carl_asks_alice_to_insert(rt: HostRuntime) {
     let command = Command::Insert {
-        name: name(alloc, IN)?,
+        name: name(&rt, IN),
         first: 5,
         last: 6,
     };
-    let made = make_command(
-        alloc,
-        &name(alloc, ALICE)?,
-        &command,
-        &name(alloc, CARL_KEY)?,
-        b"k4",
-    )?;
-    assert_eq!(rt; made.as_slice(), INSERT.as_slice());
-    let (client, asked) = taken(alloc, &made)?;
-    assert_eq!(rt; client, 1);
-    assert!(rt; asked == command);
-    Ok(())
+    is_made(&rt, &command);
+    let (client, asked) = taken(&rt, &INSERT).expect(&rt, "a command");
+    is(&rt, client == 1 && asked == command, "the insertion");
+}
+
+fn is_made(rt: &(impl Abort + AllocGlobal), command: &Command)
+    requires { named_length command.now ≤ 400 }
+{
+    let node = name(rt, ALICE);
+    let key_name = name(rt, CARL_KEY);
+    let made = make_command(rt.alloc(), &node, command, &key_name, b"k4");
+    same_octets(
+        rt,
+        made.expect(rt, "memory").as_slice(),
+        &INSERT,
+        "a command",
+    );
 }
 
 #[test]
-fn hostile_commands(rt: HostRuntime) -> Result<(), Fail> {
-    for (octets, first) in HOSTILE {
-        assert_eq!(rt; refusal(rt.alloc(), octets)?, Some(first), "{octets:?}");
+fn hostile_commands(rt: HostRuntime) {
+    for (octets, first) in &HOSTILE {
+        is_refused(&rt, octets, Some(*first), octets);
     }
-    Ok(())
 }
 
 // Parameters under a verb, signed by carl.
-fn signed(alloc: Global, verb: &[u8], parameters: &[u8]) -> Result<Vec<u8>, Fail> {
-    let mut node = name(alloc, ALICE)?;
-    node.push(8, verb)?;
-    Ok(write_signed(alloc, &node, parameters, &name(alloc, CARL_KEY)?, b"k4")?)
+fn signed(rt: &(impl Abort + AllocGlobal), verb: &[u8], parameters: &[u8]) -> Vec<u8> {
+    let mut node = name(rt, ALICE);
+    node.push(8, verb).expect(rt, "a short name");
+    let key_name = name(rt, CARL_KEY);
+    write_signed(rt.alloc(), &node, parameters, &key_name, b"k4").expect(rt, "memory")
 }
 
 #[test]
-fn parameters_are_those_of_their_verb(rt: HostRuntime) -> Result<(), Fail> {
-    for (verb, parameters, is_asked) in PARAMETERS {
-        let octets = signed(rt.alloc(), verb, parameters)?;
-        let bad = (!is_asked).then_some(CommandRefusal::BadParameter);
-        assert_eq!(rt; refusal(rt.alloc(), &octets)?, bad, "{parameters:?}");
+fn parameters_are_those_of_their_verb(rt: HostRuntime) {
+    for (verb, parameters, is_asked) in &PARAMETERS {
+        let octets = signed(&rt, verb, parameters);
+        let bad = (!*is_asked).then_some(CommandRefusal::BadParameter);
+        is_refused(&rt, &octets, bad, parameters);
     }
-    Ok(())
 }
 
 #[test]
-fn answers_are_one_element(rt: HostRuntime) -> Result<(), Fail> {
-    for (octets, answer) in ANSWERS {
-        assert_eq!(rt; read_answer(octets), answer, "{octets:?}");
+fn answers_are_one_element(rt: HostRuntime) {
+    for (octets, answer) in &ANSWERS {
+        same_of(&rt, read_answer(octets), *answer, octets);
     }
-    Ok(())
 }
 
 #[test]
-fn a_process_was_started(rt: HostRuntime) -> Result<(), Fail> {
+fn a_process_was_started(rt: HostRuntime) {
     let answer = Answer {
         code: 100,
         process: Some(1),
         inserted: None,
         deleted: None,
     };
-    let octets = write_answer(rt.alloc(), &answer)?;
-    assert_eq!(rt;
-        octets.as_slice(),
-        [0xcf, 6, 0xce, 1, 1, 0xd0, 1, 0x64].as_slice()
-    );
-    Ok(())
+    let octets = write_answer(rt.alloc(), &answer).expect(&rt, "memory");
+    let wanted = [0xcf, 6, 0xce, 1, 1, 0xd0, 1, 0x64];
+    same_octets(&rt, octets.as_slice(), &wanted, "an answer");
 }

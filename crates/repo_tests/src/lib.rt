@@ -1,4 +1,5 @@
-//! Tests of the crates that a member of a group is made of, of the member, and of those that fetch in threads.
+//! Tests of the crates that a member of a group is made of, of the member, of mirrors, and of those that fetch in
+//! threads.
 //!
 //! They stand in a crate of their own, since a library is proved once more for the tests that stand in it.
 #![tactic(auto)]
@@ -10,7 +11,11 @@ mod catalog;
 #[cfg(test)]
 mod command;
 #[cfg(test)]
+mod expect;
+#[cfg(test)]
 mod member;
+#[cfg(test)]
+mod mirror;
 #[cfg(test)]
 mod mirrors;
 #[cfg(test)]
@@ -23,6 +28,8 @@ mod plan;
 mod process;
 #[cfg(test)]
 mod store;
+#[cfg(test)]
+mod surface;
 #[cfg(test)]
 mod watch;
 #[cfg(test)]

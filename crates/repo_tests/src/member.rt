@@ -7,6 +7,7 @@ mod fetched;
 mod withdrawn;
 mod worked;
 
+use crate::expect::{is, same, same_text};
 use ndn_name::Name;
 use repo_member::*;
 use repo_object::{NODE_NAME_LIMIT, PartRefusal, is_object_name};
@@ -27,7 +28,7 @@ const DRAW: u32 = 100;
 
 // The name of a group or a node.
 #[tactic(auto, using(crate::proofs::NodeNames::plain_name))]
-fn node_name(rt: &(impl Abort + AllocGlobal), text: &str) -> Name
+pub(crate) fn node_name(rt: &(impl Abort + AllocGlobal), text: &str) -> Name
     ensures { IsPlainNodeName result }
 {
     let name = Name::from_uri(rt.alloc(), text).expect(rt, "a name");
@@ -58,9 +59,19 @@ pub(crate) fn three_members(rt: &(impl Abort + AllocGlobal)) -> Group
     ensures { length result.members.names ≡ 3 }
 {
     let mut g = Group::new(rt.alloc(), &node_name(rt, "/g")).expect(rt, "memory");
-    assert_eq!(rt; add(rt, &mut g, "/alice", b"k1", false), Ok(ALICE));
-    assert_eq!(rt; add(rt, &mut g, "/bob", b"k2", false), Ok(BOB));
-    assert_eq!(rt; add(rt, &mut g, "/carol", b"k3", false), Ok(CAROL));
+    same(
+        rt,
+        add(rt, &mut g, "/alice", b"k1", false),
+        Ok(ALICE),
+        "add",
+    );
+    same(rt, add(rt, &mut g, "/bob", b"k2", false), Ok(BOB), "add");
+    same(
+        rt,
+        add(rt, &mut g, "/carol", b"k3", false),
+        Ok(CAROL),
+        "add",
+    );
     assert_eq!(rt; g.roster().len(), 3);
     g
 }
@@ -94,21 +105,23 @@ fn nobody_tells_of_more_than_was_published(rt: HostRuntime) {
 fn refuses_five_of_its_own(rt: &impl Abort, g: &Group, bob: &mut Member) {
     let ahead = HearRefusal::OwnNumberAhead { own: 0, told: 5 };
     ready(rt, g, bob);
-    assert_eq!(rt; bob.hear(g, &FIVE_OF_BOB, 0, DRAW), Err(ahead));
+    same(rt, bob.hear(g, &FIVE_OF_BOB, 0, DRAW), Err(ahead), "hear");
     ready(rt, g, bob);
-    assert_eq!(rt; bob.join_from(g, &FIVE_OF_BOB), Err(ahead));
+    same(rt, bob.join_from(g, &FIVE_OF_BOB), Err(ahead), "join from");
 }
 
 fn is_unchanged(rt: &impl Abort, bob: &Member) {
     let vector = bob.vector();
     assert_eq!(rt; vector.members(), 3);
-    assert_eq!(rt;
+    same(
+        rt,
         (vector.get(ALICE), vector.get(BOB), vector.get(CAROL)),
-        (0, 0, 0)
+        (0, 0, 0),
+        "get",
     );
-    assert_eq!(rt; (bob.log_len(), bob.mode()), (0, Mode::Steady));
-    assert_eq!(rt; bob.next_draw(), 1);
-    assert!(rt; bob.catalogue().entries().is_empty());
+    same(rt, (bob.log_len(), bob.mode()), (0, Mode::Steady), "mode");
+    same(rt, bob.next_draw(), 1, "next draw");
+    is(rt, bob.catalogue().entries().is_empty(), "entries");
 }
 
 #[test]
@@ -116,8 +129,13 @@ fn numbers_are_spent(rt: HostRuntime) {
     let g = three_members(&rt);
     let mut alice = member(&rt, &g, ALICE);
     spend_all(&rt, &g, &mut alice);
-    assert_eq!(rt; (alice.log_len(), alice.next_draw()), (65_535, 65_536));
-    assert_eq!(rt; alice.catalogue().entries().len(), 65_535);
+    same(
+        &rt,
+        (alice.log_len(), alice.next_draw()),
+        (65_535, 65_536),
+        "next draw",
+    );
+    same(&rt, alice.catalogue().entries().len(), 65_535, "entries");
     withdrawn::refuses_for_numbers(&rt, &g, &mut alice);
 }
 
@@ -126,10 +144,15 @@ fn spend_all(rt: &(impl Abort + AllocGlobal), g: &Group, alice: &mut Member) {
     let name = node_name(rt, "/e");
     for seq in 0..u16::MAX {
         let published = publish(rt, g, alice, &name).expect(rt, "a number");
-        assert!(rt; published.seq == seq + 1);
+        same(rt, published.seq, seq + 1, "seq");
     }
     let spent = PublishRefusal::NumbersSpent { log: 65_535 };
-    assert_eq!(rt; publish(rt, g, alice, &name).err(), Some(spent));
+    same(
+        rt,
+        publish(rt, g, alice, &name).err(),
+        Some(spent),
+        "publish",
+    );
 }
 
 // Publishes an object without contents.
@@ -152,15 +175,15 @@ fn groups_take_each_name_once_and_sixteen_members(rt: HostRuntime) {
 }
 
 fn take_each_name_once(rt: &(impl Abort + AllocGlobal), g: &mut Group) {
-    assert_eq!(rt; add(rt, g, "/carl", b"k", true), Ok(0));
-    for (name, is_client) in [
+    same(rt, add(rt, g, "/carl", b"k", true), Ok(0), "add");
+    for (name, is_client) in &[
         ("/alice", false),
         ("/alice", true),
         ("/carl", false),
         ("/carl", true),
     ] {
-        let added = add(rt, g, name, b"k", is_client);
-        assert_eq!(rt; added, Err(GroupFault::Duplicate), "{name}");
+        let added = add(rt, g, name, b"k", *is_client);
+        same(rt, added, Err(GroupFault::Duplicate), name);
     }
 }
 
@@ -168,14 +191,14 @@ fn take_each_name_once(rt: &(impl Abort + AllocGlobal), g: &mut Group) {
 fn take_sixteen(rt: &(impl Abort + AllocGlobal), g: &mut Group) {
     for number in 3..16u32 {
         let name = format!(in rt.alloc(); "/n/{number}").expect(rt, "memory");
-        assert_eq!(rt; add(rt, g, &name, b"k", false), Ok(number));
+        same(rt, add(rt, g, &name, b"k", false), Ok(number), "add");
     }
-    for (name, is_client, answer) in [
+    for (name, is_client, answer) in &[
         ("/n", false, Err(GroupFault::Full)),
         ("/bob", false, Err(GroupFault::Duplicate)),
         ("/n", true, Ok(1)),
     ] {
-        assert_eq!(rt; add(rt, g, name, b"k", is_client), answer, "{name}");
+        same(rt, add(rt, g, name, b"k", *is_client), *answer, name);
     }
     assert_eq!(rt; g.roster().len(), 16);
 }
@@ -183,7 +206,7 @@ fn take_sixteen(rt: &(impl Abort + AllocGlobal), g: &mut Group) {
 // What is printed.
 fn print<T: Display>(rt: &(impl Abort + AllocGlobal), printed: &T, text: &str) {
     let made = format!(in rt.alloc(); "{printed}").expect(rt, "memory");
-    assert!(rt; made.as_str() == text, "{made}");
+    same_text(rt, &made, text);
 }
 
 fn print_faults(rt: &(impl Abort + AllocGlobal)) {

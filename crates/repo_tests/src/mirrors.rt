@@ -1,6 +1,7 @@
 // What mirrors of a world are told, fetch and list.
 ghost use Rattle.std.specs.Prelude.{◌≡◌, ◌==◌, ◌+◌, ◌<◌, ◌≤◌, [], length};
 
+use crate::expect::{is, same};
 use crate::member::three_members;
 use crate::watch::is_for;
 use bench_net::{FixedDraws, Net, OpenNet, TableNet};
@@ -93,7 +94,7 @@ fn add(
 {
     let prefix = Name::from_uri(rt.alloc(), prefix).expect(rt, "a name");
     match world.add_mirror(Pattern { publisher, prefix }) {
-        Ok(added) => assert_eq!(rt; added, number),
+        Ok(added) => same(rt, added, number, "added"),
         Err(_) => panic!(rt; "memory"),
     }
 }
@@ -104,8 +105,12 @@ fn tell(rt: &impl Abort, world: &mut World, i: u32, k: u32)
     ensures len { length world.new.mirrors ≡ length world.old.mirrors }
     ensures steps { world.new.steps ≡ world.old.steps }
 {
-    assert!(rt; world.mirror_deliver(i, k) == Ok(()));
-    assert!(rt; world.mirror_deliver(i, 4) == Err(StepFault::NoSuchPacket));
+    is(rt, world.mirror_deliver(i, k).is_ok(), "sent");
+    is(
+        rt,
+        world.mirror_deliver(i, 4) == Err(StepFault::Refused { number: 5 }),
+        "not sent",
+    );
 }
 
 // A fetch by two workers, who try each part once, comes to these counts.
@@ -123,7 +128,7 @@ fn compare_fetch<R: Threads + Abort + Sync>(
     ensures steps { world.new.steps ≤ world.old.steps + 1 }
 {
     match world.mirror_fetch(rt, i, 2, 1, 0, net, filter) {
-        Ok(came) => assert!(rt; came == counts),
+        Ok(came) => same(rt, came, counts, "came"),
         Err(_) => panic!(rt; "memory"),
     }
 }
@@ -134,11 +139,12 @@ fn compare_entries(
     catalogue: &Catalogue,
     entries: &[(u32, u16, &str)],
 ) {
-    assert_eq!(rt; catalogue.entries().len(), entries.len());
+    same(rt, catalogue.entries().len(), entries.len(), "entries");
     for (entry, (publisher, seq, text)) in catalogue.entries().iter().zip(entries) {
         let name = Name::from_uri(rt.alloc(), text).expect(rt, "a name");
-        assert!(rt; (entry.publisher, entry.seq) == (*publisher, *seq) && entry.name == name);
-        assert!(rt; (entry.segments, entry.octets) == (1, 3));
+        same(rt, (entry.publisher, entry.seq), (*publisher, *seq), text);
+        is(rt, entry.name == name, text);
+        same(rt, (entry.segments, entry.octets), (1, 3), "octets");
     }
 }
 
@@ -203,7 +209,7 @@ fn compare_settle<R: Threads + Abort + Sync>(
     ensures len { length world.new.mirrors ≡ length world.old.mirrors }
 {
     match world.settle_mirrors(rt, 2, filter) {
-        Ok(came) => assert_eq!(rt; came, gained),
+        Ok(came) => same(rt, came, gained, "came"),
         Err(_) => panic!(rt; "memory"),
     }
 }
@@ -231,5 +237,6 @@ fn four_at_most(rt: &(impl Abort + AllocGlobal), world: &mut World)
         publisher: None,
         prefix,
     };
-    assert!(rt; world.add_mirror(pattern).err() == Some(MirrorFault::Full));
+    let full = world.add_mirror(pattern).err() == Some(MirrorFault::Full);
+    is(rt, full, "four mirrors");
 }

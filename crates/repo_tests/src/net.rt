@@ -1,3 +1,4 @@
+use crate::expect::{is, same};
 use bench_net::*;
 use std::process::Abort;
 use std::test::*;
@@ -13,18 +14,20 @@ fn drawn<D: Draws + Sync>(draws: &D) -> u32 {
 
 #[test]
 fn answers(rt: HostRuntime) {
-    assert!(rt; passed(&OpenNet::new()));
-    assert_eq!(rt; drawn(&FixedDraws::new(100)), 100);
+    is(&rt, passed(&OpenNet::new()), "passed");
+    same(&rt, drawn(&FixedDraws::new(100)), 100, "drawn");
 }
 
 #[test]
 fn a_table_passes_one_attempt(rt: HostRuntime) {
     let net = TableNet::new(3);
     for attempt in 0..6 {
-        assert_eq!(rt;
-            net.passes(0, 1, 1, 0, attempt, 1_000),
-            attempt == 3,
-            "{attempt}"
+        let passes = net.passes(0, 1, 1, 0, attempt, 1_000);
+        same(
+            &rt,
+            (attempt, passes),
+            (attempt, attempt == 3),
+            "an attempt",
         );
     }
 }
@@ -47,10 +50,10 @@ const DRAWN: [(u32, u64, u32); 5] = [
 #[test]
 fn seeded_draws(rt: HostRuntime) {
     let draws = Seeded::new([0; 32]);
-    for (member, k, value) in DRAWN {
-        assert_eq!(rt; draws.draw(member, k), value);
+    for (member, k, value) in &DRAWN {
+        same(&rt, draws.draw(*member, *k), *value, "draw");
     }
-    assert_eq!(rt; drawn(&Seeded::new(COUNTED)), 2_819_326_855);
+    same(&rt, drawn(&Seeded::new(COUNTED)), 2_819_326_855, "drawn");
 }
 
 // Asker, publisher, number, part, attempt and the word modulo 1,000, by the same script. The first four are the first
@@ -76,27 +79,41 @@ const ZERO_SEED: [(u32, u32, u32, u32, u32, u32); 8] = [
 #[test]
 fn seeded_passes(rt: HostRuntime) {
     let net = Seeded::new([0; 32]);
-    for (asker, publisher, seq, part, attempt, most) in ZERO_SEED {
-        assert!(rt; net.passes(asker, publisher, seq, part, attempt, most));
-        assert!(rt; !net.passes(asker, publisher, seq, part, attempt, most + 1));
-        assert!(rt; net.passes(asker, publisher, seq, part, attempt, 0));
-        assert!(rt; !net.passes(asker, publisher, seq, part, attempt, 1_000));
+    for (asker, publisher, seq, part, attempt, most) in &ZERO_SEED {
+        let passes = |loss: u32| net.passes(*asker, *publisher, *seq, *part, *attempt, loss);
+        is(&rt, passes(*most), "at the word");
+        is(&rt, !passes(*most + 1), "past the word");
+        is(&rt, passes(0), "no loss");
+        is(&rt, !passes(1_000), "all are lost");
     }
-    assert!(rt; Seeded::new(COUNTED).passes(15, 15, 65_535, 65_535, 2_097_151, 135));
-    assert!(rt; passed(&Seeded::new([0; 32])) && passed(&TableNet::new(1)));
+    is(
+        &rt,
+        Seeded::new(COUNTED).passes(15, 15, 65_535, 65_535, 2_097_151, 135),
+        "passes",
+    );
+    is(&rt, passed(&Seeded::new([0; 32])), "the zero seed");
+    is(&rt, passed(&TableNet::new(1)), "a table");
 }
 
 #[test]
 fn packets_that_were_sent_are_found(rt: HostRuntime) {
     let mut sent = Sent::new(rt.alloc());
-    assert_eq!(rt; add(&rt, &mut sent, 1, &[0, 2], b"ab"), 1);
-    assert_eq!(rt; add(&rt, &mut sent, 0, &[1, 2], b"c"), 2);
-    assert_eq!(rt; sent.len(), 2);
-    for (k, octets) in [(0, None), (1, Some("ab")), (2, Some("c")), (3, None)] {
-        assert!(rt; sent.octets(k) == octets.map(str::as_bytes), "{k}");
-    }
-    assert!(rt; sent.has(1, &[0, 2]) && sent.has(0, &[1, 2]));
-    assert!(rt; !sent.has(0, &[0, 2]) && !sent.has(1, &[1, 2]) && !sent.has(1, &[0, 3]));
+    let first = add(&rt, &mut sent, 1, &[0, 2], b"ab");
+    let second = add(&rt, &mut sent, 0, &[1, 2], b"c");
+    same(&rt, (first, second, sent.len()), (1, 2, 2), "numbers");
+    same(&rt, sent.octets(0), None, "0");
+    same(&rt, sent.octets(1), Some(b"ab"), "1");
+    same(&rt, sent.octets(2), Some(b"c"), "2");
+    same(&rt, sent.octets(3), None, "3");
+    has_both(&rt, &sent);
+}
+
+fn has_both(rt: &impl Abort, sent: &Sent) {
+    is(rt, sent.has(1, &[0, 2]), "the first");
+    is(rt, sent.has(0, &[1, 2]), "the second");
+    is(rt, !sent.has(0, &[0, 2]), "another sender");
+    is(rt, !sent.has(1, &[1, 2]), "another sender");
+    is(rt, !sent.has(1, &[0, 3]), "another vector");
 }
 
 // The number of a packet that is added.

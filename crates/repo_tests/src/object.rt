@@ -1,9 +1,12 @@
-ghost use Rattle.std.specs.Prelude.{◌≡◌, ◌<◌, ◌≤◌, length};
+ghost use Rattle.std.specs.Prelude.{◌≡◌, ◌<◌, ◌≤◌, length, IsOk};
 ghost use Rattle.ndn_name.specs.Names.{encoding};
+ghost use Rattle.ndn_data.specs.Data.{data_of};
 
 mod contents;
 mod hostile;
+mod large;
 
+use crate::expect::{is, is_of, same, same_octets, same_of};
 use crate::worked::{FULL_ASKED, RECORD, RECORD_ASKED, RECORD_DIGEST, SEGMENT, WITHDRAWAL};
 use contents::CONTENTS;
 use hostile::{FOR_THE_RECORD, FOR_THE_SEGMENT};
@@ -105,7 +108,35 @@ fn checks(rt: &(impl Abort + AllocGlobal), want: &Want, ring: &KeyRing, row: &st
     let octets = octets_of(rt, digits);
     let refusal = check_part(want, &octets, ring).err();
     let told = format!(in rt.alloc(); "{refusal:?}").expect(rt, "memory");
-    assert!(rt; told.as_str() == answer, "{told}: {row}");
+    same(rt, told.as_str(), answer, row);
+    if DataView::read(&octets).is_ok() {
+        is_checked_as_packet(rt, want, ring, octets, refusal);
+    }
+}
+
+// Sees that the octets are checked alike as a packet, which is shared where it passes.
+fn is_checked_as_packet(
+    rt: &(impl Abort + AllocGlobal),
+    want: &Want,
+    ring: &KeyRing,
+    octets: Vec<u8>,
+    refusal: Option<PartRefusal>,
+)
+    requires publisher { want.now.part.publisher < length ring.now }
+    requires data { IsOk (data_of octets.items) }
+{
+    let packet = Packet::new(rt.alloc(), octets, None).expect(rt, "memory");
+    match check_packet(want, &packet, ring) {
+        Ok(checked) => {
+            let shared = checked.to_packet(rt.alloc()).expect(rt, "memory");
+            is(
+                rt,
+                refusal.is_none() && shared.octets() == packet.octets(),
+                "shared",
+            );
+        }
+        Err(fault) => is(rt, refusal == Some(fault), "refused alike"),
+    }
 }
 
 #[test]
@@ -114,13 +145,18 @@ fn worked_publication_is_written(rt: HostRuntime) {
     let group = short_name(&rt, "/g");
     let name = short_name(&rt, "/doc");
     let object = object(&rt, &name, b"abc", 10);
-    assert!(rt; object.name().octets() == name.octets());
-    assert!(rt;
-        object.contents().len() == 1 && object.contents()[0].as_slice() == b"abc".as_slice()
-    );
+    same_octets(&rt, object.name().octets(), name.octets(), "name");
+    has_one_content(&rt, &object);
     is_written_whole(&rt, &object, &alice, &group);
     is_written_alone(&rt, &object, &alice, &group);
     comes_with_digests(&rt, &object, &alice, &group);
+}
+
+fn has_one_content(rt: &impl Abort, object: &Object) {
+    let [content] = object.contents() else {
+        panic!(rt; "one content");
+    };
+    same_octets(rt, content, b"abc", "content");
 }
 
 fn is_written_whole(rt: &(impl Abort + AllocGlobal), object: &Object, node: &Name, group: &Name)
@@ -131,18 +167,18 @@ fn is_written_whole(rt: &(impl Abort + AllocGlobal), object: &Object, node: &Nam
     let [record, segment] = packets.as_slice() else {
         panic!(rt; "two packets");
     };
-    assert!(rt; record.as_slice() == RECORD.as_slice());
-    assert!(rt; segment.as_slice() == SEGMENT.as_slice());
+    same_octets(rt, record, &RECORD, "record");
+    same_octets(rt, segment, &SEGMENT, "segment");
 }
 
 fn is_written_alone(rt: &(impl Abort + AllocGlobal), object: &Object, node: &Name, group: &Name)
     requires node { length (encoding node.now) ≤ 200 }
     requires group { length (encoding group.now) ≤ 200 }
 {
-    let alone = [Some(RECORD.as_slice()), Some(SEGMENT.as_slice()), None];
-    for (part, packet) in alone.into_iter().enumerate() {
-        let made = packet_of(rt.alloc(), object, 1, part as u16, node, group, KEY);
-        assert!(rt; made.expect(rt, "memory").as_deref() == packet, "{part}");
+    let alone: [(u16, Option<&[u8]>); 3] = [(0, Some(&RECORD)), (1, Some(&SEGMENT)), (2, None)];
+    for (part, packet) in &alone {
+        let made = packet_of(rt.alloc(), object, 1, *part, node, group, KEY);
+        same(rt, made.expect(rt, "memory").as_deref(), *packet, "a part");
     }
 }
 
@@ -151,11 +187,11 @@ fn comes_with_digests(rt: &(impl Abort + AllocGlobal), object: &Object, node: &N
     requires node { length (encoding node.now) ≤ 200 }
     requires group { length (encoding group.now) ≤ 200 }
 {
-    let made = digested_packets_of(rt.alloc(), object, 1, node, group, KEY).expect(rt, "memory");
-    assert!(rt; made.len() == 2);
+    let made = shared_packets_of(rt.alloc(), object, 1, node, group, KEY).expect(rt, "memory");
+    same(rt, made.len(), 2, "len");
     for (one, packet) in made.iter().zip([RECORD.as_slice(), SEGMENT.as_slice()]) {
-        assert!(rt; one.octets() == packet);
-        assert!(rt; *one.digest() == digest(packet));
+        same_octets(rt, one.octets(), packet, "octets");
+        same_octets(rt, &one.digest(), &digest(packet), "digest");
     }
 }
 
@@ -165,7 +201,7 @@ fn worked_record_is_checked(rt: HostRuntime) {
     let group = short_name(&rt, "/g");
     let ring = ring_of(&rt, &alice, KEY);
     let want = record_want(&rt, 1, &alice, &group);
-    assert!(rt; want.interest() == RECORD_ASKED.as_slice());
+    same_octets(&rt, want.interest(), &RECORD_ASKED, "interest");
     check_all(&rt, &want, &ring, FOR_THE_RECORD);
 }
 
@@ -181,7 +217,7 @@ fn worked_segment_is_checked(rt: HostRuntime) {
     };
     let digest = listing.digests.first().expect(&rt, "a digest");
     let want = segment_want(&rt, part, Shape::of(1), &listing.name, digest);
-    assert!(rt; want.interest() == FULL_ASKED.as_slice());
+    same_octets(&rt, want.interest(), &FULL_ASKED, "interest");
     check_all(&rt, &want, &ring, FOR_THE_SEGMENT);
 }
 
@@ -207,7 +243,7 @@ fn is_read(rt: &(impl Abort + AllocGlobal), row: &str) {
     let (digits, answer) = row.split_once(" => ").expect(rt, "an answer");
     let segments = segments_in(rt, &octets_of(rt, digits));
     let told = format!(in rt.alloc(); "{segments:?}").expect(rt, "memory");
-    assert!(rt; told.as_str() == answer, "{told}: {row}");
+    same(rt, told.as_str(), answer, row);
 }
 
 // How many segments a content lists where it is a record's.
@@ -217,7 +253,7 @@ fn segments_in(rt: &(impl Abort + AllocGlobal), content: &[u8]) -> Option<usize>
         Err(RecordFault::BadRecord) => None,
         Err(RecordFault::NoMemory) => panic!(rt; "memory"),
     };
-    assert!(rt; is_record(content) == segments.is_some());
+    same(rt, is_record(content), segments.is_some(), "is record");
     segments
 }
 
@@ -262,8 +298,8 @@ fn pass(rt: &(impl Abort + AllocGlobal), packets: &[Vec<u8>], want: &Want, ring:
     let [record, segments @ ..] = packets else {
         panic!(rt; "a record");
     };
-    assert!(rt; record.len() == 7_871 && segments.len() == 200);
-    assert!(rt; digest(record) == RECORD_DIGEST);
+    same(rt, (record.len(), segments.len()), (7_871, 200), "lengths");
+    same_octets(rt, &digest(record), &RECORD_DIGEST, "digest");
     goes_anywhere(check_part(want, record, ring).expect(rt, "a record"));
     segments_pass(rt, record, segments, ring);
 }
@@ -280,7 +316,12 @@ fn segments_pass(
     let mut part = 0u16;
     for segment in segments {
         let own = digest(segment);
-        assert!(rt; listing.digests.get(usize::from(part)) == Some(&own));
+        same(
+            rt,
+            listing.digests.get(usize::from(part)),
+            Some(&own),
+            "digest",
+        );
         part = part.saturating_add(1);
         let part = Part {
             publisher: 0,
@@ -289,7 +330,8 @@ fn segments_pass(
         };
         let want = segment_want(rt, part, Shape::of(200), &listing.name, &own);
         let checked = check_part(&want, segment, ring).expect(rt, "a segment");
-        assert!(rt; checked.part().part == part.part && checked.octets() == segment.as_slice());
+        same(rt, checked.part().part, part.part, "part");
+        same_octets(rt, checked.octets(), segment, "octets");
     }
 }
 
@@ -298,17 +340,17 @@ fn worked_withdrawal_is_written(rt: HostRuntime) {
     let alice = short_name(&rt, "/alice");
     let group = short_name(&rt, "/g");
     let packet = withdrawal_packet(rt.alloc(), 1, 2, &alice, &group, KEY).expect(&rt, "memory");
-    assert!(rt; packet.as_slice() == WITHDRAWAL.as_slice());
+    same_octets(&rt, packet.as_slice(), &WITHDRAWAL, "packet");
     let content = DataView::read(&packet).expect(&rt, "a packet").content;
-    assert!(rt; content == [0x85, 1, 1].as_slice());
+    same_octets(&rt, content, &[0x85, 1, 1], "content");
     let ring = ring_of(&rt, &alice, KEY);
     let want = record_want(&rt, 2, &alice, &group);
-    assert!(rt; check_part(&want, &packet, &ring).is_ok());
+    is(&rt, check_part(&want, &packet, &ring).is_ok(), "check part");
     let read = read_record(rt.alloc(), content).expect(&rt, "a record");
     let Record::Withdraws { seq } = read else {
         panic!(rt; "a withdrawal");
     };
-    assert!(rt; seq == 1);
+    same(&rt, seq, 1, "seq");
 }
 
 #[test]
@@ -319,152 +361,14 @@ fn withdrawals_are_of_earlier_numbers(rt: HostRuntime) {
     let group = short_name(&rt, "/g");
     let want = record_want(&rt, 2, &alice, &group);
     let name = short_name(&rt, "/alice/g/seq=2");
-    for (number, passes) in [(0, false), (1, true), (2, false), (3, false)] {
-        let content = [0x85, 1, number];
+    for (number, passes) in &[(0, false), (1, true), (2, false), (3, false)] {
+        let content = [0x85, 1, *number];
         let packet = write_signed(rt.alloc(), &name, None, &content, &keyed, KEY).expect(
             &rt, "memory",
         );
         let refusal = check_part(&want, &packet, &ring).err();
-        let wanted = if passes {
-            None
-        } else {
-            Some(PartRefusal::BadRecord)
-        };
-        assert!(rt; refusal == wanted, "{number}");
-        assert!(rt; is_record(&content) == (number != 0), "{number}");
+        let wanted = (!*passes).then_some(PartRefusal::BadRecord);
+        same_of(&rt, refusal, wanted, &content);
+        is_of(&rt, is_record(&content) == (*number != 0), &content);
     }
-}
-
-#[test]
-fn large_objects_are_listed_by_index_packets(rt: HostRuntime) {
-    let alice = short_name(&rt, "/alice");
-    let name = short_name(&rt, "/big");
-    let object = object(&rt, &name, &[b'A'; 201], 1);
-    let packets = packets_of(rt.alloc(), &object, 1, &alice, &alice, KEY).expect(&rt, "memory");
-    assert!(rt; packets.len() == 204);
-    for (part, packet) in packets.iter().enumerate() {
-        let made = packet_of(rt.alloc(), &object, 1, part as u16, &alice, &alice, KEY);
-        assert!(rt;
-            made.expect(&rt, "memory").as_deref() == Some(packet.as_slice()),
-            "{part}"
-        );
-    }
-    let ring = ring_of(&rt, &alice, KEY);
-    large_passes(&rt, &packets, &alice, &name, &ring);
-}
-
-fn large_passes(
-    rt: &(impl Abort + AllocGlobal),
-    packets: &[Vec<u8>],
-    node: &Name,
-    name: &Name,
-    ring: &KeyRing,
-)
-    requires some { 0 < length ring.now }
-    requires node { length (encoding node.now) ≤ 200 }
-{
-    let record = packet_at(rt, packets, 0);
-    let want = record_want(rt, 1, node, node);
-    assert!(rt; check_part(&want, record, ring).is_ok());
-    let content = DataView::read(record).expect(rt, "a packet").content;
-    let read = read_record(rt.alloc(), content).expect(rt, "a record");
-    let first = index_want(rt, 1, &read, node);
-    lists(rt, &first, packets, 200, ring);
-    let second = index_want(rt, 2, &read, node);
-    lists(rt, &second, packets, 1, ring);
-    segments_of_large_pass(rt, packets, name, ring);
-}
-
-fn packet_at<'p>(rt: &impl Abort, packets: &'p [Vec<u8>], part: u16) -> &'p [u8] {
-    packets
-        .get(usize::from(part))
-        .expect(rt, "a packet")
-        .as_slice()
-}
-
-// The want of an index packet that the record lists.
-fn index_want(rt: &(impl Abort + AllocGlobal), part: u16, read: &Record, node: &Name) -> Want
-    requires { length (encoding node.now) ≤ 200 }
-    ensures { result.part.publisher ≡ 0 }
-{
-    let Record::Indexed {
-        segments,
-        digests,
-        ..
-    } = read
-    else {
-        panic!(rt; "index packets");
-    };
-    let segments = *segments;
-    assert!(rt; 200 < segments && segments <= 20_000);
-    assert!(rt; digests.len() == usize::from(Shape::of(segments).index));
-    assert!(rt; 0 < part && usize::from(part) <= digests.len());
-    let part = Part {
-        publisher: 0,
-        seq: 1,
-        part,
-    };
-    let want = want_index(rt.alloc(), part, read, node, node).expect(rt, "memory");
-    assert!(rt; want.part() == part);
-    want
-}
-
-// Sees that an index packet passes, and lists so many digests and no more.
-fn lists(
-    rt: &(impl Abort + AllocGlobal),
-    want: &Want,
-    packets: &[Vec<u8>],
-    count: u16,
-    ring: &KeyRing,
-)
-    requires { want.now.part.publisher < length ring.now }
-{
-    let packet = packet_at(rt, packets, want.part().part);
-    assert!(rt; check_part(want, packet, ring).is_ok());
-    assert!(rt; want.digest() == Some(&digest(packet)));
-    let content = DataView::read(packet).expect(rt, "a packet").content;
-    let digests = read_index(rt.alloc(), content, count).expect(rt, "an index packet");
-    assert!(rt; digests.len() == usize::from(count));
-    let first = usize::from(want.part().part.saturating_sub(1)).saturating_mul(200);
-    for (listed, packet) in digests
-        .iter()
-        .zip(packets.iter().skip(first.saturating_add(3)))
-    {
-        assert!(rt; *listed == digest(packet));
-    }
-    let more = count.saturating_add(1);
-    assert!(rt; read_index(rt.alloc(), content, more).err() == Some(RecordFault::BadRecord));
-}
-
-fn segments_of_large_pass(
-    rt: &(impl Abort + AllocGlobal),
-    packets: &[Vec<u8>],
-    name: &Name,
-    ring: &KeyRing,
-)
-    requires some { 0 < length ring.now }
-{
-    let mut part = 2u16;
-    for packet in packets.iter().skip(3) {
-        part = part.saturating_add(1);
-        let part = Part {
-            publisher: 0,
-            seq: 1,
-            part,
-        };
-        let want = segment_want(rt, part, Shape::of(201), name, &digest(packet));
-        assert!(rt; check_part(&want, packet, ring).is_ok());
-    }
-    assert!(rt; part == 203);
-}
-
-#[test]
-fn the_largest_object_is_published(rt: HostRuntime) {
-    let alice = short_name(&rt, "/alice");
-    let name = short_name(&rt, "/big");
-    let octets = [b'A'; 20_001];
-    assert!(rt; cut(rt.alloc(), &octets, 1).err() == Some(CutFault::TooMany { segments: 20_001 }));
-    let object = object(&rt, &name, &octets[..20_000], 1);
-    let packets = packets_of(rt.alloc(), &object, 1, &alice, &alice, KEY).expect(&rt, "memory");
-    assert!(rt; packets.len() == 20_101);
 }

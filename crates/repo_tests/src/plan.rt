@@ -1,8 +1,9 @@
-ghost use Rattle.std.specs.Prelude.{◌≡◌, ◌≤◌};
+ghost use Rattle.std.specs.Prelude.{◌≡◌, ◌<◌, ◌≤◌};
 ghost use Rattle.repo_plan.specs.Parts.{most_segments, part_of};
 ghost use Rattle.repo_plan.specs.Sound.{CanBeHeld};
 ghost use Rattle.repo_plan.specs.Calls.{IsFetcher};
 
+use crate::expect::{is, same};
 use repo_plan::*;
 use std::process::Abort;
 use std::test::*;
@@ -21,7 +22,7 @@ fn part(seq: u16, part: u16) -> Part
 // Sees that these parts are wanted and claimed by nobody.
 fn wants(rt: &(impl Abort + AllocGlobal), plan: &Plan, parts: &[Part]) {
     let wanted = plan.wanted_after(rt.alloc(), None, 10).expect(rt, "memory");
-    assert_eq!(rt; wanted.as_slice(), parts);
+    same(rt, wanted.as_slice(), parts, "wanted");
 }
 
 #[test]
@@ -36,9 +37,14 @@ fn parts_of_one_publication(rt: HostRuntime) {
 }
 
 fn one_claims_the_record(rt: &impl Abort, plan: &mut Plan) {
-    assert_eq!(rt; plan.claim(1), Ok(Some(part(1, 0))));
-    assert_eq!(rt; plan.claim(2), Ok(None));
-    assert_eq!(rt; plan.claim(1), Err(FetcherBusy { part: part(1, 0) }));
+    same(rt, plan.claim(1), Ok(Some(part(1, 0))), "claim");
+    same(rt, plan.claim(2), Ok(None), "claim");
+    same(
+        rt,
+        plan.claim(1),
+        Err(FetcherBusy { part: part(1, 0) }),
+        "claim",
+    );
 }
 
 // The record counts so many segments. It is held once, and then again.
@@ -54,12 +60,12 @@ fn hold_record(rt: &impl Abort, plan: &mut Plan, wanted: Part, segments: u16)
 
 // What is asked of a plan that holds the record of the first publication alone.
 fn claim_segments(rt: &(impl Abort + AllocGlobal), plan: &mut Plan) {
-    assert_eq!(rt; plan.claim(1), Ok(Some(part(1, 1))));
-    assert_eq!(rt; plan.claim(2), Ok(Some(part(1, 2))));
-    assert_eq!(rt; plan.release(2), Ok(part(1, 2)));
+    same(rt, plan.claim(1), Ok(Some(part(1, 1))), "claim");
+    same(rt, plan.claim(2), Ok(Some(part(1, 2))), "claim");
+    same(rt, plan.release(2), Ok(part(1, 2)), "release");
     wants(rt, plan, &[part(1, 2)]);
-    assert_eq!(rt; plan.release(3), Err(FetcherIdle));
-    assert_eq!(rt; plan.release(1), Ok(part(1, 1)));
+    same(rt, plan.release(3), Err(FetcherIdle), "release");
+    same(rt, plan.release(1), Ok(part(1, 1)), "release");
     // No fetcher claims a part any more.
     plan.end_claims();
     plan.hide(0, 1).expect(rt, "memory");
@@ -75,8 +81,8 @@ fn calls_in_room_that_was_made(rt: HostRuntime) {
     assert!(rt; !plan.hold_reserved(part(1, 0), Some(Shape::of(2))));
     plan.add_attempts_reserved(part(1, 1), 3);
     plan.hide_reserved(0, 1);
-    assert!(rt; !plan.holds(part(1, 0)));
-    assert_eq!(rt; plan.attempts(part(1, 1)), 3);
+    is(&rt, !plan.holds(part(1, 0)), "hidden");
+    same(&rt, plan.attempts(part(1, 1)), 3, "attempts");
     wants(&rt, &plan, &[]);
 }
 
@@ -87,8 +93,8 @@ fn attempts_add_up(rt: HostRuntime) {
         assert_eq!(rt; plan.attempts(part(1, 1)), sum);
         plan.add_attempts(part(1, 1), more).expect(&rt, "memory");
     }
-    assert_eq!(rt; plan.attempts(part(1, 1)), 7);
-    assert_eq!(rt; plan.attempts(part(1, 0)), 0);
+    same(&rt, plan.attempts(part(1, 1)), 7, "attempts");
+    same(&rt, plan.attempts(part(1, 0)), 0, "attempts");
 }
 
 // Each record is claimed before it is held, which takes minutes where each claim looks at every number before it.
@@ -97,13 +103,13 @@ fn every_number_of_a_publisher(rt: HostRuntime) {
     let mut plan = Plan::new(rt.alloc(), 1).expect(&rt, "memory");
     plan.raise(0, 65535);
     for seq in 0..65535 {
-        assert_eq!(rt; plan.claim(1), Ok(Some(part(seq + 1, 0))));
+        same(&rt, plan.claim(1), Ok(Some(part(seq + 1, 0))), "claim");
         hold_claimed(&rt, &mut plan, 1);
         let next = plan.wanted_after(rt.alloc(), None, 1).expect(&rt, "memory");
-        assert_eq!(rt; next.is_empty(), seq == 65534);
+        same(&rt, next.is_empty(), seq == 65534, "is empty");
     }
-    assert!(rt; plan.complete(0, 65535));
-    assert_eq!(rt; plan.runs(), 1);
+    is(&rt, plan.complete(0, 65535), "complete");
+    same(&rt, plan.runs(), 1, "runs");
 }
 
 // The part that a fetcher claims is held. A record counts no segment.
@@ -122,10 +128,11 @@ fn every_second_number(rt: HostRuntime) {
     let mut plan = Plan::new(rt.alloc(), 1).expect(&rt, "memory");
     plan.raise(0, 65535);
     for pair in 0..4u8 {
-        assert!(rt; plan.claim(pair * 2 + 1).is_ok() && plan.claim(pair * 2 + 2).is_ok());
+        is(&rt, plan.claim(pair * 2 + 1).is_ok(), "claim");
+        is(&rt, plan.claim(pair * 2 + 2).is_ok(), "claim");
         hold_claimed(&rt, &mut plan, pair * 2 + 2);
     }
-    assert_eq!(rt; plan.runs(), 4);
+    same(&rt, plan.runs(), 4, "runs");
 }
 
 // The record of 201 segments lists two index packets, and these list 200 segments and one.
@@ -134,19 +141,17 @@ fn segments_behind_index_packets(rt: HostRuntime) {
     let mut plan = Plan::new(rt.alloc(), 1).expect(&rt, "memory");
     plan.raise(0, 1);
     claim_record(&rt, &mut plan, 201);
-    assert_eq!(rt;
-        plan.shape(0, 1),
-        Some(Shape {
-            index: 2,
-            segments: 201
-        })
-    );
+    let shape = Shape {
+        index: 2,
+        segments: 201,
+    };
+    same(&rt, plan.shape(0, 1), Some(shape), "shape");
     // The first index packet stays claimed.
-    assert_eq!(rt; plan.claim(1), Ok(Some(part(1, 1))));
-    assert_eq!(rt; plan.claim(2), Ok(Some(part(1, 2))));
-    assert_eq!(rt; plan.claim(3), Ok(None));
+    same(&rt, plan.claim(1), Ok(Some(part(1, 1))), "claim");
+    same(&rt, plan.claim(2), Ok(Some(part(1, 2))), "claim");
+    same(&rt, plan.claim(3), Ok(None), "claim");
     hold_claimed(&rt, &mut plan, 2);
-    assert_eq!(rt; plan.claim(3), Ok(Some(part(1, 203))));
+    same(&rt, plan.claim(3), Ok(Some(part(1, 203))), "claim");
     wants(&rt, &plan, &[]);
 }
 
@@ -154,7 +159,7 @@ fn segments_behind_index_packets(rt: HostRuntime) {
 fn claim_record(rt: &impl Abort, plan: &mut Plan, segments: u16)
     requires { segments ≤ most_segments }
 {
-    assert_eq!(rt; plan.claim(1), Ok(Some(part(1, 0))));
+    same(rt, plan.claim(1), Ok(Some(part(1, 0))), "claim");
     let wanted = plan.release(1).expect(rt, "a claim");
     assert_eq!(rt; wanted, part(1, 0));
     hold_record(rt, plan, wanted, segments);
@@ -167,9 +172,69 @@ fn every_part_of_a_publication(rt: HostRuntime) {
     plan.raise(0, 1);
     claim_record(&rt, &mut plan, 20000);
     for x in 0..20100 {
-        assert_eq!(rt; plan.claim(1), Ok(Some(part(1, x + 1))));
-        assert!(rt; !plan.complete(0, 1));
+        same(&rt, plan.claim(1), Ok(Some(part(1, x + 1))), "claim");
+        is(&rt, !plan.complete(0, 1), "complete");
         hold_claimed(&rt, &mut plan, 1);
     }
-    assert!(rt; plan.complete(0, 1));
+    is(&rt, plan.complete(0, 1), "complete");
+}
+
+// The first publications of two members have two segments. Two others hold the record of one each, and the first
+// segment.
+#[test]
+fn parts_that_others_hold(rt: HostRuntime) {
+    let mut others = Vec::new(rt.alloc());
+    others.push(holder(&rt, 1)).expect(&rt, "memory");
+    others.push(holder(&rt, 0)).expect(&rt, "memory");
+    wants_of(&rt, others.as_slice());
+}
+
+// A plan that holds the first two parts of a member's first publication.
+fn holder(rt: &(impl Abort + AllocGlobal), publisher: u32) -> Plan
+    requires { publisher < 2 }
+{
+    let mut plan = Plan::new(rt.alloc(), 2).expect(rt, "memory");
+    plan.raise(publisher, 1);
+    hold_next(rt, &mut plan);
+    hold_next(rt, &mut plan);
+    plan
+}
+
+// The least wanted part is held. A record counts two segments.
+fn hold_next(rt: &impl Abort, plan: &mut Plan) {
+    assert!(rt; plan.claim(1).is_ok());
+    let wanted = plan.release(1).expect(rt, "a claim");
+    let shape = (wanted.part == 0).then_some(Shape::of(2));
+    plan.hold(wanted, shape).expect(rt, "memory");
+}
+
+// What a plan wants of others, before and after it holds a record.
+fn wants_of(rt: &(impl Abort + AllocGlobal), others: &[Plan]) {
+    let mut plan = Plan::new(rt.alloc(), 2).expect(rt, "memory");
+    plan.raise(0, 2);
+    plan.raise(1, 1);
+    let other = Part {
+        publisher: 1,
+        ..part(1, 0)
+    };
+    lists_held(rt, &plan, others, (None, 10), &[part(1, 0), other]);
+    lists_held(rt, &plan, others, (None, 1), &[part(1, 0)]);
+    lists_held(rt, &plan, others, (Some(part(1, 0)), 10), &[other]);
+    hold_next(rt, &mut plan);
+    lists_held(rt, &plan, others, (None, 10), &[part(1, 1), other]);
+    lists_held(rt, &plan, &[], (None, 10), &[]);
+}
+
+// Sees that these parts, from a place on and at most so many, are wanted and held by one of the others.
+fn lists_held(
+    rt: &(impl Abort + AllocGlobal),
+    plan: &Plan,
+    others: &[Plan],
+    (after, most): (Option<Part>, usize),
+    parts: &[Part],
+) {
+    let wanted = plan
+        .wanted_held_after(rt.alloc(), others, after, most)
+        .expect(rt, "memory");
+    assert_eq!(rt; wanted.as_slice(), parts);
 }

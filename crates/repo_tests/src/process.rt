@@ -1,28 +1,28 @@
-ghost use Rattle.std.specs.Prelude.{IfOk, IsTrue};
+ghost use Rattle.std.specs.Prelude.{◌-◌, ◌<◌, ◌≤◌, IsTrue};
 ghost use Rattle.repo_object.specs.Objects.{is_object_name};
 
+use crate::expect::{is, same, same_octets};
 use ndn_name::Name;
 use repo_object::is_object_name;
 use repo_process::*;
-use std::alloc::Global;
+use std::process::Abort;
 use std::test::*;
 
 // The name of the object that is inserted.
-fn object_name(alloc: Global) -> Result<Name, Fail>
-    ensures { IfOk result (λ name. IsTrue (is_object_name name)) }
+fn object_name(rt: &(impl Abort + AllocGlobal)) -> Name
+    ensures { IsTrue (is_object_name result) }
 {
-    let name = Name::from_uri(alloc, "/in")?;
-    if is_object_name(&name.view()) {
-        return Ok(name);
-    }
-    Err("a name of an object".into())
+    let name = Name::from_uri(rt.alloc(), "/in").expect(rt, "a name");
+    assert!(rt; is_object_name(&name.view()));
+    name
 }
 
 // A process of the blocks 5 and 6.
-fn started(alloc: Global) -> Result<Processes, Fail> {
-    let mut processes = Processes::new(alloc);
-    processes.start(&object_name(alloc)?, 5, 6)?;
-    Ok(processes)
+fn started(rt: &(impl Abort + AllocGlobal)) -> Processes {
+    let mut processes = Processes::new(rt.alloc());
+    let number = processes.start(&object_name(rt), 5, 6).expect(rt, "memory");
+    same(rt, number, 1, "the first");
+    processes
 }
 
 // What blocks come to, one after another: process, index, and how the process stands then.
@@ -38,76 +38,97 @@ const BLOCKS: [(u32, u64, BlockState); 8] = [
 ];
 
 #[test]
-fn blocks_come_in_any_order(rt: HostRuntime) -> Result<(), Fail> {
-    let mut processes = started(rt.alloc())?;
-    assert_eq!(rt; processes.status(1), Some((0, false)));
-    for (process, index, state) in BLOCKS {
-        assert_eq!(rt; processes.block(process, index, b"a")?, state, "{index}");
+fn blocks_come_in_any_order(rt: HostRuntime) {
+    let mut processes = started(&rt);
+    same(&rt, processes.status(1), Some((0, false)), "no block");
+    for (process, index, state) in &BLOCKS {
+        gives(&rt, &mut processes, *process, *index, *state);
     }
-    assert_eq!(rt; processes.status(1), Some((2, false)));
-    assert_eq!(rt; processes.status(2), None);
-    Ok(())
+    same(&rt, processes.status(1), Some((2, false)), "both blocks");
+    same(&rt, processes.status(2), None, "no process");
+}
+
+fn gives(rt: &impl Abort, processes: &mut Processes, process: u32, index: u64, state: BlockState) {
+    let answered = processes.block(process, index, b"a").expect(rt, "memory");
+    same(rt, answered, state, "a block");
 }
 
 // A process whose blocks have come: "ab", and then "c" and another one in its place.
-fn complete(alloc: Global) -> Result<Processes, Fail> {
-    let mut processes = started(alloc)?;
-    processes.block(1, 6, b"c")?;
-    processes.block(1, 6, b"another")?;
-    processes.block(1, 5, b"ab")?;
-    Ok(processes)
+fn complete(rt: &(impl Abort + AllocGlobal)) -> Processes {
+    let mut processes = started(rt);
+    processes.block(1, 6, b"c").expect(rt, "memory");
+    processes.block(1, 6, b"another").expect(rt, "memory");
+    processes.block(1, 5, b"ab").expect(rt, "memory");
+    processes
 }
 
 #[test]
-fn blocks_are_the_object(rt: HostRuntime) -> Result<(), Fail> {
-    let processes = complete(rt.alloc())?;
-    let object = processes.object(rt.alloc(), 1)?.ok_or("an object")?;
-    assert_eq!(rt; object.name.octets(), [8, 2, 0x69, 0x6e].as_slice());
-    let contents: [&[u8]; 2] = [b"ab", b"c"];
-    assert_eq!(rt; object.contents.len(), 2);
-    for (content, expected) in object.contents.iter().zip(contents) {
-        assert_eq!(rt; content.as_slice(), expected);
-    }
-    assert!(rt; processes.object(rt.alloc(), 2)?.is_none());
-    Ok(())
+fn blocks_are_the_object(rt: HostRuntime) {
+    let processes = complete(&rt);
+    let object = processes.object(rt.alloc(), 1).expect(&rt, "memory");
+    is_the_object(&rt, &object.expect(&rt, "an object"));
+    let other = processes.object(rt.alloc(), 2).expect(&rt, "memory");
+    is(&rt, other.is_none(), "no process");
+}
+
+fn is_the_object(rt: &impl Abort, object: &Blocks) {
+    same_octets(rt, object.name.octets(), &[8, 2, 0x69, 0x6e], "name");
+    let [first, second] = object.contents.as_slice() else {
+        panic!(rt; "two contents");
+    };
+    same_octets(rt, first, b"ab", "first");
+    same_octets(rt, second, b"c", "second");
 }
 
 #[test]
-fn numbers_go_on(rt: HostRuntime) -> Result<(), Fail> {
-    let name = object_name(rt.alloc())?;
-    let mut processes = started(rt.alloc())?;
-    assert_eq!(rt; processes.start(&name, 0, 199)?, 2);
-    assert_eq!(rt; processes.next(), Some(3));
+fn numbers_go_on(rt: HostRuntime) {
+    let mut processes = started(&rt);
+    starts(&rt, &mut processes, 0, 199, 2);
+    same(&rt, processes.next(), Some(3), "next");
     processes.clear();
-    assert_eq!(rt; processes.status(1), None);
-    assert_eq!(rt; processes.start(&name, u64::MAX, u64::MAX)?, 3);
-    assert_eq!(rt; processes.status(3), Some((0, false)));
-    assert_eq!(rt; processes.block(3, u64::MAX, b"a")?, BlockState::Complete);
-    Ok(())
+    same(&rt, processes.status(1), None, "cleared");
+    starts(&rt, &mut processes, u64::MAX, u64::MAX, 3);
+    same(&rt, processes.status(3), Some((0, false)), "the third");
+    gives(&rt, &mut processes, 3, u64::MAX, BlockState::Complete);
+}
+
+// The next process, of these blocks, has this number.
+fn starts(
+    rt: &(impl Abort + AllocGlobal),
+    processes: &mut Processes,
+    first: u64,
+    last: u64,
+    number: u32,
+)
+    requires order { first ≤ last }
+    requires few { last - first < 200 }
+{
+    let started = processes.start(&object_name(rt), first, last);
+    same(rt, started.expect(rt, "memory"), number, "number");
 }
 
 #[test]
-fn published_processes_keep_no_blocks(rt: HostRuntime) -> Result<(), Fail> {
-    let mut processes = complete(rt.alloc())?;
+fn published_processes_keep_no_blocks(rt: HostRuntime) {
+    let mut processes = complete(&rt);
     if processes.whole(1).is_some() {
         processes.published(1);
     }
-    assert_eq!(rt; processes.status(1), Some((2, true)));
-    assert!(rt; processes.whole(1).is_none());
-    assert_eq!(rt; processes.block(1, 5, b"a")?, BlockState::Complete);
-    assert_eq!(rt; processes.block(1, 7, b"a")?, BlockState::Unknown);
-    Ok(())
+    same(&rt, processes.status(1), Some((2, true)), "published");
+    is(&rt, processes.whole(1).is_none(), "no blocks");
+    gives(&rt, &mut processes, 1, 5, BlockState::Complete);
+    gives(&rt, &mut processes, 1, 7, BlockState::Unknown);
 }
 
 #[test]
-fn a_block_is_taken_back(rt: HostRuntime) -> Result<(), Fail> {
+fn a_block_is_taken_back(rt: HostRuntime) {
     let mut processes = Processes::new(rt.alloc());
-    processes.start(&object_name(rt.alloc())?, 5, 5)?;
+    processes
+        .start(&object_name(&rt), 5, 5)
+        .expect(&rt, "memory");
     assert!(rt; processes.completes(1, 5));
-    assert!(rt; !processes.completes(1, 6));
-    assert!(rt; !processes.completes(2, 5));
-    processes.block(1, 5, b"a")?;
+    is(&rt, !processes.completes(1, 6), "another block");
+    is(&rt, !processes.completes(2, 5), "no process");
+    processes.block(1, 5, b"a").expect(&rt, "memory");
     processes.take_back(1, 5);
-    assert_eq!(rt; processes.status(1), Some((0, false)));
-    Ok(())
+    same(&rt, processes.status(1), Some((0, false)), "no block");
 }

@@ -1,6 +1,7 @@
 ghost use Rattle.std.specs.Prelude.{◌≡◌};
 ghost use Rattle.repo_watch.specs.Patterns.{accepts, is_publisher, begins_with};
 
+use crate::expect::{is, same};
 use ndn_name::Name;
 use repo_catalog::{Catalogue, Entry};
 use repo_watch::{Filter, Pattern, TakeFault, Watchers};
@@ -29,22 +30,26 @@ fn begins_with(prefix: &Name, name: &Name) -> bool
     prefix.view().is_prefix_of(&name.view())
 }
 
+fn name_of(rt: &(impl Abort + AllocGlobal), uri: &str) -> Name {
+    Name::from_uri(rt.alloc(), uri).expect(rt, "a name")
+}
+
 fn list(
-    rt: &impl AllocGlobal,
+    rt: &(impl Abort + AllocGlobal),
     catalogue: &mut Catalogue,
     publisher: u32,
     seq: u16,
     uri: &str,
-) -> Result<(), Fail> {
-    catalogue.add(Entry {
+) {
+    let entry = Entry {
         publisher,
         seq,
-        name: Name::from_uri(rt.alloc(), uri)?,
+        name: name_of(rt, uri),
         segments: 1,
         octets: 3,
         digest: [7; 32],
-    })?;
-    Ok(())
+    };
+    catalogue.add(entry).expect(rt, "memory");
 }
 
 // Who asks for the objects of a publisher, or of all, under a prefix gets this number.
@@ -52,13 +57,12 @@ fn compare_add(
     rt: &(impl Abort + AllocGlobal),
     watchers: &mut Watchers,
     catalogue: &Catalogue,
-    (publisher, prefix): (Option<u32>, &str),
+    (publisher, uri): (Option<u32>, &str),
     number: u32,
-) -> Result<(), Fail> {
-    let prefix = Name::from_uri(rt.alloc(), prefix)?;
-    let added = watchers.add(rt.alloc(), Pattern { publisher, prefix }, catalogue);
-    assert!(rt; added == Ok(number));
-    Ok(())
+) {
+    let prefix = name_of(rt, uri);
+    let added = watchers.add(Pattern { publisher, prefix }, catalogue);
+    same(rt, added, Ok(number), uri);
 }
 
 // The watcher is told these publications. There is no third one.
@@ -68,40 +72,45 @@ fn compare_take(
     catalogue: &Catalogue,
     number: u32,
     pairs: &[(u32, u16)],
-) -> Result<(), Fail> {
+) {
     let filter = Filter::new(|pattern: &Pattern, publisher: u32, name: &Name| {
         is_for(pattern, publisher, name)
     });
-    let told = watchers.take(rt.alloc(), number, &filter, catalogue)?;
-    assert!(rt; told.as_slice() == pairs);
+    let told = watchers
+        .take(rt.alloc(), number, &filter, catalogue)
+        .expect(rt, "a watcher");
+    same(rt, told.as_slice(), pairs, "publications");
     let missing = watchers.take(rt.alloc(), 3, &filter, catalogue);
-    assert!(rt; missing.err() == Some(TakeFault::NoSuchWatch));
-    Ok(())
+    is(
+        rt,
+        missing.err() == Some(TakeFault::NoSuchWatch),
+        "no third watcher",
+    );
 }
 
 fn compare_told(
     rt: &(impl Abort + AllocGlobal),
     watchers: &mut Watchers,
     catalogue: &mut Catalogue,
-) -> Result<(), Fail> {
-    list(rt, catalogue, 1, 1, "/doc/a")?;
-    compare_add(rt, watchers, catalogue, (None, "/doc"), 1)?;
-    compare_add(rt, watchers, catalogue, (Some(0), "/"), 2)?;
-    list(rt, catalogue, 0, 1, "/x")?;
-    list(rt, catalogue, 0, 2, "/doc")?;
-    list(rt, catalogue, 1, 2, "/doc/b")?;
-    compare_take(rt, watchers, catalogue, 1, &[(0, 2), (1, 2)])?;
-    compare_take(rt, watchers, catalogue, 1, &[])?;
+) {
+    list(rt, catalogue, 1, 1, "/doc/a");
+    compare_add(rt, watchers, catalogue, (None, "/doc"), 1);
+    compare_add(rt, watchers, catalogue, (Some(0), "/"), 2);
+    list(rt, catalogue, 0, 1, "/x");
+    list(rt, catalogue, 0, 2, "/doc");
+    list(rt, catalogue, 1, 2, "/doc/b");
+    compare_take(rt, watchers, catalogue, 1, &[(0, 2), (1, 2)]);
+    compare_take(rt, watchers, catalogue, 1, &[]);
     catalogue.remove(1, 2);
-    list(rt, catalogue, 1, 2, "/doc/b")?;
-    list(rt, catalogue, 0, 3, "/doc/c")?;
-    compare_take(rt, watchers, catalogue, 1, &[(0, 3)])?;
-    compare_take(rt, watchers, catalogue, 2, &[(0, 1), (0, 2), (0, 3)])
+    list(rt, catalogue, 1, 2, "/doc/b");
+    list(rt, catalogue, 0, 3, "/doc/c");
+    compare_take(rt, watchers, catalogue, 1, &[(0, 3)]);
+    compare_take(rt, watchers, catalogue, 2, &[(0, 1), (0, 2), (0, 3)]);
 }
 
 #[test]
-fn watchers_are_told_once(rt: HostRuntime) -> Result<(), Fail> {
+fn watchers_are_told_once(rt: HostRuntime) {
     let mut catalogue = Catalogue::new(rt.alloc());
     let mut watchers = Watchers::new(rt.alloc());
-    compare_told(&rt, &mut watchers, &mut catalogue)
+    compare_told(&rt, &mut watchers, &mut catalogue);
 }

@@ -1,23 +1,26 @@
-ghost use Rattle.std.specs.Prelude.{◌≡◌, ◌<◌, ◌≤◌, length, All, IfOk};
+ghost use Rattle.std.specs.Prelude.{◌≡◌, ◌<◌, ◌≤◌, length, All};
 ghost use Rattle.ndn_name.specs.Names.{encoding};
 ghost use Rattle.fetch_work.specs.Attempts.{CanBeTried};
 
+use crate::expect::{is, same};
 use fetch_board::Board;
 use fetch_work::*;
-use ndn_name::{Name, NameFault};
+use ndn_name::Name;
 use ndn_sign::KeyRing;
 use repo_holdings::{ContentsDigest, Whole};
 use repo_object::{
     Job, NODE_NAME_LIMIT, Object, Want, is_object_name, key_name, packets_of, want_record,
 };
 use repo_plan::Part;
-use std::alloc::{AllocError, Global};
 use std::process::Abort;
 use std::sync::atomic::{AtomicBool, Ordering};
 use std::test::*;
 use std::thread::Threads;
 
 const KEY: &[u8] = b"k1";
+
+// By how many workers the same is fetched.
+const WORKERS: [u32; 4] = [1, 2, 4, 16];
 
 // A link that has the record of each publication but every tenth, in whose place it lends another. Of publication
 // `seq` it passes the attempt `seq % 7 + 1` alone.
@@ -74,73 +77,81 @@ impl Link for Gate {
     }
 }
 
-fn short_name(rt: &impl Abort, alloc: Global, text: &str) -> Result<Name, NameFault>
-    ensures { IfOk result (λ name. length (encoding name) ≤ 200) }
+fn short_name(rt: &(impl Abort + AllocGlobal), text: &str) -> Name
+    ensures { length (encoding result) ≤ 200 }
 {
-    let name = Name::from_uri(alloc, text)?;
+    let name = Name::from_uri(rt.alloc(), text).expect(rt, "a name");
     assert!(rt; name.octets().len() <= NODE_NAME_LIMIT);
-    Ok(name)
+    name
 }
 
-fn ring_of(alloc: Global, node: &Name) -> Result<KeyRing, Fail>
+fn ring_of(rt: &(impl Abort + AllocGlobal), node: &Name) -> KeyRing
     requires { length (encoding node.now) ≤ 200 }
-    ensures { IfOk result (λ ring. 0 < length ring) }
+    ensures { 0 < length result }
 {
-    let mut ring = KeyRing::new(alloc);
-    ring.add(key_name(node)?.octets(), KEY)?;
-    Ok(ring)
+    let mut ring = KeyRing::new(rt.alloc());
+    let name = key_name(node).expect(rt, "memory");
+    ring.add(name.octets(), KEY).expect(rt, "memory");
+    ring
 }
 
 // The job of a publication's record, which was tried before or not.
-fn job(alloc: Global, seq: u16, node: &Name, group: &Name) -> Result<Job, AllocError>
+fn job(rt: &(impl Abort + AllocGlobal), seq: u16, node: &Name, group: &Name) -> Job
     requires node { length (encoding node.now) ≤ 200 }
     requires group { length (encoding group.now) ≤ 200 }
-    ensures { IfOk result (λ job. CanBeTried 1 5 job) }
+    ensures { CanBeTried 1 5 result }
 {
     let part = Part {
         publisher: 0,
         seq,
         part: 0,
     };
-    Ok(Job {
-        want: want_record(alloc, part, node, group)?,
+    Job {
+        want: want_record(rt.alloc(), part, node, group).expect(rt, "memory"),
         base: u32::from(seq % 3),
-    })
+    }
 }
 
-fn jobs(alloc: Global, count: u16, node: &Name) -> Result<Vec<Job>, AllocError>
+fn jobs(rt: &(impl Abort + AllocGlobal), count: u16, node: &Name) -> Vec<Job>
     requires { length (encoding node.now) ≤ 200 }
-    ensures { IfOk result (λ jobs. All (λ job. CanBeTried 1 5 job) jobs.items) }
+    ensures { All (λ job. CanBeTried 1 5 job) result.items }
 {
-    let mut jobs = Vec::with_capacity(alloc, usize::from(count))?;
+    let mut jobs = Vec::new(rt.alloc());
     for seq in 1..=count {
-        jobs.push(job(alloc, seq, node, node)?)?;
+        jobs.push(job(rt, seq, node, node)).expect(rt, "memory");
     }
-    Ok(jobs)
+    jobs
 }
 
 // The records, each of an object without contents. In the place of every tenth lies the one before.
 fn records(
-    alloc: Global,
+    rt: &(impl Abort + AllocGlobal),
     count: u16,
     object: &Object,
     node: &Name,
-) -> Result<Vec<Vec<u8>>, AllocError>
+) -> Vec<Vec<u8>>
     requires { length (encoding node.now) ≤ 200 }
 {
-    let mut records = Vec::with_capacity(alloc, usize::from(count))?;
+    let mut records = Vec::new(rt.alloc());
     for seq in 1..=count {
         let lies = if seq % 10 == 0 { seq - 1 } else { seq };
-        let mut packets = packets_of(alloc, object, lies, node, node, KEY)?;
-        records.push(packets.pop().unwrap_or(Vec::new(alloc)))?;
+        let record = record(rt, lies, object, node);
+        records.push(record).expect(rt, "memory");
     }
-    Ok(records)
+    records
 }
 
-fn object(rt: &impl Abort, alloc: Global) -> Result<Object, Fail> {
-    let name = Name::from_uri(alloc, "/doc")?;
+fn record(rt: &(impl Abort + AllocGlobal), seq: u16, object: &Object, node: &Name) -> Vec<u8>
+    requires { length (encoding node.now) ≤ 200 }
+{
+    let mut packets = packets_of(rt.alloc(), object, seq, node, node, KEY).expect(rt, "memory");
+    packets.pop().expect(rt, "a record")
+}
+
+fn object(rt: &(impl Abort + AllocGlobal)) -> Object {
+    let name = Name::from_uri(rt.alloc(), "/doc").expect(rt, "a name");
     assert!(rt; is_object_name(&name.view()));
-    Ok(Object::new(alloc, &name, &[])?)
+    Object::new(rt.alloc(), &name, &[]).expect(rt, "memory")
 }
 
 // The publications of a node, numbered from 1: the jobs of their records, the records and the ring for their check.
@@ -151,39 +162,36 @@ struct Published {
     ring: KeyRing,
 }
 
-fn publish(rt: &impl Abort, alloc: Global, count: u16) -> Result<Published, Fail>
-    ensures jobs { IfOk result (λ p. All (λ job. CanBeTried 1 5 job) p.jobs.items) }
-    ensures few { IfOk result (λ p. length p.jobs.items ≤ 4096) }
-    ensures ring { IfOk result (λ p. 0 < length p.ring) }
+fn publish(rt: &(impl Abort + AllocGlobal), count: u16) -> Published
+    ensures jobs { All (λ job. CanBeTried 1 5 job) result.jobs.items }
+    ensures few { length result.jobs.items ≤ 4096 }
+    ensures ring { 0 < length result.ring }
 {
-    let node = short_name(rt, alloc, "/alice")?;
-    let records = records(alloc, count, &object(rt, alloc)?, &node)?;
-    let jobs = jobs(alloc, count, &node)?;
+    let node = short_name(rt, "/alice");
+    let jobs = jobs(rt, count, &node);
     assert!(rt; jobs.len() <= 4096);
-    let ring = ring_of(alloc, &node)?;
-    Ok(Published {
+    Published {
         jobs,
-        records,
-        ring,
-    })
+        records: records(rt, count, &object(rt), &node),
+        ring: ring_of(rt, &node),
+    }
 }
 
-fn fetch<'p, L: Link + Sync, R: Threads + Sync>(
+fn fetch<'p, L: Link + Sync, R: Threads + Sync + Abort + AllocGlobal>(
     rt: &R,
-    alloc: Global,
     link: &'p L,
-    jobs: &'p [Job],
-    ring: &'p KeyRing,
+    published: &'p Published,
     tries: u32,
     workers: u32,
-) -> Result<PhaseOutcome<'p>, AllocError>
-    requires few { length jobs.now ≤ 4096 }
-    requires jobs { All (λ job. CanBeTried 1 5 job) jobs.now }
-    requires ring { 0 < length ring.now }
+) -> PhaseOutcome<'p>
+    requires jobs { All (λ job. CanBeTried 1 5 job) published.now.jobs.items }
+    requires few { length published.now.jobs.items ≤ 4096 }
+    requires ring { 0 < length published.now.ring }
     requires tries { (1 ≤ tries) × (tries ≤ 5) }
     requires workers { (1 ≤ workers) × (workers ≤ 16) }
 {
-    phase(rt, alloc, link, jobs, ring, tries, workers)
+    let (jobs, ring) = (&published.jobs, &published.ring);
+    phase(rt, rt.alloc(), link, jobs, ring, tries, workers).expect(rt, "memory")
 }
 
 // How many of five attempts are made for a publication's record, and whether it comes.
@@ -214,13 +222,12 @@ fn is_expected(outcome: &PhaseOutcome<'_>, published: &Published) -> bool {
     outcome.parts.len() == published.jobs.len()
 }
 
-// Whether a phase of so many workers gives what is expected.
-fn phase_is_expected<R: Threads + Sync>(
+// A phase of so many workers gives what is expected.
+fn phase_is_expected<R: Threads + Sync + Abort + AllocGlobal>(
     rt: &R,
-    alloc: Global,
     published: &Published,
     workers: u32,
-) -> Result<bool, AllocError>
+)
     requires jobs { All (λ job. CanBeTried 1 5 job) published.now.jobs.items }
     requires few { length published.now.jobs.items ≤ 4096 }
     requires ring { 0 < length published.now.ring }
@@ -229,20 +236,12 @@ fn phase_is_expected<R: Threads + Sync>(
     let link = OneAttempt {
         records: &published.records,
     };
-    let outcome = fetch(
-        rt,
-        alloc,
-        &link,
-        &published.jobs,
-        &published.ring,
-        5,
-        workers,
-    )?;
-    Ok(is_expected(&outcome, published))
+    let outcome = fetch(rt, &link, published, 5, workers);
+    is(rt, is_expected(&outcome, published), "a phase");
 }
 
-// Whether one worker alone, at a board of five tries, makes of the jobs what is expected.
-fn work_is_expected(alloc: Global, published: &Published) -> Result<bool, Fail>
+// One worker alone, at a board of five tries, makes of the jobs what is expected.
+fn work_is_expected(rt: &(impl Abort + AllocGlobal), published: &Published)
     requires jobs { All (λ job. CanBeTried 1 5 job) published.now.jobs.items }
     requires few { length published.now.jobs.items ≤ 4096 }
     requires ring { 0 < length published.now.ring }
@@ -250,41 +249,33 @@ fn work_is_expected(alloc: Global, published: &Published) -> Result<bool, Fail>
     let link = OneAttempt {
         records: &published.records,
     };
-    let (board, mut seats) = Board::new(alloc, published.jobs.len(), 5, 1)?;
-    let Some(seat) = seats.pop() else {
-        return Err("a seat".into());
-    };
-    let mut worker = Worker::new(seat);
+    let made = Board::new(rt.alloc(), published.jobs.len(), 5, 1);
+    let (board, mut seats) = made.expect(rt, "memory");
+    let mut worker = Worker::new(seats.pop().expect(rt, "a seat"));
     worker.work(&board, &link, &published.jobs, &published.ring);
-    let outcome = board.close(alloc, worker.into_seat())?;
+    let outcome = board
+        .close(rt.alloc(), worker.into_seat())
+        .expect(rt, "memory");
     let outcome = PhaseOutcome {
         parts: outcome.values,
         attempts: outcome.attempts,
     };
-    Ok(is_expected(&outcome, published))
+    is(rt, is_expected(&outcome, published), "one worker");
 }
 
 #[test]
-fn outcomes_are_the_same_for_any_number_of_workers(rt: HostRuntime) -> Result<(), Fail> {
-    let alloc: Global = rt.alloc();
-    let published = publish(&rt, alloc, 500)?;
-    assert_eq!(rt; published.jobs.len(), 500);
-    assert!(rt; work_is_expected(alloc, &published)?);
-    for workers in [1u32, 2, 4, 16] {
-        assert!(rt;
-            phase_is_expected(&rt, alloc, &published, workers)?,
-            "{workers}"
-        );
+fn outcomes_are_the_same_for_any_number_of_workers(rt: HostRuntime) {
+    let published = publish(&rt, 500);
+    same(&rt, published.jobs.len(), 500, "jobs");
+    work_is_expected(&rt, &published);
+    for workers in &WORKERS {
+        assert!(rt; 1 <= *workers && *workers <= 16);
+        phase_is_expected(&rt, &published, *workers);
     }
-    Ok(())
 }
 
-// Whether the first of two workers sees all four parts asked for before it gets its answer.
-fn first_sees_all<R: Threads + Sync>(
-    rt: &R,
-    alloc: Global,
-    published: &Published,
-) -> Result<bool, AllocError>
+// The first of two workers sees all four parts asked for before it gets its answer.
+fn first_sees_all<R: Threads + Sync + Abort + AllocGlobal>(rt: &R, published: &Published)
     requires jobs { All (λ job. CanBeTried 1 5 job) published.now.jobs.items }
     requires few { length published.now.jobs.items ≤ 4096 }
     requires ring { 0 < length published.now.ring }
@@ -299,16 +290,18 @@ fn first_sees_all<R: Threads + Sync>(
         first: AtomicBool::new(false),
         saw_all: AtomicBool::new(false),
     };
-    let outcome = fetch(rt, alloc, &gate, &published.jobs, &published.ring, 1, 2)?;
-    Ok(gate.saw_all.load(Ordering::SeqCst) && outcome.parts.iter().all(|part| part.is_none()))
+    let outcome = fetch(rt, &gate, published, 1, 2);
+    is(rt, gate.saw_all.load(Ordering::SeqCst), "all four parts");
+    is(
+        rt,
+        outcome.parts.iter().all(|part| part.is_none()),
+        "no part",
+    );
 }
 
 #[test]
-fn workers_go_on_beside_each_other(rt: HostRuntime) -> Result<(), Fail> {
-    let alloc: Global = rt.alloc();
-    let published = publish(&rt, alloc, 4)?;
-    assert!(rt; first_sees_all(&rt, alloc, &published)?);
-    Ok(())
+fn workers_go_on_beside_each_other(rt: HostRuntime) {
+    first_sees_all(&rt, &publish(&rt, 4));
 }
 
 // SHA-256 of "abc" and of nothing (FIPS 180-4).
@@ -323,23 +316,22 @@ const NOTHING: [u8; 32] = [
 ];
 
 // "ab" and "c" under number 1, then four times nothing under each of the 40 numbers behind it.
-fn contents(alloc: Global) -> Result<Vec<Whole<'static>>, AllocError> {
-    let mut whole = Vec::new(alloc);
+fn contents(rt: &(impl Abort + AllocGlobal)) -> Vec<Whole<'static>> {
+    let mut whole = Vec::new(rt.alloc());
     for seq in 1..42_u16 {
-        let mut contents: Vec<&'static [u8]> = Vec::new(alloc);
-        if seq == 1 {
-            contents.push(b"ab")?;
-            contents.push(b"c")?;
+        let contents: &[&'static [u8]] = if seq == 1 {
+            &[b"ab", b"c"]
         } else {
-            contents.extend_from_slice(&[b"", b"", b"", b""])?;
-        }
-        whole.push(Whole {
+            &[b"", b"", b"", b""]
+        };
+        let made = Whole {
             publisher: 3,
             seq,
-            contents,
-        })?;
+            contents: Vec::from_slice(rt.alloc(), contents).expect(rt, "memory"),
+        };
+        whole.push(made).expect(rt, "memory");
     }
-    Ok(whole)
+    whole
 }
 
 // Whether these are their digests, in order.
@@ -355,13 +347,12 @@ fn are_their_digests(digests: &[ContentsDigest]) -> bool {
 }
 
 #[test]
-fn contents_have_their_digests_for_any_number_of_workers(rt: HostRuntime) -> Result<(), Fail> {
-    let alloc: Global = rt.alloc();
-    let whole = contents(alloc)?;
-    for workers in [1u32, 2, 4, 16] {
-        let told = digests(&rt, alloc, &whole, workers)?;
-        assert_eq!(rt; told.len(), 41);
-        assert!(rt; are_their_digests(&told), "{workers}");
+fn contents_have_their_digests_for_any_number_of_workers(rt: HostRuntime) {
+    let whole = contents(&rt);
+    for workers in &WORKERS {
+        assert!(rt; 1 <= *workers && *workers <= 16);
+        let told = digests(&rt, rt.alloc(), &whole, *workers).expect(&rt, "memory");
+        same(&rt, told.len(), 41, "digests");
+        is(&rt, are_their_digests(&told), "digests");
     }
-    Ok(())
 }

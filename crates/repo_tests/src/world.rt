@@ -1,5 +1,6 @@
 ghost use Rattle.std.specs.Prelude.{◌≡◌, length};
 
+use crate::expect::{is, same, same_octets};
 use crate::member::three_members;
 use bench_net::{FixedDraws, OpenNet};
 use bench_world::{Event, StepFault, World};
@@ -23,20 +24,20 @@ fn makes_two_steps(rt: &(impl Threads + Abort + Sync), world: &mut World, draws:
 {
     let net = OpenNet::new();
     let later = Event::Advance { ms: 5 };
-    assert!(rt; world.step(rt, &later, &net, draws).is_ok());
+    is(rt, world.step(rt, &later, &net, draws).is_ok(), "step");
     assert_eq!(rt; world.steps(), 1);
     // Nothing was sent, so this is refused and counts for no step.
     let unsent = Event::Deliver { k: 1, m: 0 };
     match world.step(rt, &unsent, &net, draws) {
-        Err(fault) => assert!(rt; fault == StepFault::NoSuchPacket),
+        Err(fault) => is(rt, fault == StepFault::Refused { number: 5 }, "not sent"),
         Ok(_) => panic!(rt; "nothing was sent"),
     }
     assert_eq!(rt; world.steps(), 1);
-    assert_eq!(rt; world.settle(rt, 2, &net), Ok(0));
+    same(rt, world.settle(rt, 2, &net), Ok(0), "settle");
     assert_eq!(rt; world.steps(), 2);
 }
 
 fn is_of_three(rt: &impl Abort, group: &Group) {
-    assert_eq!(rt; group.roster().len(), 3);
-    assert_eq!(rt; group.name().octets(), b"\x08\x01g".as_slice());
+    same(rt, group.roster().len(), 3, "roster");
+    same_octets(rt, group.name().octets(), b"\x08\x01g", "name");
 }

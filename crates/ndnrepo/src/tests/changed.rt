@@ -1,5 +1,5 @@
 use super::{PRE, expect, report_of, script_of};
-use repo_top::*;
+use repo_io::*;
 use std::process::Abort;
 use std::test::*;
 use std::thread::Threads;
@@ -209,9 +209,8 @@ fn put_changes(
     for at in sealed {
         put_flips(rt, script, line, octets, *at);
     }
-    for n in [8_800, 8_801] {
-        put_long(rt, script, line, n);
-    }
+    put_long(rt, script, line, 8_800);
+    put_long(rt, script, line, 8_801);
     put_octets(rt, script, line, octets);
 }
 

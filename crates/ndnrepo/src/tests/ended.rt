@@ -1,9 +1,10 @@
 ghost use Rattle.std.specs.Prelude.{◌≡◌, None};
 
+use super::checks::{is, same};
 use super::run_over;
 use bench_net::{FixedDraws, OpenNet};
 use bench_world::World;
-use repo_top::*;
+use repo_io::*;
 use std::process::Abort;
 use std::test::*;
 use std::thread::Threads;
@@ -51,8 +52,13 @@ fn entries(world: &World) -> Option<(usize, usize)> {
 #[test]
 fn the_last_world_is_left(rt: HostRuntime) {
     let mut end = None;
-    assert!(rt; run_slice(&rt, "run", FIRST, &mut end) == Status::Done);
-    assert!(rt; end.as_ref().and_then(entries) == Some((1, 1)));
+    same(
+        &rt,
+        run_slice(&rt, "run", FIRST, &mut end),
+        Status::Done,
+        "status",
+    );
+    same(&rt, end.as_ref().and_then(entries), Some((1, 1)), "entries");
 }
 
 // What the world tells of its members and of itself.
@@ -60,17 +66,32 @@ fn tells_of_one_publication(rt: &impl Abort, world: &World) {
     if world.members() != 2 {
         panic!(rt; "two members");
     }
-    assert_eq!(rt; (world.published(0), world.published(1)), (1, 0));
-    assert_eq!(rt; world.now(), 5);
+    same(
+        rt,
+        (world.published(0), world.published(1)),
+        (1, 0),
+        "published",
+    );
+    same(rt, world.now(), 5, "now");
     let tally = world.tally();
-    assert_eq!(rt; (tally.syncs, tally.delivered, tally.attempts), (3, 2, 0));
-    assert_eq!(rt; (tally.parts, tally.octets), (2, 197));
+    same(
+        rt,
+        (tally.syncs, tally.delivered, tally.attempts),
+        (3, 2, 0),
+        "tally",
+    );
+    same(rt, (tally.parts, tally.octets), (2, 197), "traffic");
 }
 
 #[test]
 fn the_last_world_tells_what_came_of_it(rt: HostRuntime) {
     let mut end = None;
-    assert!(rt; run_slice(&rt, "run", LATER, &mut end) == Status::Done);
+    same(
+        &rt,
+        run_slice(&rt, "run", LATER, &mut end),
+        Status::Done,
+        "status",
+    );
     match end.as_ref() {
         Some(world) => tells_of_one_publication(&rt, world),
         None => panic!(rt; "a world"),
@@ -85,25 +106,28 @@ fn leaves_none<R: Threads + Sync + AllocGlobal + Abort>(
 ) -> Status {
     let mut end = None;
     let answered = run_slice(rt, words, input, &mut end);
-    assert!(rt; end.is_none(), "{words}");
+    is(rt, end.is_none(), words);
     answered
 }
 
+// Words, an input and the status of each.
+const NO_WORLDS: [(&str, &str, Status); 6] = [
+    ("run", "", Status::Done),
+    ("run", "group /g\nmember alice /alice 6b31\n", Status::Done),
+    ("inspect", "0700", Status::Done),
+    ("gen 1 1 1", "", Status::Done),
+    ("gen", "", Status::Usage),
+    (
+        "run",
+        "group /g\nsettle 1\nsettle 0\n",
+        Status::Refused { line: 3, number: 4 },
+    ),
+];
+
 #[test]
 fn no_world_is_left(rt: HostRuntime) {
-    for (words, input, wanted) in [
-        ("run", "", Status::Done),
-        ("run", "group /g\nmember alice /alice 6b31\n", Status::Done),
-        ("inspect", "0700", Status::Done),
-        ("gen 1 1 1", "", Status::Done),
-        ("gen", "", Status::Usage),
-        (
-            "run",
-            "group /g\nsettle 1\nsettle 0\n",
-            Status::Refused { line: 3, number: 4 },
-        ),
-    ] {
-        assert_eq!(rt; leaves_none(&rt, words, input), wanted, "{words}");
+    for (words, input, wanted) in &NO_WORLDS {
+        same(&rt, leaves_none(&rt, words, input), *wanted, words);
     }
 }
 
@@ -111,8 +135,8 @@ fn no_world_is_left(rt: HostRuntime) {
 fn real_readers_and_writers(rt: HostRuntime) {
     let mut octets = [0; 4];
     let mut source = ReadSource::new(b"abc".as_slice());
-    assert_eq!(rt; source.read(&mut octets), Ok(3));
-    assert_eq!(rt; source.read(&mut octets), Ok(0));
+    same(&rt, source.read(&mut octets), Ok(3), "read");
+    same(&rt, source.read(&mut octets), Ok(0), "read");
     let mut sink = WriteSink::new(Vec::<u8>::new(rt.alloc()));
-    assert_eq!(rt; sink.write(b"abc"), Ok(3));
+    same(&rt, sink.write(b"abc"), Ok(3), "write");
 }

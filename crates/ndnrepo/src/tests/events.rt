@@ -4,6 +4,7 @@ ghost use Rattle.repo_member.specs.Groups.{IsPlainNodeName};
 ghost use Rattle.bench_world.specs.EventValues.{event_value};
 ghost use Rattle.bench_world.specs.Steps.{IsReady, NamesClient};
 
+use super::checks::{is, same, same_octets};
 use bench_net::{FixedDraws, OpenNet};
 use bench_world::{Event, World};
 use ndn_name::Name;
@@ -46,8 +47,18 @@ fn group_of_two(rt: &(impl Abort + AllocGlobal)) -> Group
     ensures clients { length result.clients.names ≡ 0 }
 {
     let mut g = Group::new(rt.alloc(), &plain_name(rt, "/g")).expect(rt, "memory");
-    assert_eq!(rt; g.add_member(&plain_name(rt, "/alice"), b"k1"), Ok(0));
-    assert_eq!(rt; g.add_member(&plain_name(rt, "/bob"), b"k2"), Ok(1));
+    same(
+        rt,
+        g.add_member(&plain_name(rt, "/alice"), b"k1"),
+        Ok(0),
+        "alice",
+    );
+    same(
+        rt,
+        g.add_member(&plain_name(rt, "/bob"), b"k2"),
+        Ok(1),
+        "bob",
+    );
     assert_eq!(rt; g.roster().len(), 2);
     assert_eq!(rt; clients_of(&g), 0);
     g
@@ -77,7 +88,7 @@ fn expect_doc<R: Threads + Abort + AllocGlobal + Sync>(rt: &R, events: &[Event])
     let draws = FixedDraws::new(100);
     let mut world = World::new(rt.alloc(), group_of_two(rt), &draws).expect(rt, "memory");
     let came = world.run_events(rt, events, &OpenNet::new(), &draws);
-    assert!(rt; came == Ok(events.len()));
+    is(rt, came == Ok(events.len()), "all are taken");
     assert_eq!(rt; world.members(), 2);
     for m in 0..2 {
         lists_doc(rt, world.member(m).catalogue().entries());
@@ -88,8 +99,10 @@ fn lists_doc(rt: &(impl Abort + AllocGlobal), entries: &[Entry]) {
     assert_eq!(rt; entries.len(), 1);
     let entry = &entries[0];
     let name = Name::from_uri(rt.alloc(), "/doc").expect(rt, "a name");
-    assert!(rt; (entry.publisher, entry.seq) == (0, 1) && entry.name == name);
-    assert!(rt; (entry.segments, entry.octets) == (1, 3) && entry.digest == ABC_DIGEST);
+    same(rt, (entry.publisher, entry.seq), (0, 1), "publication");
+    is(rt, entry.name == name, "name");
+    same(rt, (entry.segments, entry.octets), (1, 3), "sizes");
+    same_octets(rt, &entry.digest, &ABC_DIGEST, "digest");
 }
 
 #[test]

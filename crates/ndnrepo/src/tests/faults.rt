@@ -1,5 +1,6 @@
+use super::checks::{is, same};
 use super::{INSERTION, PRINTED, call_alone, expect_from, put, report_of, script_of, status_of};
-use repo_top::*;
+use repo_io::*;
 use std::process::Abort;
 use std::test::*;
 use std::thread::Threads;
@@ -58,7 +59,7 @@ fn expect_read_fault<R: Threads + Sync + AllocGlobal + Abort>(
 
 #[test]
 fn what_was_read_whole_is_reported(rt: HostRuntime) {
-    for transcript in [FIRST, INSERTION] {
+    for transcript in &[FIRST, INSERTION] {
         let script = script_of(&rt, "", transcript);
         let pieces = script.len().div_ceil(20) as u64;
         // One more call sees the end.
@@ -90,7 +91,8 @@ fn written_until<R: Threads + Sync + AllocGlobal + Abort>(
     let mut source = ReadSource::new(script.as_bytes());
     let mut sink = VecSink::new(rt.alloc(), 8, call_alone(rt, call));
     let answered = status_of(rt, "run", &mut source, &mut sink);
-    assert!(rt; report.as_bytes().starts_with(sink.octets()), "call {call}");
+    let front = report.as_bytes().starts_with(sink.octets());
+    same(rt, (call, front), (call, true), "a front");
     (answered, sink.octets().len())
 }
 
@@ -104,23 +106,23 @@ fn fails_at<R: Threads + Sync + AllocGlobal + Abort>(
     let (answered, written) = written_until(rt, script, report, call);
     let most = call.saturating_sub(1).saturating_mul(8);
     if answered == Status::WriteFault {
-        assert!(rt; written < report.len(), "call {call}");
-        assert!(rt; written as u64 <= most, "call {call}");
+        same(rt, (call, written < report.len()), (call, true), "not all");
+        same(rt, (call, written as u64 <= most), (call, true), "no more");
         return true;
     }
-    assert!(rt; answered == Status::Done, "call {call}");
-    assert!(rt; written == report.len(), "call {call}");
+    same(rt, (call, answered), (call, Status::Done), "status");
+    same(rt, (call, written), (call, report.len()), "written");
     false
 }
 
 // Each call that is made fails in turn, and those behind the last that is made don't.
 #[test]
 fn a_front_of_the_report_is_written(rt: HostRuntime) {
-    for transcript in [FIRST, INSERTION] {
+    for transcript in &[FIRST, INSERTION] {
         let script = script_of(&rt, "", transcript);
         let report = report_of(&rt, transcript);
         let failed = failing_calls(&rt, &script, &report);
-        assert!(rt; failed >= report.len().div_ceil(8));
+        is(&rt, failed >= report.len().div_ceil(8), transcript);
     }
 }
 
@@ -130,7 +132,7 @@ fn failing_calls<R: Threads + Sync + AllocGlobal + Abort>(
     script: &str,
     report: &str,
 ) -> usize {
-    assert!(rt; fails_at(rt, script, report, 1));
+    is(rt, fails_at(rt, script, report, 1), "the first call");
     let mut failed: usize = 1;
     for call in 2..=report.len() as u64 {
         if !fails_at(rt, script, report, call) {

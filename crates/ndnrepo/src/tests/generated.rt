@@ -1,7 +1,8 @@
 ghost use Rattle.std.specs.Prelude.{◌≤◌};
 
+use super::checks::{is, same, same_text};
 use super::{call_alone, compare, status_of};
-use repo_top::*;
+use repo_io::*;
 use sha2::{Digest, Sha256};
 use std::process::Abort;
 use std::str;
@@ -52,15 +53,15 @@ fn generate<R: Threads + Sync + AllocGlobal + Abort>(
 // The whole script.
 fn generated<R: Threads + Sync + AllocGlobal + Abort>(rt: &R, words: &str) -> Vec<u8> {
     let mut sink = VecSink::new(rt.alloc(), 5_000, Vec::new(rt.alloc()));
-    assert!(rt; generate(rt, words, &mut sink) == Status::Done);
+    same(rt, generate(rt, words, &mut sink), Status::Done, words);
     sink.octets().to_vec(rt.alloc()).expect(rt, "memory")
 }
 
 #[test]
 fn a_script_is_generated(rt: HostRuntime) {
-    for piece in [1, 7, 5_000] {
-        expect_generated(&rt, piece, 0, Status::Done, SCRIPT);
-    }
+    expect_generated(&rt, 1, 0, Status::Done, SCRIPT);
+    expect_generated(&rt, 7, 0, Status::Done, SCRIPT);
+    expect_generated(&rt, 5_000, 0, Status::Done, SCRIPT);
     // A line in each call: the second call fails behind the group's line.
     let line = "group /g\n";
     expect_generated(&rt, 5_000, 2, Status::WriteFault, line);
@@ -69,25 +70,28 @@ fn a_script_is_generated(rt: HostRuntime) {
     expect_generated(&rt, 7, 4, Status::WriteFault, lines);
 }
 
+// Words, and the SHA-256 of what is generated.
+const LARGEST: [(&str, &str); 2] = [
+    (
+        "gen 16 2000 1",
+        "2ddfc47cc744808d56eb818ec68aa272c75c7f5dc07a2f35fae077c2d2d7f9a9",
+    ),
+    (
+        "gen 16 2000 999999999999999999",
+        "a12db5b014876cc23a2a33bcd6859bd8f40404b47be304eeaf029e63de77dd75",
+    ),
+];
+
 #[test]
 fn the_largest_script_is_generated(rt: HostRuntime) {
-    for (words, digest) in [
-        (
-            "gen 16 2000 1",
-            "2ddfc47cc744808d56eb818ec68aa272c75c7f5dc07a2f35fae077c2d2d7f9a9",
-        ),
-        (
-            "gen 16 2000 999999999999999999",
-            "a12db5b014876cc23a2a33bcd6859bd8f40404b47be304eeaf029e63de77dd75",
-        ),
-    ] {
+    for (words, digest) in &LARGEST {
         has_digest(&rt, &generated(&rt, words), digest);
     }
 }
 
 fn has_digest(rt: &(impl Abort + AllocGlobal), script: &[u8], digest: &str) {
     let digits = hex::encode(rt.alloc(), Sha256::digest(script).as_slice());
-    assert_eq!(rt; digits.expect(rt, "memory").as_str(), digest);
+    same_text(rt, &digits.expect(rt, "memory"), digest);
 }
 
 // How many octets a line publishes, which is a multiple of 100.
@@ -118,8 +122,13 @@ fn summary(rt: &(impl Abort + AllocGlobal), script: &[u8]) -> String {
 fn expect_summary<R: Threads + Sync + AllocGlobal + Abort>(rt: &R, script: &[u8], last: &str) {
     let mut source = ReadSource::new(script);
     let mut sink = VecSink::new(rt.alloc(), 5_000, Vec::new(rt.alloc()));
-    assert!(rt; status_of(rt, "run", &mut source, &mut sink) == Status::Done);
-    assert!(rt; sink.octets().ends_with(last.as_bytes()), "{last}");
+    same(
+        rt,
+        status_of(rt, "run", &mut source, &mut sink),
+        Status::Done,
+        "status",
+    );
+    is(rt, sink.octets().ends_with(last.as_bytes()), last);
 }
 
 #[test]

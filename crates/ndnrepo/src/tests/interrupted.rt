@@ -1,5 +1,5 @@
 use super::{INSERTION, compare, report_of, script_of, status_of};
-use repo_top::*;
+use repo_io::*;
 use std::io;
 use std::io::{Read, Write};
 use std::process::Abort;
@@ -69,8 +69,8 @@ fn expect_interrupted<R: Threads + Sync + AllocGlobal + Abort>(
 fn interrupted_calls_are_made_again(rt: HostRuntime) {
     let script = script_of(&rt, "", INSERTION);
     let report = report_of(&rt, INSERTION);
-    for times in [(0, 0), (1, 0), (0, 1), (3, 2), (1_000, 1_000)] {
-        expect_interrupted(&rt, &script, times, Status::Done, &report);
+    for times in &[(0, 0), (1, 0), (0, 1), (3, 2), (1_000, 1_000)] {
+        expect_interrupted(&rt, &script, *times, Status::Done, &report);
     }
     expect_interrupted(&rt, &script, (u32::MAX, 0), Status::ReadFault, "");
     expect_interrupted(&rt, &script, (0, u32::MAX), Status::WriteFault, "");

@@ -1,5 +1,6 @@
+use super::checks::{is, same};
 use super::{PRE, put, status_of};
-use repo_top::*;
+use repo_io::*;
 use std::process::Abort;
 use std::str;
 use std::test::*;
@@ -127,12 +128,14 @@ fn catalogues_of(rt: &(impl Abort + AllocGlobal), entries: &str) -> String {
 fn expect_end<R: Threads + Sync + AllocGlobal + Abort>(rt: &R, script: &str, end: &str) {
     let mut source = ReadSource::new(script.as_bytes());
     let mut sink = VecSink::new(rt.alloc(), 5_000, Vec::new(rt.alloc()));
-    assert!(rt;
-        status_of(rt, "run", &mut source, &mut sink) == Status::Done,
-        "{script}"
+    same(
+        rt,
+        status_of(rt, "run", &mut source, &mut sink),
+        Status::Done,
+        script,
     );
     let written = str::from_utf8(sink.octets()).unwrap_or("");
-    assert!(rt; written.ends_with(end), "{script}{written}");
+    is(rt, written.ends_with(end), script);
 }
 
 // The first lines of a story, and then its end.
@@ -159,7 +162,7 @@ fn expect_joined<R: Threads + Sync + AllocGlobal + Abort>(rt: &R, lines: &[(&str
 
 #[test]
 fn all_is_listed_wherever_lines_end(rt: HostRuntime) {
-    for lines in STORIES {
+    for lines in &STORIES {
         for end in 0..=lines.len() {
             expect_joined(&rt, &lines[..end]);
         }

@@ -1,5 +1,5 @@
 use super::{PRE, expect_transcript};
-use repo_top::*;
+use repo_io::*;
 use std::test::*;
 
 // Behind what stands in front of all: lines, each with what it prints behind it, and the status.
@@ -194,14 +194,14 @@ const LARGE_OBJECTS: [(&str, &str, Status); 3] = [
 
 #[test]
 fn withdrawn_objects_are_listed_no_more(rt: HostRuntime) {
-    for (head, transcript, wanted) in WITHDRAWALS {
-        expect_transcript(&rt, head, transcript, wanted);
+    for (head, transcript, wanted) in &WITHDRAWALS {
+        expect_transcript(&rt, head, transcript, *wanted);
     }
 }
 
 #[test]
 fn large_objects_come_by_their_index_packets(rt: HostRuntime) {
-    for (head, transcript, wanted) in LARGE_OBJECTS {
-        expect_transcript(&rt, head, transcript, wanted);
+    for (head, transcript, wanted) in &LARGE_OBJECTS {
+        expect_transcript(&rt, head, transcript, *wanted);
     }
 }

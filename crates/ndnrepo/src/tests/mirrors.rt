@@ -1,5 +1,5 @@
 use super::{PRE, expect_transcript};
-use repo_top::*;
+use repo_io::*;
 use std::test::*;
 
 // Lines behind those of the group and its members, each with what it prints behind it, and the status.
@@ -102,8 +102,8 @@ const MIRRORED: [(&str, Status); 3] = [
 
 #[test]
 fn mirrors_hold_what_they_ask_for(rt: HostRuntime) {
-    for (transcript, wanted) in MIRRORED {
-        expect_transcript(&rt, PRE, transcript, wanted);
+    for (transcript, wanted) in &MIRRORED {
+        expect_transcript(&rt, PRE, transcript, *wanted);
     }
 }
 
@@ -199,7 +199,7 @@ const REFUSED: [(&str, Status); 12] = [
 
 #[test]
 fn a_mirrors_line_is_refused_for_its_first_reason(rt: HostRuntime) {
-    for (transcript, wanted) in REFUSED {
-        expect_transcript(&rt, PRE, transcript, wanted);
+    for (transcript, wanted) in &REFUSED {
+        expect_transcript(&rt, PRE, transcript, *wanted);
     }
 }

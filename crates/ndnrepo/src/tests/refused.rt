@@ -1,5 +1,5 @@
 use super::{PRE, expect_transcript};
-use repo_top::*;
+use repo_io::*;
 use std::test::*;
 
 // Behind what stands in front of all: lines, each with what it prints behind it, and the status. Where several reasons
@@ -209,7 +209,7 @@ const REFUSED: [(&str, &str, Status); 27] = [
 
 #[test]
 fn a_line_is_refused_for_its_first_reason(rt: HostRuntime) {
-    for (head, transcript, wanted) in REFUSED {
-        expect_transcript(&rt, head, transcript, wanted);
+    for (head, transcript, wanted) in &REFUSED {
+        expect_transcript(&rt, head, transcript, *wanted);
     }
 }

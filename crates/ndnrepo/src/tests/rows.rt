@@ -1,5 +1,5 @@
 use super::{INSERTION, PRE, expect_transcript};
-use repo_top::*;
+use repo_io::*;
 use std::test::*;
 
 // Behind what stands in front of all: lines, each with what it prints behind it, and the status.
@@ -474,7 +474,7 @@ const ROWS: [(&str, &str, Status); 25] = [
 
 #[test]
 fn lines_print_what_they_do(rt: HostRuntime) {
-    for (head, transcript, wanted) in ROWS {
-        expect_transcript(&rt, head, transcript, wanted);
+    for (head, transcript, wanted) in &ROWS {
+        expect_transcript(&rt, head, transcript, *wanted);
     }
 }

@@ -1,6 +1,6 @@
 use super::{PRE, compare, put, run_over};
 use bench_net::{FixedDraws, Net, Seeded, TableNet};
-use repo_top::*;
+use repo_io::*;
 use std::process::Abort;
 use std::test::*;
 use std::thread::Threads;
@@ -45,7 +45,8 @@ fn fetching(rt: &(impl Abort + AllocGlobal), lines: &[(u32, u32, u32)]) -> Strin
 
 #[test]
 fn workers_make_no_difference(rt: HostRuntime) {
-    for workers in [1, 2, 16] {
+    for workers in &[1, 2, 16] {
+        let workers = *workers;
         let script = fetching(
             &rt,
             &[(workers, 16, 1_000), (workers, 16, 0), (workers, 16, 0)],

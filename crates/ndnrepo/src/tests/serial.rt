@@ -1,6 +1,7 @@
+use super::checks::{is, same};
 use super::{PRE, put, run_over};
 use bench_net::{FixedDraws, Net};
-use repo_top::*;
+use repo_io::*;
 use std::process::Abort;
 use std::sync::atomic::{AtomicBool, Ordering};
 use std::test::*;
@@ -63,14 +64,19 @@ fn expect_beside<R: Threads + Sync + AllocGlobal + Abort>(rt: &R, lines: &str, l
     let script = publishing_four(rt, lines);
     let gate = Gate::new();
     let mut sink = VecSink::new(rt.alloc(), 5_000, Vec::new(rt.alloc()));
-    assert!(rt; run_gated(rt, &script, &mut sink, &gate) == Status::Done);
-    assert!(rt; sink.octets().ends_with(last.as_bytes()), "{lines}");
-    assert!(rt; gate.saw_all.load(Ordering::SeqCst), "{lines}");
+    same(
+        rt,
+        run_gated(rt, &script, &mut sink, &gate),
+        Status::Done,
+        lines,
+    );
+    is(rt, sink.octets().ends_with(last.as_bytes()), lines);
+    is(rt, gate.saw_all.load(Ordering::SeqCst), lines);
 }
 
 fn publishing_four(rt: &(impl Abort + AllocGlobal), lines: &str) -> String {
     let mut script = String::from_str(rt.alloc(), PRE).expect(rt, "memory");
-    for name in ["/a", "/b", "/c", "/d"] {
+    for name in &["/a", "/b", "/c", "/d"] {
         write!(script, "publish alice {name} 10 text:\n").expect(rt, "memory");
     }
     put(rt, &mut script, lines);

@@ -1,7 +1,8 @@
 ghost use Rattle.std.specs.Prelude.{◌≤◌};
 
+use super::checks::{is, same};
 use super::{PRE, call_alone, expect, expect_from, put, report_of, script_of, status_of};
-use repo_top::*;
+use repo_io::*;
 use std::process::Abort;
 use std::test::*;
 use std::thread::Threads;
@@ -54,16 +55,16 @@ fn expect_ending<R: Threads + Sync + AllocGlobal + Abort>(
 ) {
     let mut sink = VecSink::new(rt.alloc(), 5_000, call_alone(rt, fails));
     let answered = status_of(rt, "run", source, &mut sink);
-    assert_eq!(rt; answered, wanted);
+    same(rt, answered, wanted, "status");
 }
 
 // Of 1,000,000 octets behind the line that ends the run at most 65,536 are taken.
 #[test]
 fn little_is_read_behind_the_end(rt: HostRuntime) {
-    for (lines, fails, wanted) in ENDINGS {
+    for (lines, fails, wanted) in &ENDINGS {
         let mut source = commented(&rt, lines);
-        expect_ending(&rt, &mut source, fails, wanted);
-        assert!(rt; octets_left(&mut source) >= 1_000_000 - 65_536);
+        expect_ending(&rt, &mut source, *fails, *wanted);
+        is(&rt, octets_left(&mut source) >= 1_000_000 - 65_536, lines);
     }
 }
 
@@ -94,8 +95,9 @@ const LINES: &str = "group /g\n\
 fn pieces_make_no_difference(rt: HostRuntime) {
     let script = script_of(&rt, "", LINES);
     let report = report_of(&rt, LINES);
-    for piece in [1, 7, 100, 5_000] {
-        expect(&rt, "run", piece, script.as_bytes(), Status::Done, &report);
+    for piece in &[1, 7, 100, 5_000] {
+        assert!(rt; 1 <= *piece);
+        expect(&rt, "run", *piece, script.as_bytes(), Status::Done, &report);
     }
     // The last line may lack its line feed.
     let cut = script.strip_suffix('\n').expect(&rt, "a line feed");
@@ -143,25 +145,34 @@ fn filled(rt: &(impl Abort + AllocGlobal), line: &str, octets: usize, end: &str)
     script
 }
 
+const LIMIT: &str = "refused 1 4 Limit\n";
+
+// What the program ends with at the limit, and at a line that is none.
+const TOO_LONG: Status = Status::Refused { line: 1, number: 4 };
+
+const SYNTAX: Status = Status::Refused { line: 1, number: 1 };
+
+// Lines that are filled with spaces to so many octets, with their ends, and what comes of each.
+const FILLED: [(&str, usize, &str, Status, &str); 10] = [
+    ("#", 32_768, "\n", Status::Done, ""),
+    ("#", 32_768, "", Status::Done, ""),
+    ("group /g", 32_768, "\n", Status::Done, ""),
+    ("group /g", 32_767, "\r\n", Status::Done, ""),
+    ("#", 32_769, "\n", TOO_LONG, LIMIT),
+    ("#", 32_769, "", TOO_LONG, LIMIT),
+    ("group /g", 32_769, "\n", TOO_LONG, LIMIT),
+    ("group /g", 32_768, "\r\n", TOO_LONG, LIMIT),
+    // The limit comes before the grammar.
+    ("\t", 32_769, "\n", TOO_LONG, LIMIT),
+    ("\t", 32_768, "\n", SYNTAX, "refused 1 1 Syntax\n"),
+];
+
 // A line has 32,768 octets at most, its carriage return among them.
 #[test]
 fn a_line_is_so_long(rt: HostRuntime) {
-    let limit = "refused 1 4 Limit\n";
-    for (line, octets, end, wanted, text) in [
-        ("#", 32_768, "\n", Status::Done, ""),
-        ("#", 32_768, "", Status::Done, ""),
-        ("group /g", 32_768, "\n", Status::Done, ""),
-        ("group /g", 32_767, "\r\n", Status::Done, ""),
-        ("#", 32_769, "\n", refused(1, 4), limit),
-        ("#", 32_769, "", refused(1, 4), limit),
-        ("group /g", 32_769, "\n", refused(1, 4), limit),
-        ("group /g", 32_768, "\r\n", refused(1, 4), limit),
-        // The limit comes before the grammar.
-        ("\t", 32_769, "\n", refused(1, 4), limit),
-        ("\t", 32_768, "\n", refused(1, 1), "refused 1 1 Syntax\n"),
-    ] {
-        let script = filled(&rt, line, octets, end);
-        expect(&rt, "run", 5_000, &script, wanted, text);
+    for (line, octets, end, wanted, text) in &FILLED {
+        let script = filled(&rt, line, *octets, end);
+        expect(&rt, "run", 5_000, &script, *wanted, text);
     }
 }
 
@@ -212,15 +223,34 @@ fn expect_repeated<R: Threads + Sync + AllocGlobal + Abort>(
     expect_from(rt, "run", &mut source, wanted, text);
 }
 
+// Lines of so many spaces without an end of the script, and what comes of each.
+const ENDLESS: [(usize, &str, Status, &str); 3] = [
+    (1, "", TOO_LONG, LIMIT),
+    (
+        1,
+        "\n",
+        Status::Refused {
+            line: 100_001,
+            number: 4,
+        },
+        "refused 100001 4 Limit\n",
+    ),
+    (
+        32_767,
+        "\n",
+        Status::Refused {
+            line: 513,
+            number: 4,
+        },
+        "refused 513 4 Limit\n",
+    ),
+];
+
 // A script without an end ends at a limit, and so does one that goes right past it.
 #[test]
 fn an_endless_script_ends(rt: HostRuntime) {
-    for (octets, end, wanted, text) in [
-        (1, "", refused(1, 4), "refused 1 4 Limit\n"),
-        (1, "\n", refused(100_001, 4), "refused 100001 4 Limit\n"),
-        (32_767, "\n", refused(513, 4), "refused 513 4 Limit\n"),
-    ] {
-        expect_repeated(&rt, (octets, end), u64::MAX, wanted, text);
+    for (octets, end, wanted, text) in &ENDLESS {
+        expect_repeated(&rt, (*octets, end), u64::MAX, *wanted, text);
     }
 }
 

@@ -3,6 +3,7 @@ ghost use Rattle.std.specs.List.{All};
 ghost use Rattle.svs_sync.specs.SyncInterest.{IsKeyName, IsNodeName};
 
 use super::hostile::HOSTILE;
+use crate::expect::{same_octets, same_of};
 use ndn_name::{Name, NameView};
 use ndn_sign::KeyRing;
 use std::process::Abort;
@@ -133,7 +134,8 @@ fn is_told(rt: &(impl Abort + AllocGlobal), group: &Group, vector: &Vector)
 {
     let name = key_name(rt, ALICE);
     let made = make_sync(rt.alloc(), &group.name, vector, &group.roster, &name, b"k1");
-    assert!(rt; made.expect(rt, "memory").as_slice() == FROM_ALICE.as_slice());
+    let octets = made.expect(rt, "memory");
+    same_octets(rt, octets.as_slice(), &FROM_ALICE, "from alice");
 }
 
 // Sync Interests, and the number of the key that signed each. Both tell of alice's first
@@ -143,28 +145,28 @@ const SENT: [(&[u8], u32); 2] = [(&FROM_ALICE, 0), (&FROM_BOB, 1)];
 #[test]
 fn the_signer_is_not_told_by_the_vector(rt: HostRuntime) {
     let group = Group::new(&rt);
-    for (octets, sender) in SENT {
-        is_signed_by(&rt, &group, octets, sender);
+    for (octets, sender) in &SENT {
+        is_signed_by(&rt, &group, octets, *sender);
     }
 }
 
 fn is_signed_by(rt: &(impl Abort + AllocGlobal), group: &Group, octets: &[u8], sender: u32) {
     let checked = check_sync(rt.alloc(), octets, &group.name, &group.roster, &group.ring);
     let (signer, vector) = checked.expect(rt, "a sync Interest");
-    assert!(rt; signer == sender);
+    same_of(rt, signer, sender, octets);
     assert!(rt; vector.members() == 2);
-    assert!(rt; vector.get(0) == 1 && vector.get(1) == 0);
+    same_of(rt, (vector.get(0), vector.get(1)), (1, 0), octets);
 }
 
 #[test]
 fn hostile_sync_interests(rt: HostRuntime) {
     let group = Group::new(&rt);
-    for (octets, refusal) in HOSTILE {
-        is_refused(&rt, &group, octets, refusal);
+    for (octets, refusal) in &HOSTILE {
+        is_refused(&rt, &group, octets, *refusal);
     }
 }
 
 fn is_refused(rt: &(impl Abort + AllocGlobal), group: &Group, octets: &[u8], refusal: SyncRefusal) {
     let refused = check_sync(rt.alloc(), octets, &group.name, &group.roster, &group.ring).err();
-    assert!(rt; refused == Some(refusal), "{refused:?}: {octets:?}");
+    same_of(rt, refused, Some(refusal), octets);
 }

@@ -1,6 +1,7 @@
 ghost use Rattle.std.specs.Prelude.{◌≡◌, length};
 
 use super::*;
+use crate::expect::same;
 use crate::worked::{FLIPPED, INSERT};
 use repo_command::Answer;
 use repo_command::status_codes::*;
@@ -32,7 +33,7 @@ pub(super) fn with_carl(rt: &(impl Abort + AllocGlobal)) -> Group
     ensures { length result.members.names ≡ 3 }
 {
     let mut g = three_members(rt);
-    assert_eq!(rt; add(rt, &mut g, "/carl", b"k4", true), Ok(0));
+    same(rt, add(rt, &mut g, "/carl", b"k4", true), Ok(0), "add");
     assert_eq!(rt; g.roster().len(), 3);
     g
 }
@@ -62,6 +63,6 @@ fn answers(
 ) {
     ready(rt, g, alice);
     let answered = alice.command(g, octets).expect(rt, "memory");
-    assert_eq!(rt; answered.answer, *answer);
-    assert!(rt; answered.reply.as_deref() == reply);
+    same(rt, answered.answer, *answer, "answer");
+    same(rt, answered.reply.as_deref(), reply, "reply");
 }

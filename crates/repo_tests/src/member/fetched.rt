@@ -1,6 +1,7 @@
 // What a member learns of a sync Interest, and takes for its claims.
 use super::worked::FROM_ALICE;
 use super::{ALICE, BOB, CAROL, member, ready, three_members};
+use crate::expect::{same, same_octets};
 use crate::worked::{RECORD, SEGMENT};
 use repo_member::*;
 use repo_object::PartRefusal;
@@ -29,20 +30,27 @@ fn octets_are_accepted_for_claims(rt: HostRuntime) {
 // The first time it learns of a publication, and then of nothing more.
 fn joins_what_alice_tells(rt: &impl Abort, g: &Group, bob: &mut Member) {
     ready(rt, g, bob);
-    assert_eq!(rt; bob.join_from(g, &FROM_ALICE), Ok(true));
+    same(rt, bob.join_from(g, &FROM_ALICE), Ok(true), "join from");
     ready(rt, g, bob);
-    assert_eq!(rt; bob.join_from(g, &FROM_ALICE), Ok(false));
+    same(rt, bob.join_from(g, &FROM_ALICE), Ok(false), "join from");
 }
 
 // The machine wasn't told: it is steady, and has used its first draw alone.
 fn knows_of_one_publication(rt: &impl Abort, bob: &Member) {
     let vector = bob.vector();
     assert_eq!(rt; vector.members(), 3);
-    assert_eq!(rt;
+    same(
+        rt,
         (vector.get(ALICE), vector.get(BOB), vector.get(CAROL)),
-        (1, 0, 0)
+        (1, 0, 0),
+        "get",
     );
-    assert_eq!(rt; (bob.mode(), bob.next_draw()), (Mode::Steady, 1));
+    same(
+        rt,
+        (bob.mode(), bob.next_draw()),
+        (Mode::Steady, 1),
+        "next draw",
+    );
 }
 
 // A part of alice's first publication.
@@ -56,28 +64,33 @@ fn part(part: u16) -> Part {
 
 fn accepts_the_record(rt: &impl Abort, g: &Group, bob: &mut Member) {
     ready(rt, g, bob);
-    assert_eq!(rt; bob.accept(g, 1, &RECORD), Err(AcceptRefusal::FetcherIdle));
-    assert_eq!(rt; bob.claim(1), Ok(Some(part(0))));
+    same(
+        rt,
+        bob.accept(g, 1, &RECORD),
+        Err(AcceptRefusal::FetcherIdle),
+        "accept",
+    );
+    same(rt, bob.claim(1), Ok(Some(part(0))), "claim");
     ready(rt, g, bob);
     let other = AcceptRefusal::Refused(PartRefusal::OtherName);
-    assert_eq!(rt; bob.accept(g, 1, &SEGMENT), Err(other));
+    same(rt, bob.accept(g, 1, &SEGMENT), Err(other), "accept");
     ready(rt, g, bob);
-    assert_eq!(rt; bob.accept(g, 1, &RECORD), Ok(part(0)));
+    same(rt, bob.accept(g, 1, &RECORD), Ok(part(0)), "accept");
 }
 
 fn accepts_the_segment(rt: &impl Abort, g: &Group, bob: &mut Member) {
-    assert_eq!(rt; bob.claim(1), Ok(Some(part(1))));
+    same(rt, bob.claim(1), Ok(Some(part(1))), "claim");
     ready(rt, g, bob);
-    assert_eq!(rt; bob.accept(g, 1, &SEGMENT), Ok(part(1)));
-    assert_eq!(rt; bob.claim(1), Ok(None));
+    same(rt, bob.accept(g, 1, &SEGMENT), Ok(part(1)), "accept");
+    same(rt, bob.claim(1), Ok(None), "claim");
 }
 
 fn lists_the_object(rt: &impl Abort, bob: &Member) {
     let [entry] = bob.catalogue().entries() else {
         panic!(rt; "one entry");
     };
-    assert_eq!(rt; (entry.publisher, entry.seq), (ALICE, 1));
-    assert_eq!(rt; (entry.segments, entry.octets), (1, 3));
-    assert!(rt; entry.name.octets() == [8, 3, 0x64, 0x6f, 0x63].as_slice());
-    assert!(rt; entry.digest == ABC);
+    same(rt, (entry.publisher, entry.seq), (ALICE, 1), "seq");
+    same(rt, (entry.segments, entry.octets), (1, 3), "octets");
+    same_octets(rt, entry.name.octets(), &[8, 3, 0x64, 0x6f, 0x63], "octets");
+    same_octets(rt, &entry.digest, &ABC, "digest");
 }

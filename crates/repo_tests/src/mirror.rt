@@ -1,18 +1,19 @@
 // What mirrors fetch of alice's publications, and what they list then.
 ghost use Rattle.std.specs.Prelude.{◌≡◌, ◌<◌, ◌≤◌, ◌∷◌, [], length, slice_get, Some, IfSome, Option};
-ghost use Rattle.repo_member.specs.Groups.{IsPlainNodeName};
 ghost use Rattle.repo_holdings.specs.Wanting.{AreShortNames};
 ghost use Rattle.repo_mirror.specs.MirrorOutcomes.{IsMirrorOutcome};
 ghost use Rattle.repo_object.specs.Verdict.{CheckedPart};
 ghost use Rattle.repo_object.specs.declared.job.Job.{Job};
-ghost use Rattle.repo_watch.specs.Patterns.{accepts, is_publisher, begins_with};
 
-use crate::packets::{RECORD, SEGMENT, WITHDRAWAL};
+use crate::expect::{is, same};
+use crate::member::node_name;
+use crate::watch::is_for;
+use crate::worked::{RECORD, SEGMENT, WITHDRAWAL};
 use ndn_name::Name;
 use ndn_sign::KeyRing;
 use repo_member::Group;
 use repo_mirror::Mirror;
-use repo_object::{Checked, Job, NODE_NAME_LIMIT, check_part, is_object_name};
+use repo_object::{Checked, Job, check_part};
 use repo_plan::Part;
 use repo_watch::{Filter, Pattern};
 use std::process::Abort;
@@ -23,45 +24,22 @@ const ALICE: u32 = 0;
 
 const BOB: u32 = 1;
 
-// The name of a group or a node.
-#[tactic(auto, using(crate::proofs::NodeNames::plain_name))]
-fn node_name(rt: &(impl Abort + AllocGlobal), text: &str) -> Name
-    ensures { IsPlainNodeName result }
-{
-    let name = Name::from_uri(rt.alloc(), text).expect(rt, "a name");
-    assert!(rt; is_object_name(&name.view()));
-    assert!(rt; name.octets().len() <= NODE_NAME_LIMIT);
-    name
-}
-
 // The group "/g" of alice and bob.
 fn two_members(rt: &(impl Abort + AllocGlobal)) -> Group {
     let mut g = Group::new(rt.alloc(), &node_name(rt, "/g")).expect(rt, "memory");
-    assert_eq!(rt; g.add_member(&node_name(rt, "/alice"), b"k1"), Ok(ALICE));
-    assert_eq!(rt; g.add_member(&node_name(rt, "/bob"), b"k2"), Ok(BOB));
+    same(
+        rt,
+        g.add_member(&node_name(rt, "/alice"), b"k1"),
+        Ok(ALICE),
+        "alice",
+    );
+    same(
+        rt,
+        g.add_member(&node_name(rt, "/bob"), b"k2"),
+        Ok(BOB),
+        "bob",
+    );
     g
-}
-
-// Whether the pattern is for the publisher's object of this name.
-fn is_for(pattern: &Pattern, publisher: u32, name: &Name) -> bool
-    ensures { result ≡ accepts pattern.now publisher name.now }
-{
-    is_publisher(pattern.publisher, publisher) && begins_with(&pattern.prefix, name)
-}
-
-fn is_publisher(asked: Option<u32>, publisher: u32) -> bool
-    ensures { result ≡ is_publisher asked publisher }
-{
-    match asked {
-        None => true,
-        Some(asked) => asked == publisher,
-    }
-}
-
-fn begins_with(prefix: &Name, name: &Name) -> bool
-    ensures { result ≡ begins_with prefix.now name.now }
-{
-    prefix.view().is_prefix_of(&name.view())
 }
 
 // A part of alice's publication `seq`.
@@ -93,10 +71,8 @@ fn told_mirror(rt: &(impl Abort + AllocGlobal), publisher: Option<u32>, prefix: 
     assert!(rt; told.members() == mirror.vector().members());
     mirror.learn(&told);
     assert!(rt; mirror.vector().members() == 2);
-    assert_eq!(rt;
-        (mirror.vector().get(ALICE), mirror.vector().get(BOB)),
-        (2, 0)
-    );
+    let numbers = (mirror.vector().get(ALICE), mirror.vector().get(BOB));
+    same(rt, numbers, (2, 0), "numbers");
     mirror
 }
 
@@ -137,12 +113,11 @@ fn take_first<'p>(
 ) -> Option<u32>
     requires outcome { (job : Job) (part : Option CheckedPart) → slice_get jobs.now 0 ≡ Some job
         → IfSome part (λ c. c.want ≡ job.want) → IsMirrorOutcome mirror.old jobs.now (part ∷ []) (3 ∷ []) }
-    requires few { length jobs.now ≤ 1 }
 {
     let job = jobs.first()?;
     assert!(rt; (job.want.part().publisher as usize) < ring.len());
     let part = checked(job, octets, ring, is_lost);
-    let came = mirror.take_outcome(rt.alloc(), filter, jobs, &[part], &[3]);
+    let came = mirror.take_outcome(filter, jobs, &[part], &[3]);
     Some(came.expect(rt, "memory"))
 }
 
@@ -188,12 +163,16 @@ fn compare_parts(rt: &(impl Abort + AllocGlobal), mirror: &mut Mirror, parts: &[
     });
     for (part, entries) in parts {
         let lost = fetch_next(rt, &g, &filter, mirror, true);
-        assert_eq!(rt; lost, Some((*part, 0, 0)));
+        is(rt, lost == Some((*part, 0, 0)), "lost");
         let came = fetch_next(rt, &g, &filter, mirror, false);
-        assert_eq!(rt; came, Some((*part, 3, 1)));
-        assert_eq!(rt; mirror.catalogue().entries().len(), *entries);
+        is(rt, came == Some((*part, 3, 1)), "came");
+        same(rt, mirror.catalogue().entries().len(), *entries, "entries");
     }
-    assert_eq!(rt; fetch_next(rt, &g, &filter, mirror, false), None);
+    is(
+        rt,
+        fetch_next(rt, &g, &filter, mirror, false).is_none(),
+        "no more",
+    );
 }
 
 #[test]

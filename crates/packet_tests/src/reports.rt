@@ -1,9 +1,11 @@
-ghost use Rattle.std.specs.Prelude.{◌≡◌, length};
+ghost use Rattle.std.specs.Prelude.{◌≡◌, length, IfOk};
 
+use crate::expect::same;
 use ndn_name::Name;
 use repo_catalog::Entry;
 use script_report::*;
 use std::alloc::{AllocError, Global};
+use std::str;
 use std::test::*;
 
 // A line of each form, and of those with a repeating piece one without a piece and one with two.
@@ -85,15 +87,20 @@ foreign 5
 #[test]
 fn each_form_is_written(rt: HostRuntime) -> Result<(), Fail> {
     let mut out = Vec::new(rt.alloc());
-    put_events(&mut out)?;
-    put_parts(&mut out)?;
-    put_octets(&mut out)?;
-    put_commands(&mut out)?;
-    put_journals(&mut out)?;
-    put_readings(rt.alloc(), &mut out)?;
-    put_refused(&mut out, 1_004, 10, "TooLarge")?;
-    put_foreign(&mut out, 5)?;
-    assert_eq!(rt; out.as_slice(), REPORT.as_bytes());
+    put_all(rt.alloc(), &mut out)?;
+    same(&rt, str::from_utf8(&out), Ok(REPORT), "a report");
+    Ok(())
+}
+
+fn put_all(alloc: Global, out: &mut Vec<u8>) -> Result<(), Fail> {
+    put_events(out)?;
+    put_parts(out)?;
+    put_octets(out)?;
+    put_commands(out)?;
+    put_journals(out)?;
+    put_readings(alloc, out)?;
+    put_refused(out, 1_004, 10, "TooLarge")?;
+    put_foreign(out, 5)?;
     Ok(())
 }
 
@@ -163,37 +170,43 @@ fn put_journals(out: &mut Vec<u8>) -> Result<(), AllocError> {
 }
 
 fn put_readings(alloc: Global, out: &mut Vec<u8>) -> Result<(), Fail> {
-    let labels = [
-        String::from_str(alloc, "alice")?,
-        String::from_str(alloc, "bob")?,
-    ];
-    let entries = [
-        entry(
-            alloc,
-            1,
-            b"doc",
-            1,
-            3,
-            "ba7816bf8f01cfea414140de5dae2223b00361a396177a9cb410ff61f20015ad",
-        )?,
-        entry(
-            alloc,
-            65_535,
-            b"",
-            0,
-            0,
-            "e3b0c44298fc1c149afbf4c8996fb92427ae41e4649b934ca495991b7852b855",
-        )?,
-    ];
-    put_followers(out, &labels, &entries)?;
-    put_vector(out, "bob", &[], &[])?;
-    put_vector(out, "bob", &labels, &[2, 0])?;
-    put_catalogue(out, "bob", 0, &[], &[])?;
-    put_catalogue(out, "bob", 7, &labels, &entries)?;
-    put_summary(out, &[], &[], &[], &[])?;
-    put_summary(out, &labels, &[1, 0], &[2, 0], &[3, 0])?;
-    put_traffic(out, 3, 2, 0, 2, 197)?;
+    let labels = labels(alloc)?;
+    let entries = entries(alloc)?;
+    put_lists(out, &labels, &entries)?;
     Ok(())
+}
+
+fn labels(alloc: Global) -> Result<Vec<String>, AllocError>
+    ensures { IfOk result (λ labels. length labels.items ≡ 2) }
+{
+    let alice = String::from_str(alloc, "alice")?;
+    let bob = String::from_str(alloc, "bob")?;
+    Ok(vec![in alloc; alice, bob]?)
+}
+
+fn entries(alloc: Global) -> Result<Vec<Entry>, Fail>
+    ensures { IfOk result (λ entries. length entries.items ≡ 2) }
+{
+    let abc = "ba7816bf8f01cfea414140de5dae2223b00361a396177a9cb410ff61f20015ad";
+    let first = entry(alloc, 1, b"doc", 1, 3, abc)?;
+    let nothing = "e3b0c44298fc1c149afbf4c8996fb92427ae41e4649b934ca495991b7852b855";
+    let second = entry(alloc, 65_535, b"", 0, 0, nothing)?;
+    Ok(vec![in alloc; first, second]?)
+}
+
+// What is printed with lists of labels or entries.
+fn put_lists(out: &mut Vec<u8>, labels: &[String], entries: &[Entry]) -> Result<(), AllocError>
+    requires two { length labels.now ≡ 2 }
+    requires each { length entries.now ≡ 2 }
+{
+    put_followers(out, labels, entries)?;
+    put_vector(out, "bob", &[], &[])?;
+    put_vector(out, "bob", labels, &[2, 0])?;
+    put_catalogue(out, "bob", 0, &[], &[])?;
+    put_catalogue(out, "bob", 7, labels, entries)?;
+    put_summary(out, &[], &[], &[], &[])?;
+    put_summary(out, labels, &[1, 0], &[2, 0], &[3, 0])?;
+    put_traffic(out, 3, 2, 0, 2, 197)
 }
 
 // What watchers and mirrors are told.

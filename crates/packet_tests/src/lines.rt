@@ -1,10 +1,11 @@
+mod printed;
 mod rows;
 
-use ndn_name::Name;
+use crate::expect::{is, same, same_text};
+use printed::put_told;
 use rows::ROWS;
 use script_lang::*;
 use std::alloc::{AllocError, Global};
-use std::fmt::Write;
 use std::process::Abort;
 use std::test::*;
 
@@ -18,192 +19,9 @@ fn lines_are_read(rt: HostRuntime) {
 
 // A line is read as what is told of it.
 fn tells(rt: &(impl Abort + AllocGlobal), line: &[u8], answer: &str) {
-    let told = told(rt.alloc(), line).expect(rt, "memory");
-    assert!(rt; told.as_str() == answer, "{told}, and not {answer}");
-}
-
-fn told(alloc: Global, line: &[u8]) -> Result<String, AllocError> {
-    match read_line(alloc, line) {
-        Ok(None) => String::from_str(alloc, "-"),
-        Ok(Some(line)) => spelled(alloc, &line),
-        Err(LineFault::Syntax) => String::from_str(alloc, "!Syntax"),
-        Err(LineFault::Limit) => String::from_str(alloc, "!Limit"),
-        Err(LineFault::NoMemory) => Err(AllocError),
-    }
-}
-
-// A line as it is printed from its values: those with a name or octets, and the others.
-fn spelled(alloc: Global, line: &Line) -> Result<String, AllocError> {
-    match line {
-        Line::Group { name } => named(alloc, "group", name),
-        Line::Member { label, name, key } => party(alloc, "member", label, name, key),
-        Line::Client { label, name, key } => party(alloc, "client", label, name, key),
-        Line::Publish {
-            m,
-            name,
-            size,
-            content,
-        } => publication(alloc, m, name, *size, content),
-        Line::Mirror { label, p, name } => pattern(alloc, "mirror", label, p, name),
-        Line::Watch { m, p, name } => pattern(alloc, "watch", m, p, name),
-        Line::Hear { m, octets } => given(alloc, "hear", m, octets),
-        Line::Order { m, octets } => given(alloc, "order", m, octets),
-        Line::Ask { m, octets } => given(alloc, "ask", m, octets),
-        Line::Feed { m, f, octets } => fed(alloc, m, *f, octets),
-        Line::Insert {
-            m,
-            client,
-            name,
-            first,
-            last,
-        } => insertion(alloc, m, client, name, *first, *last),
-        Line::Block {
-            m,
-            process,
-            index,
-            content,
-        } => block(alloc, m, *process, *index, content),
-        Line::Delete { m, client, name } => deletion(alloc, m, client, name),
-        _ => plain(alloc, line),
-    }
-}
-
-fn plain(alloc: Global, line: &Line) -> Result<String, AllocError> {
-    match line {
-        Line::Deliver { k, m } => format!(in alloc; "deliver {k} {m}"),
-        Line::Sync { k } => format!(in alloc; "sync {k}"),
-        Line::Advance { ms } => format!(in alloc; "advance {ms}"),
-        Line::Withdraw { m, s } => labelled(alloc, "withdraw", m, &[*s]),
-        Line::Fire { m } => labelled(alloc, "fire", m, &[]),
-        Line::Restart { m } => labelled(alloc, "restart", m, &[]),
-        Line::Vector { m } => labelled(alloc, "vector", m, &[]),
-        Line::Catalogue { m } => labelled(alloc, "catalogue", m, &[]),
-        Line::Claim { m, f } => labelled(alloc, "claim", m, &[*f]),
-        Line::Lose { m, f } => labelled(alloc, "lose", m, &[*f]),
-        Line::Answer { m, f, q } => format!(in alloc; "answer {m} {f} {q}"),
-        Line::Fetch {
-            m,
-            workers,
-            tries,
-            loss,
-        } => labelled(alloc, "fetch", m, &[*workers, *tries, *loss]),
-        Line::Settle { workers } => format!(in alloc; "settle {workers}"),
-        Line::Dump { m, p, s, x } => format!(in alloc; "dump {m} {p} {s} {x}"),
-        Line::Status { m, client, process } => format!(in alloc; "status {m} {client} {process}"),
-        Line::Told { m, w } => labelled(alloc, "told", m, &[*w]),
-        Line::Mdeliver { k, l } => format!(in alloc; "mdeliver {k} {l}"),
-        Line::Mfetch {
-            l,
-            workers,
-            tries,
-            loss,
-        } => labelled(alloc, "mfetch", l, &[*workers, *tries, *loss]),
-        Line::Mcatalogue { l } => labelled(alloc, "mcatalogue", l, &[]),
-        Line::Summary => String::from_str(alloc, "summary"),
-        Line::Traffic => String::from_str(alloc, "traffic"),
-        _ => String::from_str(alloc, "no plain line"),
-    }
-}
-
-fn labelled(alloc: Global, verb: &str, label: &str, numbers: &[u32]) -> Result<String, AllocError> {
-    let mut text = format!(in alloc; "{verb} {label}")?;
-    for number in numbers {
-        write!(text, " {number}")?;
-    }
-    Ok(text)
-}
-
-fn named(alloc: Global, front: &str, name: &Name) -> Result<String, AllocError> {
-    format!(in alloc; "{front} {}", name.to_uri(alloc)?)
-}
-
-fn given(alloc: Global, verb: &str, m: &str, octets: &[u8]) -> Result<String, AllocError> {
-    format!(in alloc; "{verb} {m} {}", hex::encode(alloc, octets)?)
-}
-
-fn fed(alloc: Global, m: &str, f: u32, octets: &[u8]) -> Result<String, AllocError> {
-    format!(in alloc; "feed {m} {f} {}", hex::encode(alloc, octets)?)
-}
-
-fn publication(
-    alloc: Global,
-    m: &str,
-    name: &Name,
-    size: u32,
-    content: &[u8],
-) -> Result<String, AllocError> {
-    format!(in alloc;
-        "publish {m} {} {size} {}",
-        name.to_uri(alloc)?,
-        content_text(alloc, content)?
-    )
-}
-
-fn insertion(
-    alloc: Global,
-    m: &str,
-    client: &str,
-    name: &Name,
-    first: u64,
-    last: u64,
-) -> Result<String, AllocError> {
-    format!(in alloc;
-        "insert {m} {client} {} {first} {last}",
-        name.to_uri(alloc)?
-    )
-}
-
-fn block(
-    alloc: Global,
-    m: &str,
-    process: u32,
-    index: u64,
-    content: &[u8],
-) -> Result<String, AllocError> {
-    format!(in alloc;
-        "block {m} {process} {index} {}",
-        content_text(alloc, content)?
-    )
-}
-
-fn deletion(alloc: Global, m: &str, client: &str, name: &Name) -> Result<String, AllocError> {
-    format!(in alloc; "delete {m} {client} {}", name.to_uri(alloc)?)
-}
-
-fn party(
-    alloc: Global,
-    verb: &str,
-    label: &str,
-    name: &Name,
-    key: &[u8],
-) -> Result<String, AllocError> {
-    format!(in alloc;
-        "{verb} {label} {} {}",
-        name.to_uri(alloc)?,
-        hex::encode(alloc, key)?
-    )
-}
-
-fn pattern(
-    alloc: Global,
-    verb: &str,
-    label: &str,
-    publisher: &Option<String>,
-    name: &Name,
-) -> Result<String, AllocError> {
-    let publisher = match publisher {
-        Some(publisher) => publisher.as_str(),
-        None => "*",
-    };
-    format!(in alloc; "{verb} {label} {publisher} {}", name.to_uri(alloc)?)
-}
-
-fn content_text(alloc: Global, content: &[u8]) -> Result<String, AllocError> {
-    if content.len() <= 16 {
-        return format!(in alloc; "hex:{}", hex::encode(alloc, content)?);
-    }
-    let last = content.last().copied().unwrap_or(0);
-    format!(in alloc; "{}*{last:02x}", content.len())
+    let mut told = String::new(rt.alloc());
+    put_told(rt.alloc(), &mut told, &read_line(rt.alloc(), line)).expect(rt, "memory");
+    same_text(rt, &told, answer);
 }
 
 // Lines of so many octets of one kind and an end: a line's length counts its carriage return and not its line feed.
@@ -263,14 +81,16 @@ const LENGTHS_OF_WORDS: [(&str, usize, usize, u8, &str); 17] = [
 fn long_words_are_read_within_their_ranges(rt: HostRuntime) {
     for (front, last, next, octet, end) in &LENGTHS_OF_WORDS {
         let line = padded(rt.alloc(), front, *last, *octet, end).expect(&rt, "memory");
-        assert!(rt; is_line(&rt, &line), "{front}");
+        is_line(&rt, &line);
         let line = padded(rt.alloc(), front, *next, *octet, end).expect(&rt, "memory");
         tells(&rt, &line, "!Limit");
     }
 }
 
-fn is_line(rt: &impl AllocGlobal, line: &[u8]) -> bool {
-    matches!(read_line(rt.alloc(), line), Ok(Some(_)))
+fn is_line(rt: &(impl Abort + AllocGlobal), line: &[u8]) {
+    let mut told = String::new(rt.alloc());
+    put_told(rt.alloc(), &mut told, &read_line(rt.alloc(), line)).expect(rt, "memory");
+    is(rt, told.as_str() != "-" && !told.starts_with('!'), &told);
 }
 
 #[test]
@@ -361,19 +181,22 @@ fn lines_are_taken_or_refused(rt: HostRuntime) {
 fn comes_to(rt: &(impl Abort + AllocGlobal), words: &mut Words, script: &str, answer: &str) {
     let (before, last) = script.rsplit_once(';').unwrap_or(("", script));
     for line in before.split(';') {
-        assert!(rt;
-            line.is_empty() || taken(rt.alloc(), words, line) == "taken",
-            "{line}"
-        );
+        if !line.is_empty() {
+            same(rt, taken(rt.alloc(), words, line), "taken", line);
+        }
     }
     let came = taken(rt.alloc(), words, last);
-    assert!(rt; came == answer, "{script}: {came}");
+    same(rt, came, answer, script);
 }
 
 // What comes of a line.
 fn taken(alloc: Global, words: &mut Words, line: &str) -> &'static str {
-    match read_line(alloc, line.as_bytes()) {
-        Ok(Some(line)) => checked(words.check(&line)),
+    taken_of(words, &read_line(alloc, line.as_bytes()))
+}
+
+fn taken_of(words: &mut Words, read: &Result<Option<Line>, LineFault>) -> &'static str {
+    match read {
+        Ok(Some(line)) => checked(words.check(line)),
         _ => "no line",
     }
 }
@@ -467,13 +290,13 @@ fn declares_all(rt: &(impl Abort + AllocGlobal), words: &mut Words) {
 }
 
 fn are_numbered(rt: &impl Abort, words: &Words) {
-    assert!(rt; words.member("m15") == Some(15));
-    assert!(rt; words.member("c0").is_none());
-    assert!(rt; words.client("c7") == Some(7));
-    assert!(rt; words.client("m7").is_none());
-    assert!(rt; words.mirror("l2") == Some(2));
-    assert!(rt; words.mirror("m2").is_none());
-    assert!(rt; words.member("l2").is_none());
+    same(rt, words.member("m15"), Some(15), "member m15");
+    same(rt, words.member("c0"), None, "member c0");
+    same(rt, words.client("c7"), Some(7), "client c7");
+    same(rt, words.client("m7"), None, "client m7");
+    same(rt, words.mirror("l2"), Some(2), "mirror l2");
+    same(rt, words.mirror("m2"), None, "mirror m2");
+    same(rt, words.member("l2"), None, "member l2");
     let member = words.member("m9").expect(rt, "m9");
-    assert!(rt; words.label(member) == "m9");
+    same_text(rt, words.label(member), "m9");
 }

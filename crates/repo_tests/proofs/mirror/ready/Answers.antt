@@ -3,7 +3,7 @@ use Rattle.std.proofs.lemmas.List.Elements.{All-weaker}
 use Rattle.ndn_name.specs.Names.{encoding}
 use Rattle.repo_object.specs.Limits.{node_name_limit}
 use Rattle.repo_member.specs.Groups.{IsPlainNodeName}
-use Rattle.mirror_tests.proofs.mirror.ready.Goals as goal
+use Rattle.repo_tests.proofs.mirror.ready.Goals as goal
 
 pub returns-clause-names : goal.returns-clause-names
 returns-clause-names g c = record {

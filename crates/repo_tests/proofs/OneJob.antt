@@ -1,6 +1,5 @@
 -- A plan of at most one job.
-use Rattle.std.proofs.Common.{◌≡◌, ◌≤◌, List, [], ◌∷◌, map, take, length, ap, sym, ◌∙◌, Option, Some, None, slice_get}
-use Rattle.std.proofs.Common.{arith}
+use Rattle.std.proofs.Common.{◌≡◌, List, [], ◌∷◌, map, take, ap, sym, ◌∙◌, Option, Some, None, slice_get}
 
 pub first_same : {B : Type 0} (x y : B) → (let o : Option B = Some x in o) ≡ Some y → x ≡ y
 first_same x y h = cc
@@ -13,8 +12,3 @@ one_job f [] jobs job planned first = absurd (none job (sym (ap (λ js. slice_ge
 one_job {A} {B} f (t ∷ ts) jobs job planned first =
     planned
     ∙ ap (λ (j : B). j ∷ []) (first_same (f t) job (sym (ap (λ (js : List B). slice_get js 0) planned) ∙ first))
-
-pub at_most_one : {A B : Type 0} (f : A → B) (ts : List A) (jobs : List B) → jobs ≡ map f (take 1 ts)
-    → length jobs ≤ 1
-at_most_one f [] jobs planned = omega (arith, ap length planned)
-at_most_one f (t ∷ ts) jobs planned = omega (arith, ap length planned)

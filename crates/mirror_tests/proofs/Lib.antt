@@ -1,2 +1,0 @@
-mod NodeNames
-mod OneJob

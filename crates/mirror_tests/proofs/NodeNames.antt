@@ -1,2 +1,0 @@
--- Names of nodes, for the tests.
-pub use Rattle.repo_member.proofs.PublicLaws.{plain_name}
