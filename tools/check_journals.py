@@ -5,8 +5,10 @@
 
 It takes each journal from the member's beginning, entry by entry, and works out what each is to reply: the next object
 of the member's list is published; a sync Interest is heard; a fetcher claims the least wanted part that nobody claims;
-the packet of a part comes for its claim; a claim ends. It names the first entry that isn't so. Then it compares each
-catalogue with what the member holds after its journal, and with the join of all lists. It knows nothing of the program.
+the packet of a part comes for its claim; a claim ends. It names the first entry that isn't so. It sees that the threads did
+their work: the publications, the turns of both fetchers, at most so many hears after each publication, and then the
+settle, entry by entry. Then it compares each catalogue with what the member holds after its journal, and with the join
+of all lists. Both files are read as octets. It knows nothing of the program.
 """
 import bisect
 import hashlib
@@ -19,8 +21,10 @@ VECTOR, ENTRY, NUMBER = 201, 202, 204
 HINTS = {50: "seg", 54: "v", 58: "seq"}
 PLAIN = set(b"ABCDEFGHIJKLMNOPQRSTUVWXYZabcdefghijklmnopqrstuvwxyz0123456789-._~")
 
+# The greatest number of sync Interests that a member hears after a publication.
+HEARD = 64
 
-# What stands behind the last line.
+# What stands after the last line.
 END = "the end"
 
 
@@ -54,15 +58,22 @@ def content_of(word):
     return bytes([int(octet)]) * int(count)
 
 
+def lines_of(octets):
+    """The words of each line that says something. A line ends with a line feed, before which one carriage return is
+    dropped; spaces alone part words, and a comment may have any octets."""
+    for line in octets.split(b"\n"):
+        words = line.removesuffix(b"\r").split(b" ")
+        words = [word for word in words if word]
+        if words and not words[0].startswith(b"#"):
+            yield [word.decode("ascii") for word in words]
+
+
 class Input:
     """The group, its members in order, and the list of each."""
 
-    def __init__(self, text):
+    def __init__(self, octets):
         self.labels, self.nodes, self.keys, self.lists = [], [], [], []
-        for line in text.splitlines():
-            words = line.split()
-            if not words or words[0].startswith("#"):
-                continue
+        for words in lines_of(octets):
             if words[0] == "group":
                 self.group = text_name(words[1].removeprefix("ndn:"))
             elif words[0] == "member":
@@ -76,19 +87,23 @@ class Input:
             else:
                 raise Wrong(f"the input has a line {words[0]}")
 
+    def turns(self):
+        """How many turns a fetcher makes in its thread: twice as many as all lists have parts."""
+        return 2 * sum(1 + offered.last for offers in self.lists for offered in offers)
+
     def object(self, publisher, seq):
         """What the member publishes under a number, if it does."""
         return self.lists[publisher][seq - 1] if 1 <= seq <= len(self.lists[publisher]) else None
 
     def sync_of(self, sender, vector):
         """The sync Interest of a member that knows these numbers."""
-        told = sorted((name_order(text_name(node)), node, n) for node, n in zip(self.nodes, vector) if n)
-        entries = [element(ENTRY, name_element(text_name(node)) + element(NUMBER, natural(n))) for _, node, n in told]
+        known = sorted((name_order(text_name(node)), node, n) for node, n in zip(self.nodes, vector) if n)
+        entries = [element(ENTRY, name_element(text_name(node)) + element(NUMBER, natural(n))) for _, node, n in known]
         parameters = element(VECTOR, b"".join(entries))
         return signed_interest(self.group + [SYNC_VERSION], parameters, self.nodes[sender], self.keys[sender])
 
-    def told(self, octets):
-        """The vector of a member's sync Interest, or None where it is no member's."""
+    def read(self, octets):
+        """The sender and the vector of a member's sync Interest, or None where it is no member's."""
         try:
             fields = dict(elements(elements(octets)[0][1]))
             locator = dict(elements(fields[44]))[28]
@@ -96,7 +111,8 @@ class Input:
             numbers = [dict(elements(entry)) for _, entry in elements(elements(fields[36])[0][1])]
             known = {entry[7]: int.from_bytes(entry[NUMBER], "big") for entry in numbers}
             vector = [known.get(name_element(text_name(node))[2:], 0) for node in self.nodes]
-            return vector if self.sync_of(keys.index(locator), vector) == octets else None
+            sender = keys.index(locator)
+            return (sender, vector) if self.sync_of(sender, vector) == octets else None
         except (TypeError, KeyError, IndexError, ValueError):
             return None
 
@@ -164,9 +180,12 @@ class Member:
         return str(self.published)
 
     def hear(self, digits):
-        vector = self.given.told(bytes.fromhex(digits))
-        if vector is None or vector[self.number] > self.published:
+        octets = bytes.fromhex(digits)
+        digits = octets.hex()
+        heard = self.given.read(octets)
+        if heard is None or heard[1][self.number] > self.published:
             return f"{digits} refused"
+        vector = heard[1]
         self.steady = self.steady and all(heard >= known for heard, known in zip(vector, self.known))
         self.learn(vector)
         return f"{digits} {'steady' if self.steady else 'suppressed'}"
@@ -184,10 +203,10 @@ class Member:
         part = (self.given.labels.index(label), int(seq), int(x))
         offered = self.given.object(part[0], part[1])
         if self.claims.get(f) != part or offered is None or part[2] > offered.last:
-            return f"{f} {label} {seq} {x} refused"
+            return f"{f} {self.words(part)} refused"
         del self.claims[f]
         self.hold(part)
-        return f"{f} {label} {seq} {x} kept"
+        return f"{f} {self.words(part)} kept"
 
     def lose(self, f):
         part = self.claims.pop(f, None)
@@ -198,7 +217,7 @@ class Member:
 
     def follow(self, line):
         """What the entry is to be, by what it says was done."""
-        verb, *words = line.split()
+        verb, *words = line.split(" ")
         if verb == "publish":
             return f"publish {self.publish()}"
         if verb == "hear":
@@ -238,20 +257,80 @@ def short(line):
 
 def replay(given, number, lines):
     """The member at the end of its journal, the next of the lines."""
-    label, member = given.labels[number], Member(given, number)
-    head = next(lines, END).split()
-    if head[:2] != ["journal", label] or not head[2:3] or not head[2].isdigit():
+    label, member, journal = given.labels[number], Member(given, number), []
+    head = next(lines, END)
+    count = head.removeprefix(f"journal {label} ")
+    if not count.isdecimal() or head != f"journal {label} {int(count)}":
         raise Wrong(f"the journal of {label} isn't there")
-    for at in range(1, int(head[2]) + 1):
+    for at in range(1, int(count) + 1):
         line = next(lines, END)
         try:
             wanted = member.follow(line)
         except (ValueError, IndexError, TypeError):
             wanted = "an entry of a journal"
         compare(line, wanted, f"journal {label}, entry {at}")
+        journal.append(line)
     if member.published != len(given.lists[number]):
         raise Wrong(f"journal {label}: {member.published} of {len(given.lists[number])} objects are published")
+    try:
+        by_threads(given, number, journal[:settle_of(given, number, journal)])
+    except Wrong as why:
+        raise Wrong(f"journal {label}: {why}") from None
     return member
+
+
+def settle_of(given, number, journal):
+    """The place in a journal at which the settle begins, which is looked for from the end: fetcher 1 claims and takes
+    until nothing is to be claimed, and before that the member hears each other in order."""
+    claims = sum(line.startswith("claim 1 ") for line in journal)
+    taken = claims - given.turns() - 1
+    if taken < 0:
+        raise Wrong(f"{claims} claims of fetcher 1 are too few for {given.turns()} turns and the settle")
+    others = [m for m in range(len(given.labels)) if m != number]
+    at = len(journal) - 1 - 2 * taken
+    begins = at - len(others)
+    if begins < 0 or journal[-1] != "claim 1 none":
+        raise Wrong("the settle isn't there")
+    for place in range(at, len(journal) - 1, 2):
+        claim, feed = journal[place], journal[place + 1]
+        if not claim.startswith("claim 1 part ") or feed != f"feed 1 {claim.removeprefix('claim 1 part ')} kept":
+            raise Wrong(f"entries {place + 1} and {place + 2} are no claim and what came for it in the settle")
+    for place, other in enumerate(others, begins):
+        verb, *words = journal[place].split(" ")
+        heard = given.read(bytes.fromhex(words[0])) if verb == "hear" else None
+        if heard is None or heard[0] != other or heard[1][other] != len(given.lists[other]):
+            raise Wrong(f"entry {place + 1} isn't what the settle lets it hear of {given.labels[other]}")
+    return begins
+
+
+def by_threads(given, number, entries):
+    """Before the settle the member's three threads did all that they are for."""
+    heard, published, open_turn, turns = 0, 0, {}, {"1": 0, "2": 0}
+    for at, line in enumerate(entries, 1):
+        verb, *words = line.split(" ")
+        if verb == "publish":
+            heard, published = 0, published + 1
+        elif verb == "hear":
+            heard += 1
+            if heard > (HEARD if published else 0):
+                raise Wrong(f"entry {at} is heard, where {heard - 1} were heard since the last publication")
+        elif words[0] not in turns:
+            raise Wrong(f"entry {at} is of fetcher {words[0]}")
+        elif verb == "claim":
+            turns[words[0]] += 1
+            if words[0] in open_turn:
+                raise Wrong(f"entry {at} claims before the last turn of fetcher {words[0]} ended")
+            if words[1] == "part":
+                open_turn[words[0]] = words[2:]
+        elif open_turn.pop(words[0], None) != [word for word in words[1:] if word not in ("part", "kept")]:
+            raise Wrong(f"entry {at} ends no turn of fetcher {words[0]}")
+    if published != len(given.lists[number]):
+        raise Wrong(f"{published} of {len(given.lists[number])} objects were published by its thread")
+    for f, made in turns.items():
+        if made != given.turns():
+            raise Wrong(f"fetcher {f} made {made} of {given.turns()} turns")
+    if open_turn:
+        raise Wrong(f"the last turn of fetcher {min(open_turn)} didn't end")
 
 
 def check(given, lines):
@@ -263,16 +342,23 @@ def check(given, lines):
             raise Wrong(f"journal {label} ends with {len(held)} of {len(whole)} objects held")
         for line in [f"catalogue {label} {len(whole)}"] + whole:
             compare(next(lines, END), line, f"catalogue {label}")
-    compare(next(lines, END), END, "behind the catalogues")
+    compare(next(lines, END), END, "after the catalogues")
     print(f"{len(members)} journals replay, and {len(members)} catalogues are the join of all lists")
+
+
+def printed_lines(octets):
+    """The lines of what was printed, each of which ends with a line feed."""
+    if octets and not octets.endswith(b"\n"):
+        raise Wrong("the last line has no line feed")
+    return iter(octets.decode("latin-1").split("\n")[:-1])
 
 
 def main():
     if len(sys.argv) != 3:
         sys.exit("usage: check_journals.py INPUT PRINTED")
-    with open(sys.argv[1], encoding="ascii") as given, open(sys.argv[2], encoding="ascii") as printed:
+    with open(sys.argv[1], "rb") as given, open(sys.argv[2], "rb") as printed:
         try:
-            check(Input(given.read()), iter(printed.read().splitlines()))
+            check(Input(given.read()), printed_lines(printed.read()))
         except Wrong as why:
             sys.exit(f"check_journals.py: {why}")
 

@@ -72,13 +72,12 @@ def run(given, number):
     seconds = time.monotonic() - begun
     if ended.returncode != 0:
         return None, kept(number, text, ended.stdout, f"status {ended.returncode}")
-    printed = ended.stdout.decode("ascii")
     try:
         with contextlib.redirect_stdout(io.StringIO()):
-            check_journals.check(check_journals.Input(text), iter(printed.splitlines()))
+            check_journals.check(check_journals.Input(text.encode()), check_journals.printed_lines(ended.stdout))
     except check_journals.Wrong as why:
         return None, kept(number, text, ended.stdout, str(why))
-    return Counts().of(printed, seconds, given.members, given.objects), None
+    return Counts().of(ended.stdout.decode("ascii"), seconds, given.members, given.objects), None
 
 
 def kept(number, text, printed, why):
