@@ -1,7 +1,11 @@
-ghost use Rattle.std.specs.Prelude.{◌≡◌, ◌-◌, ◌<◌, ◌≤◌, length, IfOk, All};
+ghost use Rattle.std.specs.Prelude.{◌≡◌, ℕ, ◌-◌, ◌<◌, ◌≤◌, length, IfOk, All, None, slice_index_or};
+ghost use Rattle.fetch_board.specs.Counts.{items};
 ghost use Rattle.fetch_board.specs.Seats.{IsSeatOf, fresh};
+ghost use Rattle.fetch_board.specs.Answers.{Rests, Settled};
 
+use crate::close::{discard, settle, vacant};
 use crate::hand::Hand;
+use crate::outcome::Outcome;
 use crate::plays::Shares;
 use crate::rule::{Fair, Terms};
 use crate::seat::Seat;
@@ -12,13 +16,14 @@ use std::marker::Model;
 /// A word and a place for each of a number of items, which the threads that have a seat share.
 ///
 /// The word says what its item stands at: wanted, held, done or spent, and how many attempts at it ended without a
-/// value. The place takes the value. Both change by single atomic steps: no call waits for another. A board keeps no
-/// allocator, so a call takes memory only where it is given one.
+/// value. The place takes the value. Both change by single atomic steps: no call waits for another.
 #[derive(Drop)]
 pub struct Board<T> {
     pub(crate) table: Table<Option<T>, Hand<T>, Terms, Fair, Global>,
     pub(crate) items: usize,
     pub(crate) tries: u32,
+    // For the outcome of `close`. No other file reaches it, so that the calls on a shared board can make nothing.
+    alloc: Global,
 }
 
 // What is fixed of it. The words and places are in many hands, and no contract can tell what they are at a moment.
@@ -84,6 +89,7 @@ impl<T: Drop> Board<T> {
             table,
             items,
             tries,
+            alloc,
         };
         Ok((board, Seat { inner }))
     }
@@ -125,5 +131,32 @@ impl<T: Drop> Board<T> {
         ensures within { (1 ≤ result) × (result ≤ 16) }
     {
         self.tries
+    }
+
+    /// Closes the board for the seat that all others were joined into, and gives what became of the items. The board is
+    /// gone, also where memory ran out.
+    pub fn close(self, seat: Seat<T>) -> Result<Outcome<T>, AllocError>
+        requires seat { IsSeatOf self seat }
+        requires shares { seat.shares ≡ self.seats }
+        requires rests { Rests seat }
+        requires passed { (i : ℕ) → i < self.items → 0 < items i seat.passed }
+        ensures count { IfOk result (λ o. length o.values.items ≡ self.items) }
+        ensures counts { IfOk result (λ o. length o.attempts.items ≡ self.items) }
+        ensures settled { IfOk result (λ o. (i : ℕ) → i < self.items
+            → Settled seat i (slice_index_or o.values.items i None) (slice_index_or o.attempts.items i 0)) }
+    {
+        let Board {
+            table,
+            items,
+            tries,
+            alloc,
+        } = self;
+        let Seat { inner } = seat;
+        let values = vacant(alloc, items)?;
+        let attempts = vec![in alloc; 0u32; items]?;
+        let mut closed = table.close_with(inner);
+        let outcome = settle(&mut closed, values, attempts, tries);
+        discard(closed, items);
+        Ok(outcome)
     }
 }

@@ -2,20 +2,15 @@ ghost use Rattle.std.specs.Prelude.{◌≡◌, ◌≢◌, ℕ, ◌+◌, ◌/◌,
 ghost use Rattle.core.specs.Mem.Slots.{slots_items, slots_len, IsFull};
 ghost use mathlib.Core.Option.{some};
 ghost use lib.ListN.{get_elem?};
-ghost use Rattle.fetch_board.specs.Counts.{items};
 ghost use Rattle.fetch_board.specs.Places.{TakenBelow};
-ghost use Rattle.fetch_board.specs.Answers.{Rests, Settled};
-ghost use Rattle.fetch_board.specs.Seats.{IsSeatOf};
 
-use crate::board::Board;
 use crate::outcome::Outcome;
-use crate::seat::Seat;
 use crate::word::SPENT;
 use atomic_table::Closed;
 use std::alloc::{AllocError, Global};
 
 // So many places without a value.
-fn vacant<T: Drop>(alloc: Global, items: usize) -> Result<Vec<Option<T>>, AllocError>
+pub(crate) fn vacant<T: Drop>(alloc: Global, items: usize) -> Result<Vec<Option<T>>, AllocError>
     ensures { IfOk result (λ v. length v.items ≡ items) }
 {
     let mut values = Vec::with_capacity(alloc, items)?;
@@ -38,7 +33,7 @@ fn attempts_of(word: u64, tries: u32) -> u32
 }
 
 // Takes each item's value out of its place, and the number of attempts that its word tells.
-fn settle<T: Drop>(
+pub(crate) fn settle<T: Drop>(
     closed: &mut Closed<Option<T>, Global>,
     mut values: Vec<Option<T>>,
     mut attempts: Vec<u32>,
@@ -69,39 +64,11 @@ fn settle<T: Drop>(
 }
 
 // Drops the values from the place `from` on, and the memory.
-fn discard<T: Drop>(mut closed: Closed<Option<T>, Global>, from: usize)
+pub(crate) fn discard<T: Drop>(mut closed: Closed<Option<T>, Global>, from: usize)
     requires { (from ≤ slots_len closed.slots) × TakenBelow closed.slots from }
 {
     for i in from..closed.slot_count() {
         drop(closed.take(i));
     }
     closed.free();
-}
-
-impl<T: Drop> Board<T> {
-    /// Closes the board for the seat that all others were joined into, and gives what became of the items. The board is
-    /// gone, also where memory ran out.
-    pub fn close(self, alloc: Global, seat: Seat<T>) -> Result<Outcome<T>, AllocError>
-        requires seat { IsSeatOf self seat }
-        requires shares { seat.shares ≡ self.seats }
-        requires rests { Rests seat }
-        requires passed { (i : ℕ) → i < self.items → 0 < items i seat.passed }
-        ensures count { IfOk result (λ o. length o.values.items ≡ self.items) }
-        ensures counts { IfOk result (λ o. length o.attempts.items ≡ self.items) }
-        ensures settled { IfOk result (λ o. (i : ℕ) → i < self.items
-            → Settled seat i (slice_index_or o.values.items i None) (slice_index_or o.attempts.items i 0)) }
-    {
-        let Board {
-            table,
-            items,
-            tries,
-        } = self;
-        let Seat { inner } = seat;
-        let values = vacant(alloc, items)?;
-        let attempts = vec![in alloc; 0u32; items]?;
-        let mut closed = table.close_with(inner);
-        let outcome = settle(&mut closed, values, attempts, tries);
-        discard(closed, items);
-        Ok(outcome)
-    }
 }

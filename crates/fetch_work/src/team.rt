@@ -110,5 +110,5 @@ pub(crate) fn run<T: Trial + Sync, R: Threads + Sync>(
         unreachable!()
     };
     let seat = join_all(&board, seat, seats);
-    board.close(alloc, seat)
+    board.close(seat)
 }

@@ -93,7 +93,7 @@ fn outcome(alloc: Global, tries: u32) -> Option<Outcome<u32>>
     let mut two = seats.pop()?;
     share(&board, &mut one, &mut two)?;
     board.join(&mut one, two);
-    board.close(alloc, one).ok()
+    board.close(one).ok()
 }
 
 // How often each item may be tried, and how often each was then.
@@ -114,7 +114,7 @@ fn a_board_may_have_no_items(rt: HostRuntime) {
     let made = Board::<u32>::new(rt.alloc(), 0, 1, 1);
     let (board, mut seats) = made.expect(&rt, "memory");
     let seat = seats.pop().expect(&rt, "a seat");
-    let outcome = board.close(rt.alloc(), seat).expect(&rt, "memory");
+    let outcome = board.close(seat).expect(&rt, "memory");
     is(&rt, outcome.values.is_empty(), "no values");
     is(&rt, outcome.attempts.is_empty(), "no attempts");
 }

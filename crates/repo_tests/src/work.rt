@@ -253,9 +253,7 @@ fn work_is_expected(rt: &(impl Abort + AllocGlobal), published: &Published)
     let (board, mut seats) = made.expect(rt, "memory");
     let mut worker = Worker::new(seats.pop().expect(rt, "a seat"));
     worker.work(&board, &link, &published.jobs, &published.ring);
-    let outcome = board
-        .close(rt.alloc(), worker.into_seat())
-        .expect(rt, "memory");
+    let outcome = board.close(worker.into_seat()).expect(rt, "memory");
     let outcome = PhaseOutcome {
         parts: outcome.values,
         attempts: outcome.attempts,
