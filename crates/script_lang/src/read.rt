@@ -27,7 +27,7 @@ pub fn read_line(alloc: Global, octets: &[u8]) -> Result<Option<Line>, LineFault
 }
 
 // What is left without a carriage return at the end.
-fn without_return(line: &[u8]) -> &[u8]
+pub(crate) fn without_return(line: &[u8]) -> &[u8]
     ensures { result.now ≡ without_return line.now }
 {
     match line {
@@ -77,14 +77,14 @@ fn first_other(octets: &[u8]) -> Option<u8>
     octets.iter().find(|octet| **octet != b' ').copied()
 }
 
-fn are_printable(octets: &[u8]) -> bool
+pub(crate) fn are_printable(octets: &[u8]) -> bool
     ensures { result ≡ list_all is_printable octets.now }
 {
     octets.iter().all(|octet| (b' '..=b'~').contains(octet))
 }
 
 // The words of a text, which spaces separate.
-fn spaced(alloc: Global, text: &str) -> Result<Vec<&str>, AllocError>
+pub(crate) fn spaced(alloc: Global, text: &str) -> Result<Vec<&str>, AllocError>
     ensures { IfOk result (λ words. map (λ word. word.now) words.items ≡ spaced_words text.now) }
 {
     text.split(' ')

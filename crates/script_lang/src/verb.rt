@@ -78,8 +78,8 @@ const VERBS: [(&str, Verb); 34] = [
 ];
 
 impl Verb {
-    // The verb that a word is.
-    pub(crate) fn of(word: &str) -> Option<Verb>
+    /// The verb that a word is.
+    pub fn of(word: &str) -> Option<Verb>
         ensures { result ≡ verb_of_word word.now }
     {
         named(&VERBS, word)

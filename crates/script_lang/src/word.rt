@@ -90,7 +90,7 @@ pub(crate) fn small_in(least: u32, most: u32, word: &str) -> Result<u32, LineFau
     Ok(number_in(u64::from(least), u64::from(most), word)? as u32)
 }
 
-fn is_within(least: u64, most: u64, len: usize) -> bool
+pub(crate) fn is_within(least: u64, most: u64, len: usize) -> bool
     ensures { result ≡ (nat_le least len && nat_le len most) }
 {
     (least..=most).contains(&(len as u64))
