@@ -44,7 +44,8 @@ def copy_to(room):
     os.mkdir(f"{room}/.git")
     for crate in os.listdir(f"{ROOT}/crates"):
         one, other = f"{ROOT}/crates/{crate}", f"{room}/crates/{crate}"
-        shutil.copytree(one, other, ignore=shutil.ignore_patterns("out", "must-fail"))
+        # (a module of a crate may be named out, so its proofs may be too)
+        shutil.copytree(one, other, ignore=lambda at, names: ["out", "must-fail"] if at == one else [])
         for kept, by in (("rlib", link_or_copy), ("incremental", copy_kept)):
             if os.path.isdir(f"{one}/out/{kept}"):
                 shutil.copytree(f"{one}/out/{kept}", f"{other}/out/{kept}", copy_function=by)
