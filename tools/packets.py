@@ -1,4 +1,35 @@
-"""Packets as a group sends them, and packets that were changed: for scripts that are drawn or measured."""
+#!/usr/bin/env python3
+"""Makes packets as members and clients of a group send them, and packets with one thing wrong.
+
+    python3 tools/packets.py KIND [OPTION..] [--form FORM] [--line MEMBER]
+
+It prints the packet in hexadecimal digits. With --line it prints the line of a script that gives the packet to MEMBER,
+the label of a member: `hear`, `feed`, `order` or `ask`, as the kind asks. The packet is computed from the options
+alone, by Python's own SHA-256 and HMAC; no other program is asked. docs/PACKETS.md explains the packets.
+
+Without options the group is /g, with the members alice (node /alice, key 6b31) and bob (/bob, 6b32) and the client
+carl (/carl, 6b34). --node and --key say who signs: alice, or carl where the packet is a client's.
+
+  kind         what it is                                   line    options, with their defaults
+  sync         a sync Interest with these numbers           hear    NODE=N .., such as /alice=1; --group /g
+  record       the record of an object                      feed    --object /doc --content text:abc --size 10 --seq 1
+  index        an index packet, of 201 segments and more    feed    the same, and --number 0
+  segment      a segment of an object                       feed    the same, and --number 0
+  withdrawal   the record that withdraws a publication      feed    --of 1 --seq 2
+  insert       a client's command to insert an object       order   --to /alice --object /in --first 5 --last 6
+  check        a client's question about a process          order   --to /alice --process 1
+  delete       a client's command to delete an object       order   --to /alice --object /doc
+  answer       a member's answer to a command               -       --command HEX --code 100 --process N --inserted N
+                                                                    --deleted N
+  interest     an Interest that asks for a packet           ask     NAME; --full-name-of HEX, a packet; --prefix
+
+CONTENT is text:, hex: or fill:COUNT:OCTET, as in a script. `feed` lines are of fetcher 1, or --fetcher N.
+
+    python3 tools/packets.py sync /alice=1 --form wrong-key --line bob
+    python3 tools/packets.py segment --content fill:201:97 --size 1 --number 200
+    python3 tools/packets.py answer --code 100 --process 1 --command $(python3 tools/packets.py insert)
+"""
+import argparse
 import hashlib
 import hmac
 import urllib.parse
@@ -31,6 +62,7 @@ def natural(n):
 
 
 HINTS = {"seg": SEGMENT, "v": VERSION, "seq": SEQUENCE}
+DIGESTS = {"sha256digest": 1, "params-sha256": 2}
 
 
 def text_component(word):
@@ -38,6 +70,8 @@ def text_component(word):
     form, equals, text = word.partition("=")
     if form in HINTS and equals:
         return HINTS[form], natural(int(text))
+    if form in DIGESTS and equals:
+        return DIGESTS[form], bytes.fromhex(text)
     kind = int(form) if equals else GENERIC
     octets = urllib.parse.unquote_to_bytes(text if equals else word)
     return kind, octets[3:] if octets and not octets.strip(b".") else octets
@@ -137,6 +171,36 @@ def name_of(packet):
 
 # ---- what a group sends
 
+def state_vector(numbers):
+    """A StateVector of pairs of name and number, in canonical order of the names."""
+    in_order = sorted((pair for pair in numbers if pair[1]), key=lambda pair: [(t, len(v), v) for t, v in pair[0]])
+    return element(201, b"".join(element(202, name_element(name) + element(204, natural(n))) for name, n in in_order))
+
+
+def publication(record, name, contents, sign, bend_listing=same):
+    """The parts of a publication as lists of name, last number, content and packet: the record, the index packets, the
+    segments. Of a withdrawal the name is None, and the contents are the number that it withdraws. `sign` makes a packet
+    of the first three."""
+    def part(*said):
+        return [*said, sign(*said)]
+
+    def numbered(name, contents):
+        return [part(name + [(SEGMENT, natural(i))], (SEGMENT, natural(len(contents) - 1)), content)
+                for i, content in enumerate(contents)]
+
+    if name is None:
+        return [part(record, None, bend_listing(element(133, natural(contents))))]
+    segments = numbered(name, contents)
+    listed = [element(131, hashlib.sha256(s[3]).digest()) for s in segments]
+    listing = name_element(name) + element(129, natural(len(contents)))
+    if len(segments) <= LISTED:
+        return [part(record, None, bend_listing(listing + b"".join(listed)))] + segments
+    lists = [b"".join(listed[i:i + LISTED]) for i in range(0, len(listed), LISTED)]
+    index = numbered(record, [bend_listing(it) for it in lists])
+    listing += b"".join(element(135, hashlib.sha256(i[3]).digest()) for i in index)
+    return [part(record, None, bend_listing(listing))] + index + segments
+
+
 class Group:
     """A group with the publications that were drawn so far: enough to make the packets that its members would send."""
 
@@ -163,28 +227,12 @@ class Group:
         What is signed is bent before, and the lists of the record and the index packets too."""
         name, contents = self.log[p][seq - 1]
         _, node, key = self.members[p]
-        record = self.record_name(p, seq)
-        if name is None:
-            return [data(record, None, bend_listing(element(133, natural(contents))), node, key, bend)]
-        last = (SEGMENT, natural(len(contents) - 1)) if contents else None
-        front = text_name(name)
-        segments = [data(front + [(SEGMENT, natural(i))], last, c, node, key, bend) for i, c in enumerate(contents)]
-        listed = [element(131, hashlib.sha256(s).digest()) for s in segments]
-        listing = name_element(front) + element(129, natural(len(contents)))
-        if len(segments) <= LISTED:
-            return [data(record, None, bend_listing(listing + b"".join(listed)), node, key, bend)] + segments
-        lists = [b"".join(listed[i:i + LISTED]) for i in range(0, len(listed), LISTED)]
-        last = (SEGMENT, natural(len(lists) - 1))
-        index = [data(record + [(SEGMENT, natural(k))], last, bend_listing(it), node, key, bend)
-                 for k, it in enumerate(lists)]
-        listing += b"".join(element(135, hashlib.sha256(i).digest()) for i in index)
-        return [data(record, None, bend_listing(listing), node, key, bend)] + index + segments
+        parts = publication(self.record_name(p, seq), name and text_name(name), contents,
+                            lambda *said: data(*said, node, key, bend), bend_listing)
+        return [packet for *_, packet in parts]
 
     def sync(self, signer, vector, bend=same):
-        entries = b"".join(
-            element(202, name_element(text_name(m[1])) + element(204, natural(n)))
-            for m, n in sorted(zip(self.members, vector), key=lambda e: (len(e[0][1]), e[0][1])) if n)
-        return self.sync_of(signer, element(201, entries), bend)
+        return self.sync_of(signer, state_vector([(text_name(m[1]), n) for m, n in zip(self.members, vector)]), bend)
 
     def sync_of(self, signer, parameters, bend=same):
         _, node, key = self.members[signer]
@@ -249,3 +297,194 @@ def rebuilt(draw, octets):
     else:
         found[i] = kind, bytes(len(value))
     return spelled(found)
+
+
+# ---- the command line
+
+# What a packet is like, in words, and what is done for it stands in `Form`.
+FORMS = {
+    "good": "nothing is wrong",
+    "wrong-key": "the mac is made with another key",
+    "unknown-key": "the key's name is /nobody/KEY",
+    "unsigned": "what says how it is signed, and the signature, are left out",
+    "wrong-digest": "an Interest's parameters digest is 32 zeros; the last bit of Data's content is another one",
+    "wrong-name": "a component x is added to the name",
+    "no-name": "the Name is left out",
+    "empty": "the parameters, or the content, have no octets",
+    "critical": "an unknown critical element (type 241) comes before what says how it is signed",
+    "not-critical": "an unknown element that isn't critical (type 240) comes there",
+    "misplaced": "what says how it is signed comes before the parameters or the content",
+    "repeated": "what says how it is signed comes twice",
+    "after-signature": "an element that isn't critical (type 240) comes after the signature",
+    "wrong-type": "the packet's type is 6 and it is an Interest, or 5 and it is Data",
+    "long-form": "the packet's length isn't in its shortest form",
+    "truncated": "the last octet is cut off",
+    "trailing": "an octet comes after the packet",
+    "too-long": "an element that isn't critical makes it longer than 8,800 octets",
+}
+# The line of a script that gives a packet of that kind to a member.
+LINES = {"sync": "hear", "record": "feed", "index": "feed", "segment": "feed", "withdrawal": "feed", "insert": "order",
+         "check": "order", "delete": "order", "answer": None, "interest": "ask"}
+COMMANDS = "insert", "check", "delete"
+
+
+def digested(found):
+    """The elements of an Interest, with the digest of its parameters at the end of its name, where it has them."""
+    at = next((i for i, (kind, _) in enumerate(found) if kind == 36), None)
+    if at is None or found[0][0] != 7:
+        return found
+    name = elements(found[0][1])[:-1] + [(2, hashlib.sha256(spelled(found[at:])).digest())]
+    return [(7, spelled(name))] + found[1:]
+
+
+class Form:
+    """What is done to a packet so that it has one of the FORMS: before its signing, at its mac, and after it."""
+
+    def __init__(self, form):
+        self.form = form
+
+    def name(self, name):
+        return name + [(GENERIC, b"x")] if self.form == "wrong-name" else name
+
+    def node(self, node):
+        return "/nobody" if self.form == "unknown-key" else node
+
+    def content(self, octets):
+        if self.form == "wrong-digest" and octets:
+            return octets[:-1] + bytes([octets[-1] ^ 1])
+        return b"" if self.form == "empty" else octets
+
+    def __call__(self, octets):
+        found = elements(octets)
+        if self.form in ("critical", "not-critical"):
+            found.insert(-1, (241 if self.form == "critical" else 240, b""))
+        elif self.form == "misplaced":
+            found[-2:] = found[:-3:-1]
+        elif self.form == "repeated":
+            found.append(found[-1])
+        return spelled(found)
+
+    def mac(self, key, signed):
+        return mac(key + b"!" if self.form == "wrong-key" else key, signed)
+
+    def packet(self, octets):
+        (kind, value), = elements(octets)
+        found = elements(value)
+        if self.form == "unsigned":
+            found = [(inner, value) for inner, value in found if inner not in (22, 23, 44, 46)]
+        elif self.form == "no-name":
+            del found[0]
+        elif self.form in ("after-signature", "too-long"):
+            found.append((240, bytes(max(0, 8800 - len(value)) if self.form == "too-long" else 0)))
+        value = spelled(digested(found) if kind == 5 else found)
+        if self.form == "wrong-digest" and kind == 5 and found[-1][0] == 46:
+            end = len(element(*found[0]))
+            value = value[:end - 32] + bytes(32) + value[end:]
+        length = number(len(value))
+        if self.form == "long-form":
+            head, width = (b"\xfd", 2) if len(value) < 253 else (b"\xfe", 4)
+            length = head + len(value).to_bytes(width, "big")
+        octets = number(kind ^ 3 if self.form == "wrong-type" else kind) + length + value
+        return octets[:-1] if self.form == "truncated" else octets + b"\x00" if self.form == "trailing" else octets
+
+
+def content_octets(text):
+    """The octets of a CONTENT."""
+    form, _, rest = text.partition(":")
+    if form == "text":
+        return rest.encode()
+    if form == "hex":
+        return bytes.fromhex(rest)
+    count, octet = rest.split(":")
+    return bytes([int(octet)]) * int(count)
+
+
+def part_of(options, form):
+    """The part of a publication that the options ask for."""
+    record = text_name(options.node) + text_name(options.group) + [(SEQUENCE, natural(options.seq))]
+    content = content_octets(options.content)
+    contents = [content[i:i + options.size] for i in range(0, len(content), options.size)]
+    name, contents = (None, options.of) if options.kind == "withdrawal" else (text_name(options.object), contents)
+    parts = publication(record, name, contents, lambda *said: data(*said, options.node, options.key))
+    if options.kind in ("index", "segment"):
+        lists = len(parts) - 1 - len(contents)
+        parts = (parts[1:1 + lists] if options.kind == "index" else parts[1 + lists:])[options.number:]
+    if not parts:
+        raise SystemExit(f"packets.py: the publication has no {options.kind} with the number {options.number}")
+    name, last, content, _ = parts[0]
+    return data(form.name(name), last, form.content(content), form.node(options.node), options.key, form)
+
+
+def packet_of(options, form):
+    """The packet that the options ask for."""
+    def signed(name, parameters):
+        parameters = b"" if form.form == "empty" else parameters
+        return signed_interest(form.name(name), parameters, form.node(options.node), options.key, form)
+
+    def numbers(*fields):
+        return b"".join(element(kind, natural(n)) for kind, n in fields if n is not None)
+
+    if options.kind == "sync":
+        entries = [entry.rpartition("=") for entry in options.what]
+        vector = state_vector([(text_name(node), int(n)) for node, _, n in entries])
+        return signed(text_name(options.group) + [(VERSION, b"\x02")], vector)
+    if options.kind in COMMANDS:
+        fields = name_element(text_name(options.object))
+        if options.kind == "insert":
+            fields += numbers((204, options.first), (205, options.last))
+        if options.kind == "check":
+            fields = numbers((206, options.process or 1))
+        return signed(text_name(options.to) + [(GENERIC, options.kind.encode())], element(201, fields))
+    if options.kind == "answer":
+        content = element(207, numbers((206, options.process), (208, options.code), (209, options.inserted),
+                                       (210, options.deleted)))
+        name = form.name(name_of(options.command))
+        return data(name, None, form.content(content), form.node(options.node), options.key, form)
+    if options.kind == "interest":
+        name = text_name(options.what[0]) if options.what else name_of(options.full_name_of)
+        if options.full_name_of:
+            name = name + [(1, hashlib.sha256(options.full_name_of).digest())]
+        return element(5, form(elements(interest(form.name(name), options.prefix))[0][1]))
+    return part_of(options, form)
+
+
+def read_options():
+    forms = "\n".join(f"  {form:17}{what}" for form, what in FORMS.items())
+    parser = argparse.ArgumentParser(description=__doc__, epilog=f"forms:\n{forms}", usage="packets.py KIND [OPTION..]",
+                                     formatter_class=argparse.RawDescriptionHelpFormatter)
+    parser.add_argument("kind", metavar="KIND", choices=LINES, help=", ".join(LINES))
+    parser.add_argument("what", metavar="WHAT", nargs="*", help="NODE=N of sync, NAME of interest")
+    parser.add_argument("--form", choices=FORMS, default="good", metavar="FORM", help="one of those below")
+    parser.add_argument("--line", metavar="MEMBER", help="prints a script's line for this member")
+    parser.add_argument("--prefix", action="store_true", help=argparse.SUPPRESS)
+    # The table above explains the others.
+    for kind, defaults in ((bytes.fromhex, "key command full-name-of"),
+                           (str, "node object group=/g content=text:abc to=/alice"),
+                           (int, "seq process inserted deleted number=0 of=1 first=5 last=6 code=100 size=10"),
+                           (int, "fetcher=1")):
+        for name, _, default in (option.partition("=") for option in defaults.split()):
+            parser.add_argument(f"--{name}", type=kind, default=default or None, help=argparse.SUPPRESS)
+    options = parser.parse_intermixed_args()
+    node, key = ("/carl", b"k4") if options.kind in COMMANDS else ("/alice", b"k1")
+    options.node, options.key = options.node or node, options.key or key
+    options.object = options.object or ("/in" if options.kind == "insert" else "/doc")
+    options.seq = options.seq or (2 if options.kind == "withdrawal" else 1)
+    if options.kind == "answer" and not options.command:
+        parser.error("an answer asks for --command")
+    if options.kind == "interest" and not options.what and not options.full_name_of:
+        parser.error("an Interest asks for a NAME or --full-name-of")
+    if options.line and not LINES[options.kind]:
+        parser.error("no line of a script takes an answer")
+    return options
+
+
+def main():
+    options = read_options()
+    form = Form(options.form)
+    digits = form.packet(packet_of(options, form)).hex()
+    fetcher = f" {options.fetcher}" if LINES[options.kind] == "feed" else ""
+    print(f"{LINES[options.kind]} {options.line}{fetcher} {digits}" if options.line else digits)
+
+
+if __name__ == "__main__":
+    main()
