@@ -307,6 +307,8 @@ FORMS = {
     "wrong-key": "the mac is made with another key",
     "unknown-key": "the key's name is /nobody/KEY",
     "unsigned": "what says how it is signed, and the signature, are left out",
+    "no-info": "what says how it is signed is left out",
+    "no-parameters": "the parameters, or the content, are left out",
     "wrong-digest": "an Interest's parameters digest is 32 zeros; the last bit of Data's content is another one",
     "wrong-name": "a component x is added to the name",
     "no-name": "the Name is left out",
@@ -370,9 +372,9 @@ class Form:
     def packet(self, octets):
         (kind, value), = elements(octets)
         found = elements(value)
-        if self.form == "unsigned":
-            found = [(inner, value) for inner, value in found if inner not in (22, 23, 44, 46)]
-        elif self.form == "no-name":
+        left_out = {"unsigned": (22, 23, 44, 46), "no-info": (22, 44), "no-parameters": (21, 36)}.get(self.form, ())
+        found = [(inner, octets) for inner, octets in found if inner not in left_out]
+        if self.form == "no-name":
             del found[0]
         elif self.form in ("after-signature", "too-long"):
             found.append((240, bytes(max(0, 8800 - len(value)) if self.form == "too-long" else 0)))
@@ -473,6 +475,8 @@ def read_options():
         parser.error("an answer asks for --command")
     if options.kind == "interest" and not options.what and not options.full_name_of:
         parser.error("an Interest asks for a NAME or --full-name-of")
+    if options.kind == "sync" and not all(entry.rpartition("=")[2].isdecimal() for entry in options.what):
+        parser.error("a sync Interest asks for NODE=N, such as /alice=1")
     if options.line and not LINES[options.kind]:
         parser.error("no line of a script takes an answer")
     return options
