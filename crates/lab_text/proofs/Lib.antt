@@ -1,0 +1,6 @@
+pub mod DifferenceLaws
+mod Differing
+pub mod Feeds
+pub mod LineCuts
+pub mod NoteTexts
+pub mod TranscriptLaws

@@ -1,0 +1,85 @@
+-- Where the lines that were expected and those that came differ.
+use Rattle.std.specs.Prelude.{◌≡◌, ℕ, Bool, true, false, ◌&&◌, ◌==◌, List, [], ◌∷◌, ◌++◌, reverse, codes}
+use Rattle.std.specs.Prelude.{if◌then◌else◌}
+use Rattle.std.specs.Fmt.{decimal}
+use Rattle.std.specs.Str.{bytes_eq}
+use Rattle.lab_text.specs.LineTexts.{marked_line, marked_lines}
+use Rattle.lab_text.specs.Transcripts.{shown_text}
+
+-- Lines that were expected, and lines that came.
+pub record Difference : Type 0 where
+  pub expected : List (List ℕ)
+  pub came : List (List ℕ)
+
+abbrev pub difference : List (List ℕ) → List (List ℕ) → Difference
+difference expected came = record { expected = expected; came = came }
+
+-- What is left after the lines with which both begin.
+unfoldable pub after_common_prefix : List (List ℕ) → List (List ℕ) → Difference
+after_common_prefix [] came = difference [] came
+after_common_prefix (line ∷ expected) [] = difference (line ∷ expected) []
+after_common_prefix (line ∷ expected) (other ∷ came) =
+    if bytes_eq line other then after_common_prefix expected came
+    else difference (line ∷ expected) (other ∷ came)
+
+abbrev pub reversed : Difference → Difference
+reversed d = difference (reverse d.expected) (reverse d.came)
+
+-- What is left before the lines with which both end.
+abbrev pub before_common_suffix : Difference → Difference
+before_common_suffix d = reversed (after_common_prefix (reverse d.expected) (reverse d.came))
+
+-- What lies between the common prefix and the common suffix.
+abbrev pub differing : List (List ℕ) → List (List ℕ) → Difference
+differing expected came = before_common_suffix (after_common_prefix expected came)
+
+abbrev pub is_empty_list : List (List ℕ) → Bool
+is_empty_list [] = true
+is_empty_list (line ∷ others) = false
+
+-- Nothing lies between them.
+abbrev pub are_same : List (List ℕ) → List (List ℕ) → Bool
+are_same expected came =
+    is_empty_list (after_common_prefix expected came).expected
+    && is_empty_list (after_common_prefix expected came).came
+
+-- `- ` marks what was expected, `+ ` what came.
+abbrev pub difference_text : Difference → List ℕ
+difference_text d = marked_lines (codes "- ") d.expected ++ marked_lines (codes "+ ") d.came
+
+-- Both lists of lines are a common prefix, what differs, and a common suffix.
+pub record LiesBetween (expected came : List (List ℕ)) (d : Difference) : Type 0 where
+  pub prefix : List (List ℕ)
+  pub suffix : List (List ℕ)
+  pub expected_is : expected ≡ (prefix ++ d.expected) ++ suffix
+  pub came_is : came ≡ (prefix ++ d.came) ++ suffix
+
+-- What differs neither begins nor ends with a common line.
+pub record IsApart (d : Difference) : Type 0 where
+  pub begins : after_common_prefix d.expected d.came ≡ d
+  pub ends : before_common_suffix d ≡ d
+
+-- ---- of one line, and of all
+
+-- A space, where a text follows it.
+abbrev pub space_before : List ℕ → List ℕ
+space_before [] = []
+space_before (octet ∷ octets) = 32 ∷ []
+
+-- `line 12 deliver 1 bob`, with a line feed.
+abbrev pub numbered_line : ℕ → List ℕ → List ℕ
+numbered_line number line =
+    codes "line " ++ decimal number ++ marked_line (space_before (shown_text line)) (shown_text line)
+
+-- What is written of the line of a number whose report was expected to have some lines, and has others: nothing where
+-- they are the same.
+abbrev pub line_difference_text : ℕ → List ℕ → List (List ℕ) → List (List ℕ) → List ℕ
+line_difference_text number line expected came =
+    if are_same expected came then []
+    else numbered_line number line ++ difference_text (differing expected came)
+
+-- `same LINES`, or `differs LINES of LINES`, with a line feed.
+abbrev pub sum_text : ℕ → ℕ → List ℕ
+sum_text differing lines =
+    if differing == 0 then codes "same " ++ decimal lines ++ 10 ∷ []
+    else codes "differs " ++ decimal differing ++ codes " of " ++ decimal lines ++ 10 ∷ []

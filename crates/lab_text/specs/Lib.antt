@@ -1,0 +1,9 @@
+pub use Rattle.repo_io.specs.Lines
+pub use Rattle.repo_io.specs.Outside
+pub mod Cutting
+pub mod LineTexts
+pub mod Notes
+pub mod Transcripts
+pub mod Differences
+pub mod Writing
+pub mod Outcomes
