@@ -1,32 +1,36 @@
 #!/usr/bin/env python3
 """Draws scripts at random, runs a program over them, and compares what it prints with what another program prints.
 
-    python3 tools/fuzz.py [--program 'FILE run'] [--against 'OTHER run'] [--seed 1] [--count 100] [--lines 60]
-                          [--keep FOLDER] [--words]
+    python3 tools/fuzz.py [--program 'FILE run'] [--against 'OTHER run'] [--alone] [--seed 1] [--count 100]
+                          [--lines 60] [--keep FOLDER] [--words]
     python3 tools/fuzz.py --inspect [--program 'FILE inspect'] [--against 'OTHER inspect'] [--seed 1] ..
 
-Both programs read the script from standard input. A script has all event lines, with packets that members would send,
-and with packets that were changed: a bit flipped, octets cut off or put in, elements taken out, doubled, moved or put
-in at any depth with all lengths made anew, before or behind the signing; a wrong key, a wrong name, a number out of
-its range. Commands that were issued come again as octets, written in other ways; sync Interests that were sent come
-again with more in their vectors. Now and then lines themselves are damaged. Where status or output differ, the script
-stays in FOLDER (by default the current one) under its seed, and the status of this program is 1. Without --against
-only how the program ends is looked at: by status 0, 2 or 6, and by nothing on standard error where the status is 0.
-100 scripts of 60 lines take about 15 seconds. --words tells how often each answer was given, so that what is never
-reached is seen. With --inspect inputs of an inspector are drawn: the digits of packets that were changed.
+Both read the script from standard input. The program is what `rt run` has built, and the other is tools/model.py, a
+model that was written apart from it; `model` names that one too. With --alone there is no other, and only how the
+program ends is looked at: by status 0, 2 or 6, and by nothing on standard error where the status is 0.
+
+A script has all event lines, with packets that members would send, and with packets that were changed: a bit flipped,
+octets cut off or put in, elements taken out, doubled, moved or put in at any depth with all lengths made anew, before
+or after the signing; a wrong key, a wrong name, a number out of its range. Commands that were issued come again as
+octets, written in other ways; sync Interests that were sent come again with more in their vectors. Now and then lines
+themselves are damaged. With --inspect inputs of an inspector are drawn: the digits of packets that were changed.
+
+Where status or output differ, it says at which line of the script and what each prints there, and the exit status is
+1. The script stays in FOLDER, by default the current one, as seedN.script. Of the first with each difference
+tools/shrink.py makes a small one, seedN.small. --words tells how often each answer was given, so that what is never
+reached is seen.
 """
 import argparse
 import hashlib
 import os
 import random
-import re
-import shlex
-import subprocess
 import sys
 
 sys.dont_write_bytecode = True
+import shrink
 from packets import (
-    Bend, Group, changed, element, elements, interest, name_element, name_of, natural, rebuilt, same, spelled, text_name,
+    Bend, Group, changed, element, elements, interest, name_element, name_of, natural, rebuilt, same, spelled,
+    text_name,
 )
 
 
@@ -64,10 +68,10 @@ class Script:
         self.ending = draw.choice([0, 0, 0, 0.01, 0.2])
         self.printed = 0
         self.is_over = False
-        makers = [(5, self.publish), (1, self.withdraw), (6, self.deliver), (7, self.claim), (7, self.answer), (2, self.lose),
-                  (5, self.feed), (2, self.fetch), (1, self.settle), (2, self.show), (2, self.time), (4, self.hear),
-                  (3, self.ask), (1, self.restart), (1, self.spaces), (0.3, self.anything), (1.5, self.watch),
-                  (3, self.told)]
+        makers = [(5, self.publish), (1, self.withdraw), (6, self.deliver), (7, self.claim), (7, self.answer),
+                  (2, self.lose), (5, self.feed), (2, self.fetch), (1, self.settle), (2, self.show), (2, self.time),
+                  (4, self.hear), (3, self.ask), (1, self.restart), (1, self.spaces), (0.3, self.anything),
+                  (1.5, self.watch), (3, self.told)]
         for n in range(draw.choice([0, 0, 1, 2, 4, 5])):
             self.mirror(n)
         if self.mirrors:
@@ -92,7 +96,7 @@ class Script:
     def put(self, *words):
         """Appends a line, and gives the words of the first line that it prints."""
         self.lines.append(" ".join(str(w) for w in words))
-        status, out, _ = run(self.program, self.text())
+        status, out, _ = self.program(self.text())
         told = out.decode("latin-1").split("\n")[:-1]
         fresh, self.printed = told[self.printed:], len(told)
         if status and self.draw.random() >= self.ending:
@@ -201,7 +205,9 @@ class Script:
         m = self.member()
         if self.put("restart", self.label(m)):
             self.claims = {held: part for held, part in self.claims.items() if held[0] != m}
-            self.insertions = {it: what for it, what in self.insertions.items() if it[0] != m}
+            # Now and then more blocks are made for a process that has ended.
+            if self.draw.random() < 0.5:
+                self.insertions = {it: what for it, what in self.insertions.items() if it[0] != m}
 
     def watch(self):
         m = self.member()
@@ -426,56 +432,47 @@ def inspection(draw):
 
 # ---- runs
 
-def run(words, script):
-    ran = subprocess.run(words, input=script, stdout=subprocess.PIPE, stderr=subprocess.PIPE)
-    return ran.returncode, ran.stdout, ran.stderr
-
-
-def form(line):
-    """A line of the report without what differs from run to run: numbers, labels, names and octets."""
-    words = line.split()
-    if words[0] == "vector":
-        return "vector"
-    codes = words[0] in ("insert", "block", "status", "delete", "order")
-    return " ".join(word if codes and i == 2 else re.sub(r"^[0-9a-f]{8,}$|^[mc]?\d+$|^/.*", "_", word)
-                    for i, word in enumerate(words))
+def keep(program, against, script, path, by_lines, shrinks):
+    """Keeps an input over which two programs differ, and a small one, and says what they differ in."""
+    with open(path, "wb") as it:
+        it.write(script)
+    print(f"{path}: {shrink.told(program, against, script, by_lines)}", flush=True)
+    if not shrinks:
+        return
+    small = shrink.shrunk(program, against, script, 60, b"\n" if by_lines else b"")
+    path = path.replace(".script", ".small")
+    with open(path, "wb") as it:
+        it.write(small)
+    print(f"{path}: {shrink.told(program, against, small, by_lines)}\n{shrink.shown(small)}", flush=True)
 
 
 def main():
     asked = argparse.ArgumentParser(description=__doc__, formatter_class=argparse.RawDescriptionHelpFormatter)
-    asked.add_argument("--program", help="by default what `rt run` has built")
-    asked.add_argument("--against")
+    shrink.asked_programs(asked)
     asked.add_argument("--seed", type=int, default=1)
     asked.add_argument("--count", type=int, default=100)
     asked.add_argument("--lines", type=int, default=60)
     asked.add_argument("--keep", default=".")
-    asked.add_argument("--inspect", action="store_true", help="draw inputs of an inspector in place of scripts")
     asked.add_argument("--words", action="store_true", help="tell how often each answer was given")
     given = asked.parse_args()
-    built = os.path.join(os.path.dirname(os.path.dirname(os.path.abspath(__file__))), "crates/ndnrepo/out/ndnrepo")
-    program = shlex.split(given.program) if given.program else [built, "inspect" if given.inspect else "run"]
-    against = shlex.split(given.against) if given.against else None
-    wrong, ends, answers = 0, {}, {}
+    program, against = shrink.programs(given)
+    kinds, wrong, ends, answers = set(), 0, {}, {}
     for seed in range(given.seed, given.seed + given.count):
         if given.inspect:
             script = inspection(random.Random(seed))
         else:
             script = Script(random.Random(seed), given.lines, program).text()
-        status, out, err = run(program, script)
+        status, out, _ = program(script)
         ends[status] = ends.get(status, 0) + 1
         for line in out.decode("latin-1").splitlines():
-            told = form(line)
+            told = shrink.form(line)
             answers[told] = answers.get(told, 0) + 1
-        if against:
-            other, wanted, _ = run(against, script)
-            is_well = (status, out) == (other, wanted)
-        else:
-            is_well = status in (0, 2, 6) and not (status == 0 and err)
-        if not is_well:
+        kind = shrink.kind(shrink.difference(program, against, script))
+        if kind:
             wrong += 1
-            with open(os.path.join(given.keep, f"seed{seed}.script"), "wb") as it:
-                it.write(script)
-            print(f"seed {seed}: differs", flush=True)
+            path = os.path.join(given.keep, f"seed{seed}.script")
+            keep(program, against, script, path, not given.inspect, kind not in kinds)
+            kinds.add(kind)
     print(f"{given.count} scripts, {wrong} differ; ends by status: {dict(sorted(ends.items()))}")
     if given.words:
         for told, count in sorted(answers.items()):
