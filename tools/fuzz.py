@@ -456,7 +456,7 @@ def main():
     asked.add_argument("--words", action="store_true", help="tell how often each answer was given")
     given = asked.parse_args()
     program, against = shrink.programs(given)
-    kinds, wrong, ends, answers = set(), 0, {}, {}
+    kinds, wrong, ends, answers = [], 0, {}, {}
     for seed in range(given.seed, given.seed + given.count):
         if given.inspect:
             script = inspection(random.Random(seed))
@@ -472,7 +472,7 @@ def main():
             wrong += 1
             path = os.path.join(given.keep, f"seed{seed}.script")
             keep(program, against, script, path, not given.inspect, kind not in kinds)
-            kinds.add(kind)
+            kinds.append(kind)
     print(f"{given.count} scripts, {wrong} differ; ends by status: {dict(sorted(ends.items()))}")
     if given.words:
         for told, count in sorted(answers.items()):

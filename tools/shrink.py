@@ -175,7 +175,9 @@ def shorter(word):
 
 
 def kind(found):
-    return found and (form(found.ours), form(found.theirs))
+    """What two differences must have in common to be one: the words of both lines, or of one where a report ends."""
+    ends = [line for line in (found.ours, found.theirs) if line.startswith("(it ends with")] if found else []
+    return found and (ends[:1] or [form(found.ours), form(found.theirs)])
 
 
 def shrunk(program, against, octets, seconds, separator=b"\n"):
@@ -219,7 +221,7 @@ def cut(line):
 
 
 def shown(octets):
-    lines = octets.decode("latin-1").split("\n")[:-1]
+    lines = octets.decode("latin-1").removesuffix("\n").split("\n")
     return "\n".join("    " + cut(line) for line in lines[:20]) + ("\n    .." if len(lines) > 20 else "")
 
 
