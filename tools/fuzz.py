@@ -436,14 +436,14 @@ def keep(program, against, script, path, by_lines, shrinks):
     """Keeps an input over which two programs differ, and a small one, and says what they differ in."""
     with open(path, "wb") as it:
         it.write(script)
-    print(f"{path}: {shrink.told(program, against, script, by_lines)}", flush=True)
+    print(f"{path}: {shrink.described(program, against, script, by_lines)}", flush=True)
     if not shrinks:
         return
     small = shrink.shrunk(program, against, script, 60, b"\n" if by_lines else b"")
     path = path.replace(".script", ".small")
     with open(path, "wb") as it:
         it.write(small)
-    print(f"{path}: {shrink.told(program, against, small, by_lines)}\n{shrink.shown(small)}", flush=True)
+    print(f"{path}: {shrink.described(program, against, small, by_lines)}\n{shrink.shown(small)}", flush=True)
 
 
 def main():

@@ -247,7 +247,7 @@ class World:
         return self.sent[k - 1]
 
     def publish(self, m, **what):
-        """The number of the publication, and that of the sync Interest that tells it."""
+        """The number of the publication, and that of the sync Interest that reports it."""
         if len(m.log) == 65_535:
             raise Refused("NumbersSpent")
         pub = Publication(m, self.group, **what)
@@ -382,9 +382,9 @@ class World:
     def on_told(self, m, w):
         if w > len(m.watchers):
             raise Refused("NoSuchWatch")
-        publisher, prefix, told = m.watchers[w - 1]
-        fresh = [pub for pub in m.listed() if pub.is_under(publisher, prefix) and pub not in told]
-        told.update(fresh)
+        publisher, prefix, known = m.watchers[w - 1]
+        fresh = [pub for pub in m.listed() if pub.is_under(publisher, prefix) and pub not in known]
+        known.update(fresh)
         return listing(fresh)
 
     def on_insert(self, m, client, *words): return self.command(m, client, "insert", *words)

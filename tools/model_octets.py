@@ -293,7 +293,7 @@ def first_of(kind, octets):
     return first
 
 def check_sync(octets, group, members):
-    """Who signed a sync Interest, and the vector that it tells."""
+    """Who signed a sync Interest, and its vector."""
     interest = read_interest(octets)
     if interest.name[:-1] != sync_name(group) or interest.name[-1][0] != PARAMETERS_DIGEST:
         raise Fault("WrongGroup")
@@ -337,13 +337,13 @@ def check_part(octets, want):
     """Refuses octets that don't pass as the packet of a wanted part."""
     found, at, value = packet_of("Data", DATA, ["Name", "SignatureInfo", "SignatureValue"], octets)
     signed = octets[at["Name"]:at["SignatureValue"]]
-    for passes, word in ((value == signed + tlv("SignatureValue", found["SignatureValue"]), "UnsignedOctets"),
-                         (found["Name"] == want.name, "OtherName"),
-                         (want.digest in (None, sha256(octets)), "OtherDigest"),
-                         (found["SignatureInfo"] == (4, want.publisher.key_name), "UnknownKey"),
-                         (mac(want.publisher.key, signed) == found["SignatureValue"], "BadSignature"),
-                         (says(found.get("Content", b""), want), "BadRecord")):
-        if not passes:
+    for is_so, word in ((value == signed + tlv("SignatureValue", found["SignatureValue"]), "UnsignedOctets"),
+                        (found["Name"] == want.name, "OtherName"),
+                        (want.digest in (None, sha256(octets)), "OtherDigest"),
+                        (found["SignatureInfo"] == (4, want.publisher.key_name), "UnknownKey"),
+                        (mac(want.publisher.key, signed) == found["SignatureValue"], "BadSignature"),
+                        (says(found.get("Content", b""), want), "BadRecord")):
+        if not is_so:
             raise Fault(word)
 
 def says(content, want):
@@ -382,16 +382,16 @@ def parts_of(record, name, contents, withdrawn, member):
     return [(record, data_of(record, None, content, member))] + index + segments
 
 def numbered(name, contents, signer):
-    """Such pairs with numbers from 0 behind the name; each packet says which is the last."""
+    """Such pairs, whose names are this one and a number from 0; each packet says which is the last."""
     names = [name + ((SEGMENT, natural(i)),) for i in range(len(contents))]
     return [(one, data_of(one, names[-1][-1], content, signer)) for one, content in zip(names, contents)]
 
 def sync_interest(group, vector, signer):
-    """The sync Interest that tells a vector, which is given as pairs of a node's name and a number."""
-    canonical = sorted((([(kind, len(value), value) for kind, value in node], node, n) for node, n in vector))
+    """The sync Interest of a vector, which is given as pairs of a node's name and a number."""
+    canonical = sorted(([(kind, len(value), value) for kind, value in node], node, n) for node, n in vector)
     entries = [tlv("Name", name_value(node)) + tlv("SeqNo", natural(n)) for _, node, n in canonical]
-    told = tlv("StateVector", b"".join(tlv("StateVectorEntry", entry) for entry in entries))
-    return signed_interest(list(sync_name(group)), told, text_of(signer.node), signer.key)
+    parameters = tlv("StateVector", b"".join(tlv("StateVectorEntry", entry) for entry in entries))
+    return signed_interest(list(sync_name(group)), parameters, text_of(signer.node), signer.key)
 
 
 # ---- draws

@@ -115,7 +115,7 @@ class Shrinking:
                 rest = self.lines[:at], self.lines[at + size:]
                 takes = self.takes(rest[0] + rest[1])
                 if not takes and size == 1:
-                    # The sync Interests behind a line that sent some have lesser numbers without it.
+                    # Without a line that sent sync Interests, those after it have lesser numbers.
                     any(self.takes(rest[0] + [renumbered(line, n) for line in rest[1]]) for n in (1, 2, 3, 4, 5))
             size //= 2
 
@@ -205,8 +205,8 @@ def shrunk(program, against, octets, seconds, separator=b"\n"):
 
 # ---- what is said
 
-def told(program, against, octets, by_lines=True):
-    """What is said of a difference: at which line of the script, at which of the report, and what each prints there."""
+def described(program, against, octets, by_lines=True):
+    """A difference in words: at which line of the script, at which of the report, and what each prints there."""
     found = difference(program, against, octets)
     where = f"line {found.at} of the report"
     lines = octets.split(b"\n")
@@ -251,12 +251,12 @@ def main():
     if difference(program, against, octets) is None:
         print(f"{given.script}: nothing differs")
         return 1
-    print(f"{given.script}: {told(program, against, octets, not given.inspect)}", flush=True)
+    print(f"{given.script}: {described(program, against, octets, not given.inspect)}", flush=True)
     small = shrunk(program, against, octets, given.seconds, b"" if given.inspect else b"\n")
     out = given.out or given.script + ".small"
     with open(out, "wb") as it:
         it.write(small)
-    print(f"{out}, of {small.count(10)} lines: {told(program, against, small, not given.inspect)}\n{shown(small)}")
+    print(f"{out}, of {small.count(10)} lines: {described(program, against, small, not given.inspect)}\n{shown(small)}")
     return 0
 
 
