@@ -1,0 +1,5 @@
+mod Listings
+mod Medians
+mod ScriptReading
+mod SeedOutcomes
+mod StoryEnds

@@ -1,0 +1,287 @@
+-- How a script is read line by line.
+use Rattle.std.proofs.Common.{◌≡◌, ◌≢◌, ℕ, ◌+◌, ◌-◌, ◌<◌, ◌≤◌, Bool, true, false, not, cond, eqb, leb, ltb, ◌&&◌, ◌||◌, List, []}
+use Rattle.std.proofs.Common.{◌∷◌, ◌++◌, length, take, drop, get_or, Option, Some, None, refl, sym, ap, subst, ◌∙◌}
+use Rattle.std.proofs.Common.{append_assoc, length-append, arith, ◌⊎◌, inl, inr}
+use Rattle.std.specs.Io.KnownBytes.{IsAtEnd, Keeps, prepend_known}
+use Rattle.std.proofs.lemmas.Bool.{and_left, and_parts, and_right, both_ways, cases_Bool, leb-true, lt-leb, ltb-true}
+use Rattle.std.proofs.lemmas.List.{append-nil, length-take, nil_from_length, take-append-drop, take_all}
+use Rattle.std.proofs.lemmas.List.Folds.{list_any_at}
+use Rattle.std.proofs.Math.Seq.{take-append-add}
+use Rattle.repo_io.specs.Lines.{IsWhole, has_feed, lines}
+use Rattle.repo_io.proofs.LineLaws.{long_line, open_line, whole_first}
+use Rattle.script_lang.specs.Lines.{ends_with, without_last_octet}
+use Rattle.script_lines.specs.Reading.{HasLine, IsTooLong, LineIsBegun}
+use Rattle.lab_text.specs.LineTexts.{without_feed}
+use Rattle.lab_text.specs.Notes.{is_note}
+use Rattle.lab_seeds.specs.declared.input.ScriptLines.{ScriptLines as Kept}
+use Rattle.lab_seeds.specs.declared.input.SoFar.{SoFar}
+use Rattle.lab_seeds.specs.declared.input.Totals.{Totals}
+use Rattle.lab_seeds.specs.Inputs.{ScriptLines, fits, fits_input, fits_script, no_totals, script_from, script_lines_are}
+use Rattle.lab_seeds.specs.Inputs.{script_of, with_line}
+use Rattle.lab_seeds.specs.Reading.{AreWithin, IsRead, Known, Takes, kept_line, lines_before, lines_read, octets_of}
+
+-- ---- lines that are too long
+
+-- octets without a line feed don't end with one
+not_ended : (octets : List ℕ) → has_feed octets ≡ false → ends_with 10 octets ≡ false
+not_ended [] free = refl
+not_ended (b ∷ bs) free = elim (cases_Bool (eqb (get_or (b ∷ bs) (length (b ∷ bs) - 1) 0) 10)) [
+  | inr other ↦ and_right (not (eqb (length (b ∷ bs)) 0)) (eqb (get_or (b ∷ bs) (length (b ∷ bs) - 1) 0) 10) other
+  | inl feed ↦ absurd (both_ways (has_feed (b ∷ bs)) free
+      (list_any_at (λ octet. eqb octet 10) (b ∷ bs) (length (b ∷ bs) - 1) 0 (omega arith) feed))
+]
+
+-- without its line feed a line is at least as long as octets before it
+left_long : (front more : List ℕ) → has_feed front ≡ false → length front ≤ length (without_feed (front ++ more))
+left_long front [] free =
+    let all : front ++ [] ≡ front = append-nil front in
+    rw (all, not_ended front free) (omega arith)
+left_long front (b ∷ bs) free = elim (cases_Bool (ends_with 10 (front ++ b ∷ bs))) [
+  | inl ended ↦
+      rw ended (omega (arith, length-take (length (front ++ b ∷ bs) - 1) (front ++ b ∷ bs), length-append front (b ∷ bs)))
+  | inr open_ ↦ rw open_ (omega (arith, length-append front (b ∷ bs)))
+]
+
+module _ (front : List ℕ) (long : IsTooLong front) where
+  long_some : front ≢ []
+  long_some e = let none = ap length e in omega (arith, none, long.long)
+
+  long_beyond : (t : Totals) (more : List ℕ) → fits t (front ++ more) ≡ false
+  long_beyond t more =
+      let line = front ++ more in
+      let test : leb (length (without_feed line)) 32768 ≡ false =
+      lt-leb (length (without_feed line)) 32768 (omega (arith, left_long front more long.free, long.long)) in
+      and_left (fits_input t line) (is_note line || fits_script t line)
+      (and_left (leb (length (without_feed line)) 32768 && ltb t.lines 1000000) (leb (t.octets + length line) 300000000)
+      (and_left (leb (length (without_feed line)) 32768) (ltb t.lines 1000000) test))
+
+-- ---- totals
+
+pub begins_within : AreWithin no_totals
+begins_within = record { lines = omega arith; octets = omega arith; script_lines = omega arith; script_octets = omega arith }
+
+module _ (t : Totals) (line : List ℕ) (w : AreWithin t) (e : fits t line ≡ true) where
+  input_facts : (t.lines < 1000000) × (t.octets + length line ≤ 300000000)
+  input_facts =
+      let both = and_parts (fits_input t line) (is_note line || fits_script t line) e in
+      let three = and_parts (leb (length (without_feed line)) 32768 && ltb t.lines 1000000)
+      (leb (t.octets + length line) 300000000) both.0 in
+      let two = and_parts (leb (length (without_feed line)) 32768) (ltb t.lines 1000000) three.0 in
+      (ltb-true t.lines 1000000 two.1, leb-true (t.octets + length line) 300000000 three.1)
+
+  script_facts : is_note line ≡ false → (t.script_lines < 100000) × (t.script_octets + length line ≤ 16777216)
+  script_facts other =
+      let both = and_parts (fits_input t line) (is_note line || fits_script t line) e in
+      let script : fits_script t line ≡ true = rw other at both.1 in
+      let two = and_parts (ltb t.script_lines 100000) (leb (t.script_octets + length line) 16777216) script in
+      (ltb-true t.script_lines 100000 two.0, leb-true (t.script_octets + length line) 16777216 two.1)
+
+  pub lines_few : t.lines < 1000000
+  lines_few = input_facts.0
+
+  pub script_few : is_note line ≡ false → t.script_lines < 100000
+  script_few other = (script_facts other).0
+
+  pub stays_within : AreWithin (with_line t line)
+  stays_within = by_note (is_note line) refl where
+    by_note : (note : Bool) → is_note line ≡ note → AreWithin (record {
+      lines = t.lines + 1;
+      octets = t.octets + length line;
+      script_lines = cond note t.script_lines (t.script_lines + 1);
+      script_octets = cond note t.script_octets (t.script_octets + length line);
+    })
+    by_note true is =
+        let i = input_facts in
+        let x = i.0 in let y = i.1 in
+        record {
+          lines = omega arith;
+          octets = omega arith;
+          script_lines = w.script_lines;
+          script_octets = w.script_octets;
+        }
+    by_note false is =
+        let i = input_facts in
+        let s = script_facts is in
+        let x = i.0 in let y = i.1 in let z = s.0 in let u = s.1 in
+        record {
+          lines = omega arith;
+          octets = omega arith;
+          script_lines = omega arith;
+          script_octets = omega arith;
+        }
+
+-- ---- the first line
+
+module _ (t : Totals) (line : List ℕ) (others : List (List ℕ)) where
+  first_taken : fits t line ≡ true
+      → script_from t (line ∷ others) ≡ lines_before (kept_line line) (script_from (with_line t line) others)
+  unfolding script_from
+  first_taken e = rw e (by_note (is_note line)) where
+    by_note : (note : Bool)
+        → cond note (script_from (with_line t line) others)
+        (script_lines_are (line ∷ (script_from (with_line t line) others).lines)
+        (script_from (with_line t line) others).cut)
+        ≡ lines_before (cond note [] (line ∷ [])) (script_from (with_line t line) others)
+    by_note true = refl
+    by_note false = refl
+
+  first_cut : fits t line ≡ false → script_from t (line ∷ others) ≡ script_lines_are [] true
+  unfolding script_from
+  first_cut e = rw e refl
+
+no_lines : (t : Totals) → script_from t [] ≡ script_lines_are [] false
+unfolding script_from
+no_lines t = refl
+
+before_before : (a b : List (List ℕ)) (s : ScriptLines) → lines_before a (lines_before b s) ≡ lines_before (a ++ b) s
+before_before a b s =
+    ap (λ (ls : List (List ℕ)). script_lines_are ls s.cut) (sym (append_assoc a b s.lines))
+
+-- ---- what is read
+
+-- So much is held of an input, these lines of its script were read, and the totals are these.
+pub record Reads (held : List ℕ) (front : List (List ℕ)) (t : Totals) (input rest : List ℕ) : Type 0 where
+  pub script : script_of input ≡ lines_before front (script_from t (lines (held ++ rest)))
+
+reads_read : (held held' : List ℕ) (front : List (List ℕ)) (t : Totals) (input rest rest' : List ℕ)
+    → held' ++ rest' ≡ held ++ rest → Reads held front t input rest → Reads held' front t input rest'
+reads_read held held' front t input rest rest' e r = record {
+  script = r.script ∙ ap (λ (octets : List ℕ). lines_before front (script_from t (lines octets))) (sym e);
+}
+
+module _ (held : List ℕ) (front : List (List ℕ)) (t : Totals) (input rest : List ℕ) (count : ℕ)
+    (h : HasLine count held) (r : Reads held front t input rest) where
+  by_whole : IsWhole (take count held)
+      → lines (held ++ rest) ≡ take count held ∷ lines (drop count held ++ rest)
+  by_whole whole =
+      let parts : held ++ rest ≡ take count held ++ (drop count held ++ rest) =
+      ap (λ (octets : List ℕ). octets ++ rest) (sym (take-append-drop count held))
+      ∙ append_assoc (take count held) (drop count held) rest in
+      ap lines parts ∙ whole_first (take count held) (drop count held ++ rest) whole
+
+  held_whole : IsTooLong held × (count ≡ length held) → take count held ≡ held
+  held_whole long = take_all count held (omega (arith, long.1))
+
+  long_not_taken : IsTooLong held × (count ≡ length held) → fits t (take count held) ≡ true → ⊥
+  long_not_taken long e =
+      let all : take count held ≡ held ++ [] = held_whole long ∙ sym (append-nil held) in
+      both_ways (fits t (held ++ [])) (long_beyond held long.0 t []) (subst (λ (l : List ℕ). fits t l ≡ true) all e)
+
+  reads_line : fits t (take count held) ≡ true
+      → Reads (drop count held) (front ++ kept_line (take count held)) (with_line t (take count held)) input rest
+  reads_line e = by_line h.line where
+    by_line : (IsWhole (take count held) ⊎ (IsTooLong held × (count ≡ length held)))
+        → Reads (drop count held) (front ++ kept_line (take count held)) (with_line t (take count held)) input rest
+    by_line (inl whole) = record {
+      script = r.script ∙ ap (λ (ls : List (List ℕ)). lines_before front (script_from t ls)) (by_whole whole)
+          ∙ ap (lines_before front) (first_taken t (take count held) (lines (drop count held ++ rest)) e)
+          ∙ before_before front (kept_line (take count held))
+          (script_from (with_line t (take count held)) (lines (drop count held ++ rest)));
+    }
+    by_line (inr long) = absurd (long_not_taken long e)
+
+  reads_cut : fits t (take count held) ≡ false → script_of input ≡ script_lines_are front true
+  reads_cut e = by_line h.line where
+    cut : (line : List ℕ) (others : List (List ℕ)) → lines (held ++ rest) ≡ line ∷ others → fits t line ≡ false
+        → script_of input ≡ script_lines_are front true
+    cut line others is beyond = r.script
+        ∙ ap (λ (ls : List (List ℕ)). lines_before front (script_from t ls)) is
+        ∙ ap (lines_before front) (first_cut t line others beyond)
+        ∙ ap (λ (ls : List (List ℕ)). script_lines_are ls true) (append-nil front)
+
+    by_line : (IsWhole (take count held) ⊎ (IsTooLong held × (count ≡ length held)))
+        → script_of input ≡ script_lines_are front true
+    by_line (inl whole) = cut (take count held) (lines (drop count held ++ rest)) (by_whole whole) e
+    by_line (inr long) =
+        let b = long_line held rest (long_some held long.0) long.0.free in
+        cut (held ++ b.rest) b.others b.is (long_beyond held long.0 t b.rest)
+
+-- ---- the octets after the last line feed
+
+pub last_none : (t : Totals) (front : List (List ℕ)) (held : List ℕ) → held ≡ []
+    → script_lines_are front false ≡ lines_before front (script_from t (lines held))
+unfolding lines
+last_none t front held none =
+    sym (ap (λ (octets : List ℕ). lines_before front (script_from t (lines octets))) none
+    ∙ ap (lines_before front) (no_lines t) ∙ ap (λ (ls : List (List ℕ)). script_lines_are ls false) (append-nil front))
+
+module _ (t : Totals) (front : List (List ℕ)) (held : List ℕ) (begun : LineIsBegun held) (some : held ≢ []) where
+  pub last_taken : fits t held ≡ true
+      → script_lines_are (front ++ kept_line held) false ≡ lines_before front (script_from t (lines held))
+  last_taken e =
+      sym (ap (λ (ls : List (List ℕ)). lines_before front (script_from t ls)) (open_line held some begun.free)
+      ∙ ap (lines_before front) (first_taken t held [] e
+      ∙ ap (lines_before (kept_line held)) (no_lines (with_line t held)))
+      ∙ before_before front (kept_line held) (script_lines_are [] false)
+      ∙ ap (λ (ls : List (List ℕ)). script_lines_are ls false) (append-nil (front ++ kept_line held)))
+
+  pub last_cut : fits t held ≡ false
+      → script_lines_are front true ≡ lines_before front (script_from t (lines held))
+  last_cut e =
+      sym (ap (λ (ls : List (List ℕ)). lines_before front (script_from t ls)) (open_line held some begun.free)
+      ∙ ap (lines_before front) (first_cut t held [] e)
+      ∙ ap (λ (ls : List (List ℕ)). script_lines_are ls true) (append-nil front))
+
+-- ---- where the input is known
+
+known_map : (P Q : List ℕ → List ℕ → Type 0) → ((input rest : List ℕ) → P input rest → Q input rest)
+    → (before now : Option (List ℕ)) → Known before now P → Known before now Q
+known_map P Q f None now h = tt
+known_map P Q f (Some input) None h = absurd h
+known_map P Q f (Some input) (Some rest) h = f input rest h
+
+pub known_begun : (held : List ℕ) (front : List (List ℕ)) (t : Totals) (a : Option (List ℕ)) → held ≡ []
+    → front ≡ [] → t ≡ no_totals → Known a a (Reads held front t)
+known_begun held front t None h f e = tt
+known_begun held front t (Some input) h f e = record {
+  script = sym (ap (λ (octets : List ℕ). lines_before front (script_from t (lines (octets ++ input)))) h
+      ∙ ap (λ (ls : List (List ℕ)). lines_before ls (script_from t (lines input))) f
+      ∙ ap (λ (totals : Totals). lines_before [] (script_from totals (lines input))) e);
+}
+
+pub known_read : (held held' : List ℕ) (front : List (List ℕ)) (t : Totals) (before now now' : Option (List ℕ))
+    → Keeps (prepend_known held now) (prepend_known held' now') → Known before now (Reads held front t)
+    → Known before now' (Reads held' front t)
+known_read held held' front t None now now' k h = tt
+known_read held held' front t (Some input) None now' k h = absurd h
+known_read held held' front t (Some input) (Some rest) None k h = absurd k
+known_read held held' front t (Some input) (Some rest) (Some rest') k h =
+    reads_read held held' front t input rest rest' k h
+
+module _ (held : List ℕ) (before now : Option (List ℕ)) (count : ℕ) (h : HasLine count held) where
+  pub known_taken : (old new : SoFar) → Takes old (take count held) new
+      → Known before now (Reads held (octets_of old.lines.items) old.totals)
+      → Known before now (Reads (drop count held) (octets_of new.lines.items) new.totals)
+  known_taken old new takes known = known_map (Reads held (octets_of old.lines.items) old.totals)
+      (Reads (drop count held) (octets_of new.lines.items) new.totals)
+      (λ input rest r. renamed input rest
+      (reads_line held (octets_of old.lines.items) old.totals input rest count h r takes.fits)) before now known where
+        renamed : (input rest : List ℕ)
+            → Reads (drop count held) (octets_of old.lines.items ++ kept_line (take count held))
+            (with_line old.totals (take count held)) input rest
+            → Reads (drop count held) (octets_of new.lines.items) new.totals input rest
+        renamed input rest r =
+            subst (λ (ls : List (List ℕ)). Reads (drop count held) ls new.totals input rest) (sym takes.lines)
+            (subst (λ (t : Totals). Reads (drop count held)
+            (octets_of old.lines.items ++ kept_line (take count held)) t input rest) (sym takes.totals) r)
+
+  pub known_cut : (front : List (List ℕ)) (t : Totals) (s : Kept) → fits t (take count held) ≡ false
+      → lines_read s ≡ script_lines_are front true → Known before now (Reads held front t)
+      → Known before now (IsRead s)
+  known_cut front t s beyond is = known_map (Reads held front t) (IsRead s)
+      (λ input rest r. record {
+        whole = reads_cut held front t input rest count h r beyond ∙ sym is;
+        ended = λ whole. absurd (both_ways s.cut whole (ap (λ (l : ScriptLines). l.cut) is));
+      }) before now
+
+pub known_last : (held : List ℕ) (front : List (List ℕ)) (t : Totals) (before now : Option (List ℕ)) (s : Kept)
+    → IsAtEnd now → lines_read s ≡ lines_before front (script_from t (lines held))
+    → Known before now (Reads held front t) → Known before now (IsRead s)
+known_last held front t None now s ended is h = tt
+known_last held front t (Some input) None s ended is h = absurd h
+known_last held front t (Some input) (Some rest) s ended is h = record {
+  whole =
+      let all : held ++ rest ≡ held = ap (λ (octets : List ℕ). held ++ octets) ended ∙ append-nil held in
+      h.script ∙ ap (λ (octets : List ℕ). lines_before front (script_from t (lines octets))) all ∙ sym is;
+  ended = λ whole. ended;
+}

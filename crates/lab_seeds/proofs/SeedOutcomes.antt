@@ -1,0 +1,305 @@
+-- What comes of ends of seeds that follow one another.
+use Rattle.std.proofs.Common.{◌≡◌, ◌≢◌, ℕ, zero, suc, ◌+◌, ◌-◌, ◌<◌, ◌≤◌, Bool, true, false, cond, List, [], ◌∷◌, ◌++◌}
+use Rattle.std.proofs.Common.{length, take, get_or, map, Option, Some, None, IfSome, refl, sym, ap, subst, ◌∙◌}
+use Rattle.std.proofs.Common.{arith, inl, inr, ◌⊎◌}
+use Rattle.std.specs.List.{flat_map, list_all}
+use Rattle.std.specs.Option.{option_map}
+use Rattle.std.proofs.lemmas.Bool.{and_parts, both_ways, cases_Bool}
+use Rattle.std.proofs.lemmas.List.{get_or-map, length-map}
+use Rattle.sorted_lists.specs.Range.{numbers_from}
+use Rattle.script_report.specs.declared.refusal.Refusal.{Refusal}
+use Rattle.script_report.specs.declared.refusal.Refusal.TheVariants.{Syntax, UnknownLabel, Duplicate, Limit}
+use Rattle.script_report.specs.declared.refusal.Refusal.TheVariants.{NoSuchPacket, FetcherBusy, FetcherIdle}
+use Rattle.script_report.specs.declared.refusal.Refusal.TheVariants.{NumbersSpent, NoGroup, TooLarge, Late}
+use Rattle.script_report.specs.declared.refusal.Refusal.TheVariants.{BadPacket, NoSuchNumber, NoSuchWatch, NotLive}
+use Rattle.script_report.specs.Refusals.{refusal_number, refusal_word}
+use Rattle.script_story.specs.declared.ending.Ending.{Ending}
+use Rattle.script_story.specs.declared.ending.Ending.TheVariants as ending
+use Rattle.script_story.specs.Story.{Story, nothing_reached, story_from}
+use Rattle.repo_io.specs.Outside.{GainsText, GainsFront}
+use Rattle.repo_io.proofs.Outputs.{front_so_far, front_taken, front_whole, nothing_gained}
+use Rattle.lab_text.specs.declared.status.LabStatus.{LabStatus}
+use Rattle.lab_text.specs.declared.status.LabStatus.TheVariants as lab
+use Rattle.lab_text.specs.Outcomes.{HasCause, IsEnd, Outcome, WritesOutcome}
+use Rattle.lab_seeds.specs.declared.end.SeedEnd.{SeedEnd}
+use Rattle.lab_seeds.specs.declared.end.SeedEnd.TheVariants.{Done, Refused, Foreign}
+use Rattle.lab_seeds.specs.declared.input.ScriptLines.{ScriptLines as Kept}
+use Rattle.lab_seeds.specs.Counted.{figures_at}
+use Rattle.lab_seeds.specs.Endings.{AreEnds, HasEnd, IsEndOf}
+use Rattle.lab_seeds.specs.Ends.{end_figures, end_is_done, end_text, ends_text}
+use Rattle.lab_seeds.specs.Inputs.{ScriptLines, script_of}
+use Rattle.lab_seeds.specs.Reading.{IsRead, Known, lines_read}
+use Rattle.lab_seeds.specs.Seeding.{WritesSeeds, ending_text, ends_status, figures_if_done, is_done, outcome_over}
+use Rattle.lab_seeds.specs.Seeding.{seed_text, seeds_of, word_of}
+use Rattle.lab_seeds.specs.Stories.{cut_at, ending_at, given_of, seed_story}
+use Rattle.lab_seeds.specs.Texts.{done_text, ranks_text, refused_text}
+
+-- ---- one seed
+
+-- each refusal's number has its word
+word_known : (why : Refusal) → word_of (refusal_number why) ≡ refusal_word why
+word_known Syntax = refl
+word_known UnknownLabel = refl
+word_known Duplicate = refl
+word_known Limit = refl
+word_known NoSuchPacket = refl
+word_known FetcherBusy = refl
+word_known FetcherIdle = refl
+word_known NumbersSpent = refl
+word_known NoGroup = refl
+word_known TooLarge = refl
+word_known Late = refl
+word_known BadPacket = refl
+word_known NoSuchNumber = refl
+word_known NoSuchWatch = refl
+word_known NotLive = refl
+
+module _ (s : Story) where
+  text_of_end : (seed : ℕ) (e : SeedEnd) → IsEndOf s e → end_text seed e ≡ seed_text seed s
+  text_of_end seed (Done f) is =
+      ap (done_text seed) is.figures ∙ ap (λ (e : Ending). ending_text seed e s.world) (sym is.ending)
+  text_of_end seed (Refused line why) is =
+      ap (refused_text seed line (refusal_number why)) (sym (word_known why))
+      ∙ ap (λ (e : Ending). ending_text seed e s.world) (sym is)
+  text_of_end seed (Foreign line) is = ap (λ (e : Ending). ending_text seed e s.world) (sym is)
+
+  done_of_end : (e : SeedEnd) → IsEndOf s e → end_is_done e ≡ is_done s.ending
+  done_of_end (Done f) is = ap is_done (sym is.ending)
+  done_of_end (Refused line why) is = ap is_done (sym is)
+  done_of_end (Foreign line) is = ap is_done (sym is)
+
+  figures_of_end : (e : SeedEnd) → IsEndOf s e → end_figures e ≡ figures_if_done s
+  figures_of_end (Done f) is = let done : is_done s.ending ≡ true = ap is_done is.ending in rw done
+      (ap (λ (g : _). g ∷ []) is.figures)
+  figures_of_end (Refused line why) is = let done : is_done s.ending ≡ false = ap is_done is in rw done refl
+  figures_of_end (Foreign line) is = let done : is_done s.ending ≡ false = ap is_done is in rw done refl
+
+-- ---- seeds that follow one another
+
+module _ (story : ℕ → Story) where
+  pub each_ended : (first : ℕ) (ends : List SeedEnd)
+      → ((k : ℕ) (d : SeedEnd) → k < length ends → HasEnd story (first + k) (get_or ends k d))
+      → AreEnds story first ends
+  each_ended first [] each = tt
+  each_ended first (e ∷ ends) each =
+      let here : first + 0 ≡ first = omega arith in (
+        subst (λ (n : ℕ). HasEnd story n e) here (each 0 e (omega arith)),
+        each_ended (first + 1) ends (λ k d lt.
+            let next : first + suc k ≡ first + 1 + k = omega arith in
+            subst (λ (n : ℕ). HasEnd story n (get_or ends k d)) next (each (suc k) d (omega arith))),
+      )
+
+  texts : (first : ℕ) (ends : List SeedEnd) → AreEnds story first ends
+      → ends_text first ends ≡ flat_map (λ seed. seed_text seed (story seed)) (numbers_from first (length ends))
+  texts first [] are = refl
+  texts first (e ∷ ends) are = rw (text_of_end (story first) first e are.0, texts (first + 1) ends are.1) refl
+
+  figures : (first : ℕ) (ends : List SeedEnd) → AreEnds story first ends → flat_map end_figures ends
+      ≡ flat_map (λ seed. figures_if_done (story seed)) (numbers_from first (length ends))
+  figures first [] are = refl
+  figures first (e ∷ ends) are = rw (figures_of_end (story first) e are.0, figures (first + 1) ends are.1) refl
+
+  done : (first : ℕ) (ends : List SeedEnd) → AreEnds story first ends → list_all end_is_done ends
+      ≡ list_all (λ seed. is_done (story seed).ending) (numbers_from first (length ends))
+  done first [] are = refl
+  done first (e ∷ ends) are = rw (done_of_end (story first) e are.0, done (first + 1) ends are.1) refl
+
+  module _ (first count : ℕ) (ends : List SeedEnd) (are : AreEnds story first ends) (len : length ends ≡ count) where
+    pub text_is : ends_text first ends ++ ranks_text (flat_map end_figures ends)
+        ≡ (outcome_over story (numbers_from first count)).text
+    text_is = rw (← len) (rw (texts first ends are, figures first ends are) refl)
+
+    pub status_is : ends_status ends ≡ (outcome_over story (numbers_from first count)).status
+    status_is = rw (← len) (rw (done first ends are) refl)
+
+-- the ends that all are there
+pub ends_there : (ends : List SeedEnd) (found : List (Option SeedEnd)) (P : ℕ → SeedEnd → Type 0)
+    → map Some ends ≡ found
+    → ((k : ℕ) (d : Option SeedEnd) → k < length found → IfSome (get_or found k d) (P k))
+    → (k : ℕ) (d : SeedEnd) → k < length ends → P k (get_or ends k d)
+ends_there ends found P all each k d lt =
+    let there : k < length found = omega (arith, lt, ap length all, length-map ends Some) in
+    let is : get_or found k (Some d) ≡ Some (get_or ends k d) =
+    ap (λ (os : List (Option SeedEnd)). get_or os k (Some d)) (sym all) ∙ get_or-map Some ends k d (Some d) lt in
+    subst (λ (o : Option SeedEnd). IfSome o (P k)) is (each k (Some d) there)
+
+-- ---- what is written
+
+status_cases : (ends : List SeedEnd) → (ends_status ends ≡ lab.Done) ⊎ (ends_status ends ≡ lab.Refused)
+status_cases ends = elim (cases_Bool (list_all end_is_done ends)) [
+  | inl all ↦ inl (rw all refl)
+  | inr other ↦ inr (rw other refl)
+]
+
+not_failing : (ends : List SeedEnd) (P : LabStatus → Type 0) → P lab.Done → P lab.Refused → P (ends_status ends)
+not_failing ends P d r = elim (status_cases ends) [
+  | inl e ↦ subst P (sym e) d
+  | inr e ↦ subst P (sym e) r
+]
+
+module _ (it : Outcome) (old : Option (List ℕ)) (Failed : Type 0) where
+  pub unwritten : WritesSeeds it old old Failed lab.NoMemory
+  unwritten = record {
+    end = λ e. absurd e;
+    text = λ e. absurd e;
+    prefix = front_so_far old old [] it.text it.text refl (λ e. absurd cc) (nothing_gained old);
+    write_fault = λ e. absurd cc;
+    others = inr (inr refl);
+    never_usage = λ e. absurd cc;
+    never_read_fault = λ e. absurd cc;
+  }
+
+  module _ (new : Option (List ℕ)) (text : List ℕ) (is : text ≡ it.text) where
+    pub fell_short : (n : ℕ) → n < length text → GainsText old new (take n text) → Failed
+        → WritesSeeds it old new Failed lab.WriteFault
+    fell_short n lt gained failed = record {
+      end = λ e. absurd e;
+      text = λ e. absurd e;
+      prefix = subst (λ (t : List ℕ). GainsFront old new t (lab.WriteFault ≡ lab.WriteFault)) is
+          (front_taken old new n text lt gained);
+      write_fault = λ e. failed;
+      others = inr (inl refl);
+      never_usage = λ e. absurd cc;
+      never_read_fault = λ e. absurd cc;
+    }
+
+    pub written : (ends : List SeedEnd) → ends_status ends ≡ it.status → GainsText old new text
+        → WritesSeeds it old new Failed (ends_status ends)
+    written ends same gained =
+        let whole : ends_status ends ≢ lab.WriteFault =
+        not_failing ends (λ (s : LabStatus). s ≡ lab.WriteFault → ⊥) (λ e. absurd cc) (λ e. absurd cc) in
+        let gains : GainsText old new it.text = subst (GainsText old new) is gained in
+        record {
+          end = λ e. same;
+          text = λ e. gains;
+          prefix = front_whole old new it.text whole gains;
+          write_fault = λ e. absurd (whole e);
+          others = inl same;
+          never_usage = not_failing ends (λ (s : LabStatus). s ≡ lab.Usage → ⊥) (λ e. absurd cc) (λ e. absurd cc);
+          never_read_fault =
+              not_failing ends (λ (s : LabStatus). s ≡ lab.ReadFault → ⊥) (λ e. absurd cc) (λ e. absurd cc);
+        }
+
+-- ---- over an input
+
+-- the outcome of a script that was read is that of the input
+same_outcome : (first last count : ℕ) → count ≡ last + 1 - first → (script : Kept) (a b : Option (List ℕ))
+    → Known a b (IsRead script) → IfSome (option_map (seeds_of first last) a)
+    (λ it. outcome_over (seed_story (lines_read script)) (numbers_from first count) ≡ it)
+same_outcome first last count e script None b known = tt
+same_outcome first last count e script (Some input) None known = absurd known
+same_outcome first last count e script (Some input) (Some rest) known =
+    ap (λ (n : ℕ). outcome_over (seed_story (lines_read script)) (numbers_from first n)) e
+    ∙ ap (λ (s : ScriptLines). outcome_over (seed_story s) (numbers_from first (last + 1 - first))) (sym known.whole)
+
+module _ (made : Outcome) (old new : Option (List ℕ)) (SourceFailed SinkFailed : Type 0) (status : LabStatus)
+    (w : WritesSeeds made old new SinkFailed status) where
+  writes_outcome : (o : Option Outcome) → IfSome o (λ it. made ≡ it) → WritesOutcome o old new status
+  writes_outcome None is = record { end = λ e. tt; text = λ e. tt; prefix = tt }
+  writes_outcome (Some it) is = record {
+    end = λ e. w.end e ∙ ap (λ (o : Outcome). o.status) is;
+    text = λ e. subst (λ (o : Outcome). GainsText old new o.text) is (w.text e);
+    prefix = subst (λ (o : Outcome). GainsFront old new o.text (status ≡ lab.WriteFault)) is w.prefix;
+  }
+
+  ended_so : (it : Outcome) → made ≡ it → (SinkFailed → ⊥) → (status ≡ it.status) ⊎ (status ≡ lab.NoMemory)
+  ended_so it is whole = elim w.others [
+    | inl same ↦ inl (same ∙ ap (λ (o : Outcome). o.status) is)
+    | inr (inl fault) ↦ absurd (whole (w.write_fault fault))
+    | inr (inr out) ↦ inr out
+  ]
+
+  has_cause : (o : Option Outcome) → IfSome o (λ it. made ≡ it) → HasCause o status SourceFailed SinkFailed
+  has_cause None is = record {
+    read_fault = λ e. absurd (w.never_read_fault e);
+    write_fault = w.write_fault;
+    complete = λ a b. tt;
+  }
+  has_cause (Some it) is = record {
+    read_fault = λ e. absurd (w.never_read_fault e);
+    write_fault = w.write_fault;
+    complete = λ a b. ended_so it is b;
+  }
+
+module _ (first last count : ℕ) (e : count ≡ last + 1 - first) (script : Kept) (a b old new : Option (List ℕ))
+    (known : Known a b (IsRead script)) (SourceFailed SinkFailed : Type 0) (status : LabStatus)
+    (w : WritesSeeds (outcome_over (seed_story (lines_read script)) (numbers_from first count)) old new SinkFailed
+    status) where
+  pub all_written : WritesOutcome (option_map (seeds_of first last) a) old new status
+  all_written = writes_outcome (outcome_over (seed_story (lines_read script)) (numbers_from first count)) old new
+      SourceFailed SinkFailed status w (option_map (seeds_of first last) a)
+      (same_outcome first last count e script a b known)
+
+  pub all_caused : HasCause (option_map (seeds_of first last) a) status SourceFailed SinkFailed
+  all_caused = has_cause (outcome_over (seed_story (lines_read script)) (numbers_from first count)) old new
+      SourceFailed SinkFailed status w (option_map (seeds_of first last) a)
+      (same_outcome first last count e script a b known)
+
+-- nothing was written, and the status is that of no end
+module _ (first last : ℕ) (a old : Option (List ℕ)) (SourceFailed SinkFailed : Type 0) where
+  none_written : (o : Option Outcome) (status : LabStatus) → (IsEnd status → ⊥) → status ≢ lab.WriteFault
+      → WritesOutcome o old old status
+  none_written None status not_end whole = record { end = λ e. tt; text = λ e. tt; prefix = tt }
+  none_written (Some it) status not_end whole = record {
+    end = λ e. absurd (not_end e);
+    text = λ e. absurd (not_end e);
+    prefix = front_so_far old old [] it.text it.text refl (λ e. absurd (whole e)) (nothing_gained old);
+  }
+
+  pub unread : WritesOutcome (option_map (seeds_of first last) a) old old lab.ReadFault
+  unread = none_written (option_map (seeds_of first last) a) lab.ReadFault (λ e. absurd e) (λ e. absurd cc)
+
+  pub out_of_memory : WritesOutcome (option_map (seeds_of first last) a) old old lab.NoMemory
+  out_of_memory = none_written (option_map (seeds_of first last) a) lab.NoMemory (λ e. absurd e) (λ e. absurd cc)
+
+  if_some : (o : Option Outcome) (P : Outcome → Type 0) → ((it : Outcome) → P it) → IfSome o P
+  if_some None P f = tt
+  if_some (Some it) P f = f it
+
+  pub unread_caused : SourceFailed → HasCause (option_map (seeds_of first last) a) lab.ReadFault SourceFailed SinkFailed
+  unread_caused failed = record {
+    read_fault = λ e. failed;
+    write_fault = λ e. absurd cc;
+    complete = λ no other. absurd (no failed);
+  }
+
+  pub memory_caused : HasCause (option_map (seeds_of first last) a) lab.NoMemory SourceFailed SinkFailed
+  memory_caused = record {
+    read_fault = λ e. absurd cc;
+    write_fault = λ e. absurd cc;
+    complete = λ no other. if_some (option_map (seeds_of first last) a)
+        (λ it. (lab.NoMemory ≡ it.status) ⊎ (lab.NoMemory ≡ lab.NoMemory)) (λ it. inr refl);
+  }
+
+-- ---- where all lines are taken, none was cut off
+
+never_done : (n : ℕ) (e : Ending) → is_done (ending_at n e) ≡ false
+never_done n ending.Done = refl
+never_done n (ending.Refused line number) = refl
+never_done n (ending.Foreign line) = refl
+
+cut_not_done : (cut : Bool) (n : ℕ) (s : Story) → is_done (cut_at cut n s).ending ≡ true → cut ≡ false
+cut_not_done false n s h = refl
+cut_not_done true n s h = absurd (both_ways (is_done (ending_at n s.ending)) (never_done n s.ending) h)
+
+done_test : (test : Bool) → (cond test lab.Done lab.Refused) ≡ lab.Done → test ≡ true
+done_test true e = refl
+done_test false e = absurd cc
+
+pub ended_whole : (script : Kept) (first count : ℕ) → 0 < count
+    → (outcome_over (seed_story (lines_read script)) (numbers_from first count)).status ≡ lab.Done
+    → script.cut ≡ false
+ended_whole script first zero some e = absurd (omega arith)
+ended_whole script first (suc count) some e =
+    let s = lines_read script in
+    let all = done_test (list_all (λ seed. is_done (seed_story s seed).ending) (numbers_from first (suc count))) e in
+    let here = and_parts (is_done (seed_story s first).ending)
+    (list_all (λ seed. is_done (seed_story s seed).ending) (numbers_from (first + 1) count)) all in
+    cut_not_done script.cut (length s.lines + 1) (story_from (given_of first) nothing_reached s.lines) here.0
+
+-- so the input was read to its end
+pub read_to_end : (script : Kept) (a b : Option (List ℕ)) → Known a b (IsRead script) → script.cut ≡ false
+    → IfSome a (λ input. b ≡ Some [])
+read_to_end script None b known whole = tt
+read_to_end script (Some input) None known whole = absurd known
+read_to_end script (Some input) (Some rest) known whole = ap (λ (octets : List ℕ). Some octets) (known.ended whole)

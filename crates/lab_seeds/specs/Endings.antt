@@ -1,0 +1,47 @@
+-- How stories ended, and what is kept of that.
+use Rattle.std.specs.Prelude.{◌≡◌, ⊤, ℕ, ◌+◌, Bool, true, false, List, [], ◌∷◌}
+use Rattle.script_report.specs.declared.refusal.Refusal.TheVariants.{Limit}
+use Rattle.script_report.specs.Refusals.{refusal_number}
+use Rattle.script_lines.specs.declared.stop.Stop.{Stop}
+use Rattle.script_lines.specs.declared.stop.Stop.TheVariants as stop
+use Rattle.script_story.specs.declared.ending.Ending.TheVariants as ending
+use Rattle.script_story.specs.Story.{Reached, Story}
+use Rattle.lab_seeds.specs.declared.end.SeedEnd.{SeedEnd}
+use Rattle.lab_seeds.specs.declared.end.SeedEnd.TheVariants.{Done, Refused, Foreign}
+use Rattle.lab_seeds.specs.declared.figures.Figures.{Figures}
+use Rattle.lab_seeds.specs.Counted.{figures_at}
+
+-- All lines of the story were taken, and so much was counted.
+pub record IsDoneWith (s : Story) (f : Figures) : Type 0 where
+  pub ending : s.ending ≡ ending.Done
+  pub figures : f ≡ figures_at s.world
+
+-- The story ended so.
+abbrev pub IsEndOf : Story → SeedEnd → Type 0
+IsEndOf s (Done f) = IsDoneWith s f
+IsEndOf s (Refused line why) = s.ending ≡ ending.Refused line (refusal_number why)
+IsEndOf s (Foreign line) = s.ending ≡ ending.Foreign line
+
+-- ---- as a script is carried out
+
+-- The end is that of a script that stops so at a line.
+abbrev pub IsEndAt : ℕ → Stop → SeedEnd → Type 0
+IsEndAt line (stop.Refused why) end = end ≡ Refused line why
+IsEndAt line stop.Foreign end = end ≡ Foreign line
+IsEndAt line stop.NoMemory end = ⊥
+
+-- The end is that of a script whose lines were taken, where another line may follow that leaves a limit.
+abbrev pub EndsAfter : Reached → Bool → SeedEnd → Type 0
+EndsAfter r true end = end ≡ Refused (r.lines + 1) Limit
+EndsAfter r false end = end ≡ Done (figures_at r.state.world)
+
+-- ---- seeds that follow one another
+
+-- The story of a seed ended so.
+abbrev pub HasEnd : (ℕ → Story) → ℕ → SeedEnd → Type 0
+HasEnd story seed e = IsEndOf (story seed) e
+
+-- These are how the stories of the seeds from the first on ended.
+abbrev pub AreEnds : (ℕ → Story) → ℕ → List SeedEnd → Type 0
+AreEnds story first [] = ⊤
+AreEnds story first (e ∷ ends) = IsEndOf (story first) e × AreEnds story (first + 1) ends

@@ -1,0 +1,12 @@
+pub use Rattle.repo_io.specs.Outside
+pub use Rattle.lab_text.specs.Outcomes
+pub mod Seeds
+pub mod Counted
+pub mod Ranks
+pub mod Texts
+pub mod Ends
+pub mod Inputs
+pub mod Reading
+pub mod Stories
+pub mod Endings
+pub mod Seeding

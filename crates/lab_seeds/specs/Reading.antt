@@ -1,0 +1,55 @@
+-- How a script is read, and what is kept of it.
+use Rattle.std.specs.Prelude.{◌≡◌, ⊤, ◌≤◌, ℕ, true, false, List, [], ◌∷◌, ◌++◌, map, Option, Some, None, Vec}
+use Rattle.std.specs.Prelude.{if◌then◌else◌}
+use Rattle.script_lang.specs.Limits.{script_lines, script_octets}
+use Rattle.lab_text.specs.Notes.{is_note}
+use Rattle.lab_seeds.specs.declared.input.ScriptLines.{ScriptLines as Kept}
+use Rattle.lab_seeds.specs.declared.input.SoFar.{SoFar}
+use Rattle.lab_seeds.specs.declared.input.Totals.{Totals}
+use Rattle.lab_seeds.specs.Inputs.{ScriptLines, fits, input_lines, input_octets, script_lines_are, script_of, with_line}
+
+-- ---- what is kept
+
+-- Lines, each without where it lies in memory.
+abbrev pub octets_of : {A : Type 0} → List (Vec ℕ A) → List (List ℕ)
+octets_of lines = map (λ line. line.items) lines
+
+-- The script that was read.
+abbrev pub lines_read : Kept → ScriptLines
+lines_read s = script_lines_are (octets_of s.lines.items) s.cut
+
+-- ---- one line
+
+-- The totals are within the limits.
+pub record AreWithin (t : Totals) : Type 0 where
+  pub lines : t.lines ≤ input_lines
+  pub octets : t.octets ≤ input_octets
+  pub script_lines : t.script_lines ≤ script_lines
+  pub script_octets : t.script_octets ≤ script_octets
+
+-- A line that is kept, unless it is a note.
+abbrev pub kept_line : List ℕ → List (List ℕ)
+kept_line line = if is_note line then [] else line ∷ []
+
+-- A line was taken, which leaves no limit.
+pub record Takes (old : SoFar) (line : List ℕ) (new : SoFar) : Type 0 where
+  pub fits : fits old.totals line ≡ true
+  pub totals : new.totals ≡ with_line old.totals line
+  pub lines : octets_of new.lines.items ≡ octets_of old.lines.items ++ kept_line line
+
+-- ---- an input
+
+-- Lines before those of a script.
+abbrev pub lines_before : List (List ℕ) → ScriptLines → ScriptLines
+lines_before front s = script_lines_are (front ++ s.lines) s.cut
+
+-- What holds of an input and of what is left of it, where both are known.
+abbrev pub Known : Option (List ℕ) → Option (List ℕ) → (List ℕ → List ℕ → Type 0) → Type 0
+Known None now P = ⊤
+Known (Some input) None P = ⊥
+Known (Some input) (Some rest) P = P input rest
+
+-- The script of an input was read: to its end, unless a line leaves a limit.
+pub record IsRead (script : Kept) (input rest : List ℕ) : Type 0 where
+  pub whole : script_of input ≡ lines_read script
+  pub ended : script.cut ≡ false → rest ≡ []

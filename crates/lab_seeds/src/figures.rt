@@ -1,0 +1,26 @@
+// What a script cost, and what came of it.
+#[derive(Clone, Copy)]
+pub(crate) struct Figures {
+    // The sync Interests that were sent.
+    pub(crate) syncs: u64,
+    // Those that were delivered.
+    pub(crate) delivered: u64,
+    // The attempts at parts.
+    pub(crate) attempts: u64,
+    // The parts that were fetched.
+    pub(crate) parts: u64,
+    // The octets that were fetched.
+    pub(crate) octets: u64,
+    // The entries that all members' catalogues list.
+    pub(crate) listed: u64,
+}
+
+// Those of a script without an event.
+pub(crate) const NO_FIGURES: Figures = Figures {
+    syncs: 0,
+    delivered: 0,
+    attempts: 0,
+    parts: 0,
+    octets: 0,
+    listed: 0,
+};
