@@ -1,0 +1,10 @@
+pub mod Folds
+pub mod LongLines
+pub mod Ends
+pub mod Runs
+pub mod Carryings
+pub mod Rests
+pub mod NotesAfter
+pub mod ReadAgain
+pub mod Transcripts
+pub mod LastLines

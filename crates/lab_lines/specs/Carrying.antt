@@ -1,0 +1,235 @@
+-- How a form is carried over the lines of an input, and how it ends.
+use Rattle.std.specs.Prelude.{◌≡◌, ◌≢◌, ⊤, ◌⊎◌, ℕ, ◌+◌, Bool, true, false, List, [], ◌∷◌, ◌++◌, ◌==◌, length, Option}
+use Rattle.std.specs.Prelude.{None, Result}
+use Rattle.std.specs.Prelude.{Ok, Err, IsOk, ◌<◌, ◌≤◌, take, if◌then◌else◌}
+use Rattle.std.specs.List.{concat, filter}
+use Rattle.std.specs.Io.KnownBytes.{IsAtEnd}
+use Rattle.repo_io.specs.declared.failed.Failed.{Failed}
+use Rattle.repo_io.specs.Lines.{IsWhole, lines}
+use Rattle.repo_io.specs.Outside.{GainsText, GainsFront}
+use Rattle.script_lang.specs.Lines.{ends_with}
+use Rattle.script_report.specs.Refusals.{refusal_number}
+use Rattle.script_story.specs.declared.ending.Ending.{Ending}
+use Rattle.script_story.specs.declared.ending.Ending.TheVariants as an_ending
+use Rattle.script_story.specs.Judging.{Given}
+use Rattle.script_story.specs.Story.{Reached}
+use Rattle.script_lines.specs.declared.stop.Stop.{Stop}
+use Rattle.script_lines.specs.declared.stop.Stop.TheVariants as stop
+use Rattle.script_lines.specs.Reading.{IsTooLong, LineIsBegun}
+use Rattle.script_lines.specs.Stopping.{stop_text}
+use Rattle.lab_text.specs.declared.status.LabStatus.{LabStatus}
+use Rattle.lab_text.specs.declared.status.LabStatus.TheVariants.{Done, Usage, Refused, ReadFault, WriteFault, NoMemory}
+use Rattle.lab_text.specs.declared.status.LabStatus.TheVariants.{Foreign, Differs}
+use Rattle.lab_text.specs.Outcomes.{IsEnd, Outcome}
+use Rattle.lab_text.specs.Transcripts.{shown_text}
+use Rattle.lab_lines.specs.declared.totals.Totals.{Totals}
+use Rattle.lab_lines.specs.declared.over.Over.{Over}
+use Rattle.lab_lines.specs.declared.over.Over.TheVariants.{Stopped, Faulted}
+use Rattle.lab_lines.specs.Folding.{FormOf, Lined, Passed, Ran, after_notes, after_stop, form_outcome, lined}
+use Rattle.lab_lines.specs.Folding.{most_octets}
+use Rattle.lab_lines.specs.Folding.{ran_from, ran_over, with_text}
+use Rattle.lab_lines.specs.Written.{WritesLines, can_be_judged}
+
+-- So many lines and octets were passed, and the script's lines among them came to this.
+abbrev pub passed : Totals → Reached → Passed
+passed totals reached = record { lines = totals.lines; octets = totals.octets; reached = reached }
+
+-- A form ran so.
+abbrev pub ran : {M : Type 0} → List ℕ → M → Ending → ℕ → Ran M
+ran text form ending read = record { text = text; form = form; ending = ending; read = read }
+
+-- The statuses of a form that didn't come to the end of its text, where the source did not fail.
+abbrev pub IsFailing : LabStatus → Type 0
+IsFailing Done = ⊥
+IsFailing Usage = ⊥
+IsFailing Refused = ⊥
+IsFailing ReadFault = ⊥
+IsFailing WriteFault = ⊤
+IsFailing NoMemory = ⊤
+IsFailing Foreign = ⊥
+IsFailing Differs = ⊥
+
+-- ---- a line
+
+-- A text was not written whole.
+pub record FallsShort (text : List ℕ) (old new : Option (List ℕ)) (status : LabStatus) : Type 0 where
+  pub failing : IsFailing status
+  pub prefix : GainsFront old new text (status ≡ WriteFault)
+
+-- A text was written, or not whole.
+abbrev pub Writes : List ℕ → Option (List ℕ) → Option (List ℕ) → Result (Unit {0}) LabStatus → Type 0
+Writes text old new (Ok x) = GainsText old new text
+Writes text old new (Err status) = FallsShort text old new status
+
+-- How a script ends that stops so at the line of this number.
+abbrev pub IsEndingOf : ℕ → Stop → Ending → Type 0
+IsEndingOf line (stop.Refused why) ending = ending ≡ an_ending.Refused line (refusal_number why)
+IsEndingOf line stop.Foreign ending = ending ≡ an_ending.Foreign line
+IsEndingOf line stop.NoMemory ending = ⊥
+
+-- The line of this number at which the script stops, as a form gets it.
+abbrev pub stopping_at : ℕ → List ℕ → Stop → Lined
+stopping_at number line why = lined number (shown_text line) (stop_text number why) None
+
+-- A form took the line at which the script stops so, and what it writes of that was written.
+pub record TakesStop {M : Type 0} (f : FormOf M) (number : ℕ) (line : List ℕ) (why : Stop) (m n : M)
+    (old new : Option (List ℕ)) (ending : Ending) : Type 0 where
+  pub ends : IsEndingOf number why ending
+  pub form : n ≡ f.line m (stopping_at number line why)
+  pub gained : GainsText old new (f.text m (stopping_at number line why))
+
+-- The same, or it was not written whole.
+abbrev pub IsStopWritten : {M : Type 0} → FormOf M → ℕ → List ℕ → Stop → M → M → Option (List ℕ) → Option (List ℕ)
+    → Over → Type 0
+IsStopWritten f number line why m n old new (Stopped ending) = TakesStop f number line why m n old new ending
+IsStopWritten f number line why m n old new (Faulted status) =
+    FallsShort (f.text m (stopping_at number line why)) old new status
+
+-- The next line was passed.
+pub record Passes {M : Type 0} (f : FormOf M) (given : Given) (p : Passed) (m : M) (line : List ℕ) (next : Passed)
+    (n : M) (old new : Option (List ℕ)) : Type 0 where
+  pub text : List ℕ
+  pub goes : (others : List (List ℕ))
+      → ran_from f given p m (line ∷ others) ≡ with_text text (ran_from f given next n others)
+  pub count : next.lines ≡ p.lines + 1
+  pub gained : GainsText old new text
+
+-- The script stops at the next line, and so many lines and octets were passed with it.
+pub record Halts {M : Type 0} (f : FormOf M) (given : Given) (p : Passed) (m : M) (line : List ℕ) (ending : Ending)
+    (totals : Totals) (n : M) (old new : Option (List ℕ)) : Type 0 where
+  pub text : List ℕ
+  pub lines : totals.lines ≡ p.lines + 1
+  pub octets : totals.octets ≡ p.octets + length line
+  pub not_done : ending ≢ an_ending.Done
+  pub goes : (others : List (List ℕ)) → ran_from f given p m (line ∷ others)
+      ≡ ran text (after_stop f totals.lines totals.octets n others) ending totals.lines
+  pub gained : GainsText old new text
+
+-- Memory ran out, or the sink failed.
+pub record Fails {M : Type 0} (f : FormOf M) (given : Given) (p : Passed) (m : M) (line : List ℕ)
+    (old new : Option (List ℕ)) (status : LabStatus) : Type 0 where
+  pub failing : IsFailing status
+  pub prefix : (others : List (List ℕ))
+      → GainsFront old new (ran_from f given p m (line ∷ others)).text (status ≡ WriteFault)
+
+-- Why no line follows.
+abbrev pub IsOver : {M : Type 0} → FormOf M → Given → Passed → M → List ℕ → Totals → M → Option (List ℕ)
+    → Option (List ℕ) → Over → Type 0
+IsOver f given p m line totals n old new (Stopped ending) = Halts f given p m line ending totals n old new
+IsOver f given p m line totals n old new (Faulted status) = Fails f given p m line old new status
+
+-- ---- the end
+
+-- The statuses of a form that didn't wait for its source.
+abbrev pub IsSettled : LabStatus → Type 0
+IsSettled Done = ⊤
+IsSettled Usage = ⊥
+IsSettled Refused = ⊤
+IsSettled ReadFault = ⊥
+IsSettled WriteFault = ⊤
+IsSettled NoMemory = ⊤
+IsSettled Foreign = ⊤
+IsSettled Differs = ⊤
+
+-- The text of an outcome was written, or a prefix of it.
+pub record Ends (o : Outcome) (old new : Option (List ℕ)) (status : LabStatus) : Type 0 where
+  pub same : IsEnd status → status ≡ o.status
+  pub text : IsEnd status → GainsText old new o.text
+  pub prefix : GainsFront old new o.text (status ≡ WriteFault)
+
+-- Octets up to the first line feed, and it,
+unfoldable pub through_feed : List ℕ → List ℕ
+through_feed [] = []
+through_feed (octet ∷ octets) = if octet == 10 then octet ∷ [] else octet ∷ through_feed octets
+
+-- and those after it.
+unfoldable pub after_feed : List ℕ → List ℕ
+after_feed [] = []
+after_feed (octet ∷ octets) = if octet == 10 then octets else after_feed octets
+
+-- What a form keeps after the script stopped at a line that begins so, where so many lines and octets were passed with
+-- that, and these octets follow.
+abbrev pub after_stop_at : {M : Type 0} → FormOf M → ℕ → ℕ → M → List ℕ → List ℕ → M
+after_stop_at f passed octets m line more =
+    if ends_with 10 line then after_stop f passed octets m (lines more)
+    else after_stop f passed (octets + length (through_feed more)) m (lines (after_feed more))
+
+-- Octets were read.
+pub record HasRead (old new : List ℕ) : Type 0 where
+  pub octets : List ℕ
+  pub are : old ≡ octets ++ new
+
+-- The statuses of a form that read notes and didn't come to their end.
+abbrev pub IsUnread : LabStatus → Type 0
+IsUnread Done = ⊥
+IsUnread Usage = ⊥
+IsUnread Refused = ⊥
+IsUnread ReadFault = ⊤
+IsUnread WriteFault = ⊥
+IsUnread NoMemory = ⊤
+IsUnread Foreign = ⊥
+IsUnread Differs = ⊥
+
+-- So many octets are at the front of what is held, and the line ends with them or not: they are a line with its line
+-- feed, they are more than a line may have and no line feed was read, or they are the last line.
+pub record IsPiece (held : List ℕ) (left : Option (List ℕ)) (count : ℕ) (ended : Bool) : Type 0 where
+  pub within : count ≤ length held
+  pub kind : (IsWhole (take count held) × (ended ≡ true))
+      ⊎ ((IsTooLong held × (count ≡ length held) × (ended ≡ false))
+      ⊎ (LineIsBegun held × (count ≡ length held) × (ended ≡ true) × IsAtEnd left))
+
+-- What was left of a line was passed, or so much of it that nothing after it is within the limits.
+pub record RestIsPassed (old new : Totals) (held left : List ℕ) (result : Result (Unit {0}) Failed)
+    (before now : List ℕ) : Type 0 where
+  pub lines : new.lines ≡ old.lines
+  pub read : HasRead (held ++ before) (left ++ now)
+  pub passed : IsOk result
+      → ((new.octets ≡ old.octets + length (through_feed (held ++ before)))
+      × (left ++ now ≡ after_feed (held ++ before)))
+      ⊎ ((most_octets < new.octets) × (new.octets ≤ old.octets + length (through_feed (held ++ before))))
+
+-- A form took the notes with which what was left begins.
+pub record NotesAreRead {M : Type 0} (f : FormOf M) (totals : Totals) (m n : M) (held : List ℕ)
+    (result : Result (Unit {0}) LabStatus) (before now : List ℕ) : Type 0 where
+  pub read : HasRead (held ++ before) now
+  pub notes : IsOk result → n ≡ after_notes f totals.lines totals.octets m (lines (held ++ before))
+
+-- The same after a line, whose end was passed or not.
+pub record RestIsRead {M : Type 0} (f : FormOf M) (ended : Bool) (totals : Totals) (m n : M) (held : List ℕ)
+    (result : Result (Unit {0}) LabStatus) (before now : List ℕ) : Type 0 where
+  pub read : HasRead (held ++ before) now
+  pub notes : IsOk result → n ≡ (
+      if ended then after_notes f totals.lines totals.octets m (lines (held ++ before))
+      else after_notes f totals.lines (totals.octets + length (through_feed (held ++ before))) m
+      (lines (after_feed (held ++ before))))
+
+-- The script stopped at a line that begins so, and the form ended.
+pub record EndsAfter {M : Type 0} (f : FormOf M) (ending : Ending) (passed octets : ℕ) (m : M) (line held : List ℕ)
+    (old new : Option (List ℕ)) (status : LabStatus) (before now : List ℕ) : Type 0 where
+  pub ends : Ends (f.end (after_stop_at f passed octets m line (held ++ before)) ending) old new status
+  pub unread : status ≡ ReadFault → GainsText old new []
+  pub read : HasRead (held ++ before) now
+  pub unread_rest : f.reads_on ≡ false → now ≡ before
+
+-- ---- a run
+
+-- Lines were passed, and then these octets are held.
+pub record Carried {M : Type 0} (f : FormOf M) (given : Given) (begun : M) (held : List ℕ) (p : Passed) (m : M)
+    (old new : Option (List ℕ)) (input rest : List ℕ) : Type 0 where
+  pub done : List (List ℕ)
+  pub octets : List ℕ
+  pub text : List ℕ
+  pub parts : input ≡ octets ++ (held ++ rest)
+  pub cut : (more : List ℕ) → lines (octets ++ more) ≡ done ++ lines more
+  pub joined : concat done ≡ octets
+  pub count : p.lines ≡ length done
+  pub judged : filter can_be_judged done ≡ done
+  pub goes : (others : List (List ℕ))
+      → ran_over f given begun (done ++ others) ≡ with_text text (ran_from f given p m others)
+  pub gained : GainsText old new text
+
+-- What comes of a form over a known input.
+pub record RunEnds {M : Type 0} (f : FormOf M) (given : Given) (begun : M) (old new : Option (List ℕ))
+    (status : LabStatus) (input rest : List ℕ) : Type 0 where
+  pub ends : Ends (form_outcome f given begun input) old new status
+  pub lines : WritesLines f given begun old new status input rest

@@ -1,0 +1,171 @@
+-- What a form of the lab makes of the lines of a script and of the notes between them.
+use Rattle.std.specs.Prelude.{ℕ, ◌+◌, Bool, ◌&&◌, List, [], ◌∷◌, ◌++◌, length, Option, Some, None, nat_lt, nat_le}
+use Rattle.std.specs.Prelude.{if◌then◌else◌}
+use Rattle.script_lang.specs.Limits.{line_octets}
+use Rattle.script_report.specs.declared.refusal.Refusal.TheVariants.{Limit}
+use Rattle.script_report.specs.Refusals.{refusal_number, refusal_text}
+use Rattle.script_report.specs.Texts.{foreign_text}
+use Rattle.script_story.specs.declared.ending.Ending.{Ending}
+use Rattle.script_story.specs.declared.ending.Ending.TheVariants as ending
+use Rattle.script_story.specs.Judging.{Given, State, Verdict, says, foreign, refused, unjudged}
+use Rattle.script_story.specs.Story.{Reached, judged_next, nothing_reached, reached_behind}
+use Rattle.repo_io.specs.Lines.{lines}
+use Rattle.lab_text.specs.LineTexts.{without_feed}
+use Rattle.lab_text.specs.Notes.{is_note}
+use Rattle.lab_text.specs.Transcripts.{shown_text}
+use Rattle.lab_text.specs.Outcomes.{Outcome}
+
+-- ---- a form
+
+-- A line of the script that was carried out, or at which the script stops: its number among the script's lines, its
+-- octets as they are shown, its report, and what the lines up to it came to. At a line that stops the script the report
+-- is the `refused` or `foreign` line, and nothing comes after it.
+pub record Lined : Type 0 where
+  pub number : ℕ
+  pub line : List ℕ
+  pub report : List ℕ
+  pub after : Option State
+
+abbrev pub lined : ℕ → List ℕ → List ℕ → Option State → Lined
+lined number line report after = record { number = number; line = line; report = report; after = after }
+
+-- A form, which keeps a value from line to line.
+pub record FormOf (M : Type 0) : Type 0 where
+  -- What it keeps after a note,
+  pub note : M → List ℕ → M
+  -- and after a line of the script.
+  pub line : M → Lined → M
+  -- What it writes of a line of the script,
+  pub text : M → Lined → List ℕ
+  -- and at the end, with its status.
+  pub end : M → Ending → Outcome
+  -- After a line that stops the script it reads the notes right after that line.
+  pub reads_on : Bool
+
+-- ---- the lines of an input
+
+-- Lines of an input, notes among them.
+abbrev pub most_lines : ℕ
+most_lines = 1000000
+
+-- Octets of an input, notes among them.
+abbrev pub most_octets : ℕ
+most_octets = 300000000
+
+-- A line more is within these limits and the length of a line, after so many lines and octets.
+abbrev pub fits : ℕ → ℕ → List ℕ → Bool
+fits lines octets line = nat_lt lines most_lines
+    && (nat_le (octets + length line) most_octets && nat_le (length (without_feed line)) line_octets)
+
+-- How many lines and octets of the input were passed, and what the script's lines among them came to.
+pub record Passed : Type 0 where
+  pub lines : ℕ
+  pub octets : ℕ
+  pub reached : Reached
+
+abbrev pub nothing_passed : Passed
+nothing_passed = record { lines = 0; octets = 0; reached = nothing_reached }
+
+-- The same after one more note,
+abbrev pub after_note : Passed → List ℕ → Passed
+after_note p line = record { lines = p.lines + 1; octets = p.octets + length line; reached = p.reached }
+
+-- and after one more line of the script, which had this report.
+abbrev pub after_line : Passed → List ℕ → List ℕ → State → Passed
+after_line p line report next = record {
+  lines = p.lines + 1;
+  octets = p.octets + length line;
+  reached = reached_behind p.reached line report next;
+}
+
+-- The next line is a note, or a line of the script that is judged so.
+pub data NextLine : Type 0 where
+  noted : NextLine
+  scripted : Verdict → NextLine
+
+-- A line beyond the limits is refused, a note too.
+abbrev pub next_line : Given → Passed → List ℕ → NextLine
+next_line given p line =
+    if fits p.lines p.octets line then (if is_note line then noted else scripted (judged_next given p.reached line))
+    else scripted (refused Limit)
+
+-- ---- a form over lines
+
+-- What was written of lines, what the form keeps after them, how the script ends, and how many lines were read up to
+-- its end.
+pub record Ran (M : Type 0) : Type 0 where
+  pub text : List ℕ
+  pub form : M
+  pub ending : Ending
+  pub read : ℕ
+
+-- A text, and then what was written after it.
+abbrev pub with_text : {M : Type 0} → List ℕ → Ran M → Ran M
+with_text text ran = record { text = text ++ ran.text; form = ran.form; ending = ran.ending; read = ran.read }
+
+-- What a form keeps after the notes with which lines begin, so many lines and octets after the beginning of the input.
+unfoldable pub after_notes : {M : Type 0} → FormOf M → (passed octets : ℕ) → M → List (List ℕ) → M
+after_notes f passed octets m [] = m
+after_notes f passed octets m (line ∷ others) =
+    if fits passed octets line && is_note line
+    then after_notes f (passed + 1) (octets + length line) (f.note m line) others
+    else m
+
+-- The same of a form that reads on. Another one reads nothing more.
+abbrev pub after_stop : {M : Type 0} → FormOf M → (passed octets : ℕ) → M → List (List ℕ) → M
+after_stop f passed octets m others = if f.reads_on then after_notes f passed octets m others else m
+
+-- The script stops at a line.
+abbrev pub stops : {M : Type 0} → FormOf M → Passed → M → List ℕ → List (List ℕ) → Lined → Ending → Ran M
+stops f p m line others at ending = record {
+  text = f.text m at;
+  form = after_stop f (p.lines + 1) (p.octets + length line) (f.line m at) others;
+  ending = ending;
+  read = p.lines + 1;
+}
+
+-- A line that was taken, with its report and what the lines up to it came to.
+abbrev pub taken_line : Passed → List ℕ → List ℕ → State → Lined
+taken_line p line report next = lined (p.reached.lines + 1) (shown_text line) report (Some next)
+
+-- A line at which the script stops, and what is reported of that.
+abbrev pub stopping_line : Passed → List ℕ → List ℕ → Lined
+stopping_line p line report = lined (p.reached.lines + 1) (shown_text line) report None
+
+-- A line, and then the others. A line that no row judges would end the script as refused under 0, which is the number
+-- of no refusal.
+abbrev pub ran_line : {M : Type 0} → FormOf M → (Passed → M → Ran M) → Passed → M → List ℕ → List (List ℕ) → NextLine
+    → Ran M
+ran_line f go p m line others noted = go (after_note p line) (f.note m line)
+ran_line f go p m line others (scripted (says report next)) =
+    with_text (f.text m (taken_line p line report next))
+    (go (after_line p line report next) (f.line m (taken_line p line report next)))
+ran_line f go p m line others (scripted (refused why)) =
+    stops f p m line others (stopping_line p line (refusal_text (p.reached.lines + 1) why))
+    (ending.Refused (p.reached.lines + 1) (refusal_number why))
+ran_line f go p m line others (scripted foreign) =
+    stops f p m line others (stopping_line p line (foreign_text (p.reached.lines + 1)))
+    (ending.Foreign (p.reached.lines + 1))
+ran_line f go p m line others (scripted unjudged) =
+    stops f p m line others (stopping_line p line []) (ending.Refused (p.reached.lines + 1) 0)
+
+-- A form over lines that follow those that were passed.
+unfoldable pub ran_from : {M : Type 0} → FormOf M → Given → Passed → M → List (List ℕ) → Ran M
+ran_from f given p m [] = record { text = []; form = m; ending = ending.Done; read = p.lines }
+ran_from f given p m (line ∷ others) =
+    ran_line f (λ next form. ran_from f given next form others) p m line others (next_line given p line)
+
+-- A form over all lines.
+abbrev pub ran_over : {M : Type 0} → FormOf M → Given → M → List (List ℕ) → Ran M
+ran_over f given m input_lines = ran_from f given nothing_passed m input_lines
+
+-- What comes of a form at the end.
+abbrev pub outcome_of : {M : Type 0} → FormOf M → Ran M → Outcome
+outcome_of f ran = record {
+  text = ran.text ++ (f.end ran.form ran.ending).text;
+  status = (f.end ran.form ran.ending).status;
+}
+
+-- What comes of a form over an input.
+abbrev pub form_outcome : {M : Type 0} → FormOf M → Given → M → List ℕ → Outcome
+form_outcome f given m input = outcome_of f (ran_over f given m (lines input))

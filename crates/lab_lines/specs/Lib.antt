@@ -1,0 +1,10 @@
+pub use Rattle.repo_io.specs.InMemory
+pub use Rattle.repo_io.specs.Lines
+pub use Rattle.repo_io.specs.Outside
+pub use Rattle.lab_text.specs.Outcomes
+pub mod Folding
+pub mod Written
+pub mod Carrying
+pub mod Transcript
+pub mod Check
+pub mod Laws

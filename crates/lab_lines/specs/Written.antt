@@ -1,0 +1,51 @@
+-- What was taken of an input when a form of the lab ended, and what was written by then.
+use Rattle.std.specs.Prelude.{◌≡◌, ◌≤◌, ⊤, ℕ, ◌+◌, ◌-◌, Bool, false, ◌||◌, List, [], length, take, Option, Some, None}
+use Rattle.std.specs.Prelude.{nat_lt}
+use Rattle.std.specs.List.{concat, filter}
+use Rattle.script_lang.specs.Limits.{line_octets}
+use Rattle.script_story.specs.declared.ending.Ending.TheVariants as ending
+use Rattle.script_story.specs.Judging.{Given}
+use Rattle.repo_io.specs.Lines.{has_feed, lines}
+use Rattle.repo_io.specs.Outside.{GainsText}
+use Rattle.lab_text.specs.declared.status.LabStatus.{LabStatus}
+use Rattle.lab_text.specs.declared.status.LabStatus.TheVariants.{ReadFault}
+use Rattle.lab_text.specs.Outcomes.{IsEnd}
+use Rattle.lab_lines.specs.Folding.{FormOf, Ran, ran_over}
+
+-- What holds of an input and of what is left of it, where both are known.
+abbrev pub Known : Option (List ℕ) → Option (List ℕ) → (List ℕ → List ℕ → Type 0) → Type 0
+Known None now P = ⊤
+Known (Some input) None P = ⊥
+Known (Some input) (Some rest) P = P input rest
+
+-- The octets that were taken of an input of which these are left.
+abbrev pub taken : List ℕ → List ℕ → List ℕ
+taken input rest = take (length input - length rest) input
+
+-- A line that can be judged: its line feed is there, or it is too long, whatever follows.
+abbrev pub can_be_judged : List ℕ → Bool
+can_be_judged line = has_feed line || nat_lt line_octets (length line)
+
+-- The lines of the octets so far.
+abbrev pub lines_so_far : List ℕ → List (List ℕ)
+lines_so_far octets = filter can_be_judged (lines octets)
+
+-- Where the last of so many lines ends, as a number of octets.
+abbrev pub end_of_lines : ℕ → List ℕ → ℕ
+end_of_lines count input = length (concat (take count (lines input)))
+
+-- At most 65,536 octets past the end of so many lines were taken.
+abbrev pub IsTakenNear : ℕ → List ℕ → List ℕ → Type 0
+IsTakenNear count input rest = length input ≤ length rest + (end_of_lines count input + 65536)
+
+-- A form writes line by line.
+pub record WritesLines {M : Type 0} (f : FormOf M) (given : Given) (form : M) (old new : Option (List ℕ))
+    (status : LabStatus) (input rest : List ℕ) : Type 0 where
+  -- After `ReadFault` all was written that the form writes of the lines that were taken whole.
+  pub exact_after_read_fault : status ≡ ReadFault
+      → GainsText old new (ran_over f given form (lines_so_far (taken input rest))).text
+  -- Where a script is done, the input was read to its end.
+  pub read_to_end : IsEnd status → (ran_over f given form (lines input)).ending ≡ ending.Done → rest ≡ []
+  -- Unless the form reads on, at most 65,536 octets are taken past the end of the line that stops the script.
+  pub bounded : IsEnd status → f.reads_on ≡ false
+      → IsTakenNear (ran_over f given form (lines input)).read input rest

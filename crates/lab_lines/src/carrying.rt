@@ -1,0 +1,198 @@
+ghost use Rattle.std.specs.Prelude.{◌≡◌, ◌≤◌, ◌+◌, None, Err, length, IfErr, IfOk, OnOk, option_map};
+ghost use Rattle.repo_io.specs.Outside.{HasRisen};
+ghost use Rattle.script_story.specs.Judging.{given_by};
+ghost use Rattle.script_lines.specs.Scripts.{IsScript, reached};
+ghost use Rattle.script_lines.specs.Stopping.{stop_text};
+ghost use Rattle.lab_text.specs.Transcripts.{shown_text};
+ghost use Rattle.lab_lines.specs.Carrying.{Ends, IsEndingOf, IsOver, IsSettled, IsStopWritten, Passes, Writes, passed};
+ghost use Rattle.lab_lines.specs.Folding.{lined, most_lines, most_octets};
+
+use crate::form::Form;
+use crate::over::Over;
+use crate::totals::Totals;
+use bench_net::{Draws, Net};
+use lab_text::{LabStatus, is_note, shown_text};
+use repo_io::{Sink, write_whole};
+use script_lines::{Script, Stop, put_stop};
+use script_report::Refusal;
+use script_story::Ending;
+use std::alloc::{AllocError, Global};
+use std::thread::Threads;
+
+// The report of a line, and what a form writes of it.
+#[derive(Drop)]
+pub(crate) struct Page {
+    pub report: Vec<u8>,
+    pub text: Vec<u8>,
+}
+
+impl Page {
+    pub fn new(alloc: Global) -> Page {
+        Page {
+            report: Vec::new(alloc),
+            text: Vec::new(alloc),
+        }
+    }
+}
+
+// Passes the next line, its line feed with it, and writes what the form writes of it.
+pub(crate) fn pass_line<R: Threads + Sync, F: Form, K: Sink, N: Net + Sync, D: Draws>(
+    rt: &R,
+    script: Script,
+    line: &[u8],
+    totals: &mut Totals,
+    form: &mut F,
+    page: &mut Page,
+    sink: &mut K,
+    net: &N,
+    draws: &D,
+) -> Result<Script, Over>
+    requires is { IsScript script }
+    requires lines { totals.old.lines ≤ most_lines }
+    requires octets { totals.old.octets ≤ most_octets }
+    requires short { length line.now ≤ 65536 }
+    ensures passes { IfOk result (λ next. Passes F.form (given_by (D.draw draws.now) (N.passes net.now))
+        (passed totals.old (reached script)) form.old line.now (passed totals.new (reached next)) form.new
+        (K.out sink.old) (K.out sink.new)) }
+    ensures is { IfOk result IsScript }
+    ensures lines { IfOk result (λ _. totals.new.lines ≤ most_lines) }
+    ensures octets { IfOk result (λ _. totals.new.octets ≤ most_octets) }
+    ensures over { IfErr result (IsOver F.form (given_by (D.draw draws.now) (N.passes net.now))
+        (passed totals.old (reached script)) form.old line.now totals.new form.new
+        (K.out sink.old) (K.out sink.new)) }
+    ensures risen { result ≡ Err (Over.Faulted LabStatus.WriteFault)
+        → HasRisen (K.faults sink.old) (K.faults sink.new) }
+    ensures faults { K.faults sink.old ≤ K.faults sink.new }
+{
+    let number = script.next_line();
+    let fits = totals.fits(line);
+    totals.count(line);
+    if !fits {
+        return Err(stop_at(
+            number,
+            line,
+            Stop::Refused(Refusal::Limit),
+            form,
+            page,
+            sink,
+        ));
+    }
+    if is_note(line) {
+        return match form.note(line) {
+            Ok(()) => Ok(script),
+            Err(_) => Err(Over::Faulted(LabStatus::NoMemory)),
+        };
+    }
+    match script.take(rt, line, &mut page.report, net, draws) {
+        Ok(next) => match write_line(number, line, Some(&next), form, page, sink) {
+            Ok(()) => Ok(next),
+            Err(status) => Err(Over::Faulted(status)),
+        },
+        Err(stop) => Err(stop_at(number, line, stop, form, page, sink)),
+    }
+}
+
+// Writes that the script stops so at the line of this number.
+fn stop_at<F: Form, K: Sink>(
+    number: u32,
+    line: &[u8],
+    stop: Stop,
+    form: &mut F,
+    page: &mut Page,
+    sink: &mut K,
+) -> Over
+    ensures stops { IsStopWritten F.form number line.now stop form.old form.new (K.out sink.old) (K.out sink.new)
+        result }
+    ensures no_memory { stop ≡ Stop.NoMemory → (result ≡ Over.Faulted LabStatus.NoMemory)
+        × (K.out sink.new ≡ K.out sink.old) }
+    ensures risen { result ≡ Over.Faulted LabStatus.WriteFault
+        → HasRisen (K.faults sink.old) (K.faults sink.new) }
+    ensures faults { K.faults sink.old ≤ K.faults sink.new }
+{
+    let Ok(ending) = put_ending(&mut page.report, number, stop) else {
+        return Over::Faulted(LabStatus::NoMemory);
+    };
+    match write_line(number, line, None, form, page, sink) {
+        Ok(()) => Over::Stopped(ending),
+        Err(status) => Over::Faulted(status),
+    }
+}
+
+// Puts down why the script stops at the line of this number, in place of what stood there.
+fn put_ending(report: &mut Vec<u8>, line: u32, stop: Stop) -> Result<Ending, AllocError>
+    ensures ending { IfOk result (IsEndingOf line stop) }
+    ensures text { OnOk result (report.new.items ≡ stop_text line stop) }
+{
+    put_stop(report, line, stop)?;
+    match stop {
+        Stop::Refused(refusal) => Ok(Ending::Refused {
+            line,
+            number: refusal.number(),
+        }),
+        Stop::Foreign => Ok(Ending::Foreign { line }),
+        Stop::NoMemory => Err(AllocError),
+    }
+}
+
+// Writes what the form writes of a line that has the page's report.
+fn write_line<F: Form, K: Sink>(
+    number: u32,
+    line: &[u8],
+    after: Option<&Script>,
+    form: &mut F,
+    page: &mut Page,
+    sink: &mut K,
+) -> Result<(), LabStatus>
+    ensures writes { Writes (F.form.text form.old (lined number (shown_text line.now) page.old.report.items
+        (option_map (λ script. (reached script.now).state) after.entry))) (K.out sink.old) (K.out sink.new) result }
+    ensures kept { OnOk result (form.new ≡ F.form.line form.old (lined number (shown_text line.now)
+        page.old.report.items (option_map (λ script. (reached script.now).state) after.entry))) }
+    ensures risen { result ≡ Err LabStatus.WriteFault → HasRisen (K.faults sink.old) (K.faults sink.new) }
+    ensures faults { K.faults sink.old ≤ K.faults sink.new }
+{
+    page.text.clear();
+    match form.line(
+        number,
+        shown_text(line),
+        &page.report,
+        after,
+        &mut page.text,
+    ) {
+        Ok(()) => write_text(&page.text, sink),
+        Err(_) => Err(LabStatus::NoMemory),
+    }
+}
+
+// Writes a text.
+fn write_text<K: Sink>(text: &[u8], sink: &mut K) -> Result<(), LabStatus>
+    ensures writes { Writes text.now (K.out sink.old) (K.out sink.new) result }
+    ensures risen { result ≡ Err LabStatus.WriteFault → HasRisen (K.faults sink.old) (K.faults sink.new) }
+    ensures faults { K.faults sink.old ≤ K.faults sink.new }
+{
+    match write_whole(sink, text) {
+        Ok(()) => Ok(()),
+        Err(_) => Err(LabStatus::WriteFault),
+    }
+}
+
+// Ends the form with the script.
+pub(crate) fn end_form<F: Form, K: Sink>(
+    form: &mut F,
+    ending: Ending,
+    page: &mut Page,
+    sink: &mut K,
+) -> LabStatus
+    ensures ends { Ends (F.form.end form.old ending) (K.out sink.old) (K.out sink.new) result }
+    ensures settled { IsSettled result }
+    ensures risen { result ≡ LabStatus.WriteFault → HasRisen (K.faults sink.old) (K.faults sink.new) }
+    ensures faults { K.faults sink.old ≤ K.faults sink.new }
+{
+    page.text.clear();
+    let Ok(status) = form.end(ending, &mut page.text) else {
+        return LabStatus::NoMemory;
+    };
+    match write_text(&page.text, sink) {
+        Ok(()) => status,
+        Err(fault) => fault,
+    }
+}

@@ -1,0 +1,156 @@
+ghost use Rattle.std.specs.Prelude.{◌≡◌, ◌≢◌, ◌≤◌, []};
+ghost use Rattle.std.specs.Option.{option_map};
+ghost use Rattle.repo_io.specs.Lines.{lines};
+ghost use Rattle.repo_io.specs.Outside.{HasRisen};
+ghost use Rattle.script_story.specs.Judging.{given_by};
+ghost use Rattle.script_story.specs.Story.{nothing_reached};
+ghost use Rattle.script_lines.specs.Reading.{LineIsBegun};
+ghost use Rattle.script_lines.specs.Scripts.{IsScript, reached};
+ghost use Rattle.lab_text.specs.Outcomes.{HasCause, WritesOutcome};
+ghost use Rattle.lab_lines.specs.Carrying.{Ends, IsSettled, RunEnds, passed};
+ghost use Rattle.lab_lines.specs.Folding.{form_outcome, most_lines, most_octets, outcome_of, ran_from};
+ghost use Rattle.lab_lines.specs.Written.{Known, WritesLines};
+
+use crate::carrying::{Page, end_form, pass_line};
+use crate::form::Form;
+use crate::over::Over;
+use crate::reading_on::after_stop;
+use crate::totals::Totals;
+use bench_net::{Draws, Net};
+use lab_text::LabStatus;
+use repo_io::{Sink, Source};
+use script_lines::{LineReader, Next, Script};
+use script_story::Ending;
+use std::alloc::Global;
+use std::thread::Threads;
+
+/// Carries out the script of the source line by line for a form, and writes what the form writes: of each line before
+/// the next one is looked for, and then of the end. At most 65,536 octets are held that were read and not passed.
+pub fn run_form<R: Threads + Sync, F: Form, S: Source, K: Sink, N: Net + Sync, D: Draws>(
+    rt: &R,
+    alloc: Global,
+    form: &mut F,
+    source: &mut S,
+    sink: &mut K,
+    net: &N,
+    draws: &D,
+) -> LabStatus
+    // What was written is what the form makes of the script, and the status is its status, where source and sink know
+    // their octets. Whatever comes, it is a prefix of that text.
+    ensures writes { WritesOutcome (option_map (form_outcome F.form (given_by (D.draw draws.now) (N.passes net.now))
+        form.old) (S.left source.old)) (K.out sink.old) (K.out sink.new) result }
+
+    // The other answers have their causes. Memory may run out at any time.
+    ensures causes { HasCause (option_map (form_outcome F.form (given_by (D.draw draws.now) (N.passes net.now))
+        form.old) (S.left source.old)) result (HasRisen (S.faults source.old) (S.faults source.new))
+        (HasRisen (K.faults sink.old) (K.faults sink.new)) }
+    ensures never_usage { result ≢ LabStatus.Usage }
+
+    // The text of a line is written before the next line is looked for, and little is read past the line that stops the
+    // script.
+    ensures lines { Known (S.left source.old) (S.left source.new) (WritesLines F.form
+        (given_by (D.draw draws.now) (N.passes net.now)) form.old (K.out sink.old) (K.out sink.new) result) }
+{
+    let Ok(mut reader) = LineReader::new(alloc) else {
+        return LabStatus::NoMemory;
+    };
+    let mut page = Page::new(alloc);
+    run_lines(
+        rt,
+        Script::new(alloc),
+        form,
+        &mut reader,
+        &mut page,
+        source,
+        sink,
+        net,
+        draws,
+    )
+}
+
+// Passes one line after another, each before more is read than stands in the reader's room.
+fn run_lines<R: Threads + Sync, F: Form, S: Source, K: Sink, N: Net + Sync, D: Draws>(
+    rt: &R,
+    begun: Script,
+    form: &mut F,
+    reader: &mut LineReader,
+    page: &mut Page,
+    source: &mut S,
+    sink: &mut K,
+    net: &N,
+    draws: &D,
+) -> LabStatus
+    requires empty { reader.old ≡ [] }
+    requires begun { reached begun ≡ nothing_reached }
+    requires is { IsScript begun }
+    ensures runs { Known (S.left source.old) (S.left source.new) (RunEnds F.form
+        (given_by (D.draw draws.now) (N.passes net.now)) form.old (K.out sink.old) (K.out sink.new) result) }
+    ensures read_fault { result ≡ LabStatus.ReadFault → HasRisen (S.faults source.old) (S.faults source.new) }
+    ensures write_fault { result ≡ LabStatus.WriteFault → HasRisen (K.faults sink.old) (K.faults sink.new) }
+    ensures never_usage { result ≢ LabStatus.Usage }
+{
+    let mut script = begun;
+    let mut totals = Totals::new();
+    loop {
+        match reader.next(source) {
+            Ok(Next::Line(count)) => {
+                let line = reader.front(count);
+                script = match pass_line(
+                    rt,
+                    script,
+                    line,
+                    &mut totals,
+                    form,
+                    page,
+                    sink,
+                    net,
+                    draws,
+                ) {
+                    Ok(next) => next,
+                    Err(Over::Stopped(ending)) => {
+                        return after_stop(count, ending, totals, form, reader, page, source, sink);
+                    }
+                    Err(Over::Faulted(status)) => return status,
+                };
+                reader.pass(count);
+            }
+            Ok(Next::Last) => {
+                let line = reader.held();
+                return run_last(rt, script, line, totals, form, page, sink, net, draws);
+            }
+            Err(_) => return LabStatus::ReadFault,
+        }
+    }
+}
+
+// Passes the last line, if there is one, and ends.
+fn run_last<R: Threads + Sync, F: Form, K: Sink, N: Net + Sync, D: Draws>(
+    rt: &R,
+    script: Script,
+    line: &[u8],
+    totals: Totals,
+    form: &mut F,
+    page: &mut Page,
+    sink: &mut K,
+    net: &N,
+    draws: &D,
+) -> LabStatus
+    requires is { IsScript script }
+    requires last { LineIsBegun line.now }
+    requires lines { totals.lines ≤ most_lines }
+    requires octets { totals.octets ≤ most_octets }
+    ensures ends { Ends (outcome_of F.form (ran_from F.form (given_by (D.draw draws.now) (N.passes net.now))
+        (passed totals (reached script)) form.old (lines line.now))) (K.out sink.old) (K.out sink.new) result }
+    ensures settled { IsSettled result }
+    ensures write_fault { result ≡ LabStatus.WriteFault → HasRisen (K.faults sink.old) (K.faults sink.new) }
+{
+    if line.is_empty() {
+        return end_form(form, Ending::Done, page, sink);
+    }
+    let mut totals = totals;
+    match pass_line(rt, script, line, &mut totals, form, page, sink, net, draws) {
+        Ok(_) => end_form(form, Ending::Done, page, sink),
+        Err(Over::Stopped(ending)) => end_form(form, ending, page, sink),
+        Err(Over::Faulted(status)) => status,
+    }
+}
