@@ -1,0 +1,51 @@
+-- What comes of words over an input, and what the call of the lab answers, reads and writes of that.
+use Rattle.std.specs.Prelude.{◌≡◌, ◌↔◌, ⊤, ℕ, List, [], Option, Some, None, IfSome}
+use Rattle.std.specs.Option.{option_map}
+use Rattle.repo_io.specs.Outside.{GainsText}
+use Rattle.lab_text.specs.declared.status.LabStatus.{LabStatus}
+use Rattle.lab_text.specs.declared.status.LabStatus.TheVariants.{Done, Usage}
+use Rattle.lab_text.specs.Outcomes.{Outcome}
+use Rattle.lab_lines.specs.Check.{check_of}
+use Rattle.lab_lines.specs.Transcript.{transcript_form, transcript_of}
+use Rattle.lab_lines.specs.Written.{Known, WritesLines}
+use Rattle.lab_lint.specs.Linting.{lint_of}
+use Rattle.lab_seeds.specs.Seeding.{seeds_of}
+use Rattle.lab_seeds.specs.Stories.{given_of}
+use Rattle.lab_top.specs.declared.asked.Asked.{Asked}
+use Rattle.lab_top.specs.declared.asked.Asked.TheVariants.{Transcript, Check, Lint, Seeds}
+use Rattle.lab_top.specs.Usage.{usage_text}
+
+-- What comes of a form over an input.
+abbrev pub form_outcome : Asked → List ℕ → Outcome
+form_outcome (Transcript seed) input = transcript_of (given_of seed) input
+form_outcome (Check seed) input = check_of (given_of seed) input
+form_outcome Lint input = lint_of input
+form_outcome (Seeds s) input = seeds_of s.first s.last input
+
+abbrev pub usage_outcome : Outcome
+usage_outcome = record { text = usage_text; status = Usage }
+
+-- What comes of the words over an input, where it is known or not needed.
+abbrev pub lab_outcome : Option Asked → Option (List ℕ) → Option Outcome
+lab_outcome None input = Some usage_outcome
+lab_outcome (Some asked) input = option_map (form_outcome asked) input
+
+-- The words alone decide on `Usage`.
+pub record UsageIsOfWords (asked : Option Asked) (status : LabStatus) (SameSource : Type 0)
+    (old new : Option (List ℕ)) (SinkFailed : Type 0) : Type 0 where
+  -- It comes exactly where they are no form.
+  pub usage : (status ≡ Usage) ↔ (asked ≡ None)
+  -- Then nothing is read,
+  pub unread : status ≡ Usage → SameSource
+  -- and unless the sink fails the usage is written.
+  pub written : status ≡ Usage → (SinkFailed → ⊥) → GainsText old new usage_text
+
+-- What a form reads, and what it has written by then: a transcript is written line by line, and where all seeds are done
+-- the input was read to its end.
+abbrev pub ReadsInput : Option Asked → (left rest old new : Option (List ℕ)) → LabStatus → Type 0
+ReadsInput None left rest old new status = ⊤
+ReadsInput (Some (Transcript seed)) left rest old new status =
+    Known left rest (WritesLines transcript_form (given_of seed) (tt {0}) old new status)
+ReadsInput (Some (Check seed)) left rest old new status = ⊤
+ReadsInput (Some Lint) left rest old new status = ⊤
+ReadsInput (Some (Seeds s)) left rest old new status = status ≡ Done → IfSome left (λ _. rest ≡ Some [])
