@@ -475,8 +475,6 @@ def read_options():
         parser.error("an answer asks for --command")
     if options.kind == "interest" and not options.what and not options.full_name_of:
         parser.error("an Interest asks for a NAME or --full-name-of")
-    if options.kind == "sync" and not all(entry.rpartition("=")[2].isdecimal() for entry in options.what):
-        parser.error("a sync Interest asks for NODE=N, such as /alice=1")
     if options.line and not LINES[options.kind]:
         parser.error("no line of a script takes an answer")
     return options

@@ -1,13 +1,13 @@
 -- Lines that were passed, and how a form ends after them.
-use Rattle.std.proofs.Common.{◌≡◌, ◌≢◌, ℕ, ◌+◌, ◌-◌, ◌<◌, ◌≤◌, true, false, ltb, List, [], ◌∷◌, ◌++◌, length, take}
+use Rattle.std.proofs.Common.{◌≡◌, ◌≢◌, ℕ, ◌+◌, ◌-◌, ◌≤◌, false, ltb, List, [], ◌∷◌, ◌++◌, length, take}
 use Rattle.std.proofs.Common.{drop}
-use Rattle.std.proofs.Common.{Option, Some, None, refl, sym, ap, subst, ◌∙◌, append_assoc, length-append, arith, ◌⊎◌}
+use Rattle.std.proofs.Common.{Option, Some, None, refl, sym, ap, subst, ◌∙◌, append_assoc, length-append, arith}
 use Rattle.std.proofs.Common.{inl, inr}
 use Rattle.std.specs.List.{concat, filter}
 use Rattle.std.specs.Io.KnownBytes.{IsAtEnd, Keeps, prepend_known}
-use Rattle.std.proofs.KnownBytes.{Appends-nil, Appends-trans}
+use Rattle.std.proofs.KnownBytes.{Appends-trans}
 use Rattle.std.proofs.lemmas.Bool.{le-ltb, or_from}
-use Rattle.std.proofs.lemmas.List.{append-nil, take-append-drop, take_all}
+use Rattle.std.proofs.lemmas.List.{append-nil}
 use Rattle.std.proofs.lemmas.List.Elements.{filter-append}
 use Rattle.std.proofs.lemmas.List.Folds.{concat-append}
 use Rattle.std.proofs.Math.Seq.{take-append_seam, take-append-add}
@@ -16,12 +16,11 @@ use Rattle.repo_io.specs.Outside.{GainsText, GainsFront}
 use Rattle.repo_io.proofs.LineLaws.{open_line, whole_first}
 use Rattle.repo_io.proofs.Outputs.{front_behind, front_longer, nothing_gained}
 use Rattle.script_story.specs.declared.ending.Ending.{Ending}
-use Rattle.script_story.specs.declared.ending.Ending.TheVariants as an_ending
 use Rattle.script_story.specs.Judging.{Given}
-use Rattle.script_lines.specs.Reading.{HasLine, IsTooLong, LineIsBegun}
+use Rattle.script_lines.specs.Reading.{HasLine, LineIsBegun}
 use Rattle.lab_text.specs.declared.status.LabStatus.{LabStatus}
 use Rattle.lab_text.specs.declared.status.LabStatus.TheVariants.{ReadFault, WriteFault}
-use Rattle.lab_text.specs.Outcomes.{IsEnd, Outcome}
+use Rattle.lab_text.specs.Outcomes.{IsEnd}
 use Rattle.lab_lines.specs.declared.totals.Totals.{Totals}
 use Rattle.lab_lines.specs.Carrying.{Carried, Ends, EndsAfter, Fails, Halts, IsFailing, IsSettled, Passes, RunEnds}
 use Rattle.lab_lines.specs.Carrying.{after_stop_at, ran}

@@ -1,5 +1,5 @@
 -- What was written at the end.
-use Rattle.std.proofs.Common.{◌≡◌, ◌≢◌, ℕ, List, [], ◌++◌, Option, Some, None, IfSome, refl, sym, ap, subst, ◌∙◌, inl}
+use Rattle.std.proofs.Common.{◌≡◌, ◌≢◌, ℕ, List, [], ◌++◌, Option, Some, None, IfSome, refl, sym, subst, ◌∙◌, inl}
 use Rattle.std.proofs.Common.{inr}
 use Rattle.std.proofs.Common.{◌⊎◌}
 use Rattle.std.specs.Option.{option_map}
@@ -10,13 +10,10 @@ use Rattle.lab_text.specs.declared.status.LabStatus.{LabStatus}
 use Rattle.lab_text.specs.declared.status.LabStatus.TheVariants.{Done, Usage, Refused, ReadFault, WriteFault, NoMemory}
 use Rattle.lab_text.specs.declared.status.LabStatus.TheVariants.{Foreign, Differs}
 use Rattle.lab_text.specs.Outcomes.{HasCause, IsEnd, Outcome, WritesOutcome}
-use Rattle.lab_lines.specs.Carrying.{Ends, FallsShort, IsFailing, IsSettled, IsUnread}
+use Rattle.lab_lines.specs.Carrying.{Ends, IsFailing, IsSettled, IsUnread}
 use Rattle.lab_lines.specs.Written.{Known}
 
 -- ---- statuses
-
-pub never_short : (status : LabStatus) → IsEnd status → status ≡ WriteFault → ⊥
-never_short status end e = subst IsEnd e end
 
 pub failing_no_end : (status : LabStatus) → IsFailing status → IsEnd status → ⊥
 failing_no_end Done failing end = failing

@@ -1,5 +1,5 @@
 -- The last line of an input, or none.
-use Rattle.std.proofs.Common.{◌≡◌, ◌≢◌, ℕ, List, [], ◌∷◌, ◌++◌, Option, refl, sym, ap, subst, ◌∙◌, append_assoc}
+use Rattle.std.proofs.Common.{◌≡◌, ◌≢◌, ℕ, List, [], ◌∷◌, ◌++◌, Option, sym, ap, subst, ◌∙◌}
 use Rattle.std.proofs.lemmas.List.{append-nil}
 use Rattle.repo_io.specs.Lines.{lines}
 use Rattle.repo_io.specs.Outside.{GainsText}
@@ -10,11 +10,9 @@ use Rattle.script_story.specs.declared.ending.Ending.TheVariants as an_ending
 use Rattle.script_story.specs.Judging.{Given}
 use Rattle.script_lines.specs.Reading.{LineIsBegun}
 use Rattle.lab_text.specs.declared.status.LabStatus.{LabStatus}
-use Rattle.lab_text.specs.declared.status.LabStatus.TheVariants.{WriteFault}
-use Rattle.lab_text.specs.Outcomes.{Outcome}
 use Rattle.lab_lines.specs.declared.totals.Totals.{Totals}
 use Rattle.lab_lines.specs.Carrying.{Ends, Fails, Halts, Passes, ran}
-use Rattle.lab_lines.specs.Folding.{FormOf, Passed, Ran, after_stop, outcome_of, ran_from, with_text}
+use Rattle.lab_lines.specs.Folding.{FormOf, Passed, Ran, outcome_of, ran_from, with_text}
 use Rattle.lab_lines.proofs.Ends.{ends_after, ends_short}
 use Rattle.lab_lines.proofs.Folds.{no_lines}
 use Rattle.lab_lines.proofs.Runs.{nothing_after}

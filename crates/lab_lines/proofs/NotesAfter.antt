@@ -1,5 +1,5 @@
 -- The notes after the line that stops the script.
-use Rattle.std.proofs.Common.{◌≡◌, ◌≢◌, ℕ, ◌+◌, ◌-◌, ◌<◌, ◌≤◌, Bool, true, false, cond, leb, ltb, List, [], ◌∷◌, ◌++◌}
+use Rattle.std.proofs.Common.{◌≡◌, ◌≢◌, ℕ, ◌+◌, ◌<◌, Bool, true, false, leb, ltb, List, [], ◌∷◌, ◌++◌}
 use Rattle.std.proofs.Common.{length, take, drop, Option, Some, None, Result, Ok, Err, refl, sym, ap, subst, ◌∙◌}
 use Rattle.std.proofs.Common.{append_assoc, arith, ◌⊎◌, inl, inr}
 use Rattle.std.specs.Prelude.{◌&&◌, if◌then◌else◌}
@@ -8,14 +8,13 @@ use Rattle.std.proofs.lemmas.Bool.{and_left, and_parts, and_right, both_ways, ca
 use Rattle.std.proofs.lemmas.List.{append-nil, length-drop, nil_from_length, take_all}
 use Rattle.repo_io.specs.declared.failed.Failed.{Failed}
 use Rattle.repo_io.specs.Lines.{IsWhole, has_feed, lines}
-use Rattle.repo_io.specs.Outside.{GainsText}
 use Rattle.repo_io.proofs.LineLaws.{open_line, whole_first}
 use Rattle.repo_io.proofs.Outputs.{nothing_gained}
 use Rattle.script_lang.specs.Lines.{ends_with}
 use Rattle.script_lines.specs.Reading.{IsTooLong, LineIsBegun}
 use Rattle.script_story.specs.declared.ending.Ending.{Ending}
 use Rattle.lab_text.specs.declared.status.LabStatus.{LabStatus}
-use Rattle.lab_text.specs.declared.status.LabStatus.TheVariants.{ReadFault, WriteFault}
+use Rattle.lab_text.specs.declared.status.LabStatus.TheVariants.{ReadFault}
 use Rattle.lab_text.specs.LineTexts.{without_feed}
 use Rattle.lab_text.specs.Notes.{after_spaces, is_note}
 use Rattle.lab_lines.specs.declared.totals.Totals.{Totals}

@@ -1,13 +1,13 @@
 -- A form over a transcript: each line is judged as it was, and the notes after it are its report.
-use Rattle.std.proofs.Common.{◌≡◌, ◌≢◌, ℕ, ◌+◌, ◌<◌, ◌≤◌, Bool, true, false, not, leb, ltb, List, [], ◌∷◌, ◌++◌, map}
+use Rattle.std.proofs.Common.{◌≡◌, ℕ, ◌+◌, ◌<◌, ◌≤◌, true, false, not, leb, ltb, List, [], ◌∷◌, ◌++◌, map}
 use Rattle.std.proofs.Common.{length, take}
-use Rattle.std.proofs.Common.{Option, Some, None, refl, sym, ap, subst, ◌∙◌, append_assoc, length-append, arith, inl}
+use Rattle.std.proofs.Common.{Some, None, refl, sym, ap, subst, ◌∙◌, length-append, arith, inl}
 use Rattle.std.proofs.Common.{inr}
 use Rattle.std.specs.Prelude.{◌&&◌, ◌||◌}
-use Rattle.std.specs.List.{concat, list_all}
-use Rattle.std.proofs.lemmas.Bool.{and_cases, and_from, and_parts, and_right, both_ways, cases_Bool, le-leb}
+use Rattle.std.specs.List.{concat}
+use Rattle.std.proofs.lemmas.Bool.{and_from, and_parts, and_right, both_ways, cases_Bool, le-leb}
 use Rattle.std.proofs.lemmas.Bool.{leb-false, leb-true}
-use Rattle.std.proofs.lemmas.Bool.{lt-leb, lt-ltb, or_cases}
+use Rattle.std.proofs.lemmas.Bool.{lt-leb, lt-ltb}
 use Rattle.std.proofs.lemmas.List.{append-nil, length-take, take_all}
 use Rattle.repo_io.specs.Lines.{IsWhole, has_feed, lines}
 use Rattle.script_report.specs.Refusals.{refusal_number, refusal_text}
@@ -25,13 +25,13 @@ use Rattle.lab_text.proofs.NoteTexts.{is_a_note, shown_of_whole}
 use Rattle.lab_text.proofs.TranscriptLaws.{lines_of_both}
 use Rattle.lab_lines.specs.Folding.{FormOf, Lined, NextLine, Passed, Ran, after_line, after_note, after_notes}
 use Rattle.lab_lines.specs.Folding.{after_stop}
-use Rattle.lab_lines.specs.Folding.{fits, lined, most_lines, most_octets, next_line, noted, ran_from, ran_line}
+use Rattle.lab_lines.specs.Folding.{fits, lined, most_lines, most_octets, next_line, noted, ran_from}
 use Rattle.lab_lines.specs.Folding.{scripted}
 use Rattle.lab_lines.specs.Folding.{stopping_line, stops, taken_line, with_text}
 use Rattle.lab_lines.specs.Transcript.{transcript_form}
 use Rattle.lab_lines.specs.Laws.{notes_fit}
 use Rattle.lab_lines.proofs.LongLines.{not_ended}
-use Rattle.lab_lines.proofs.Folds.{by_next, judged_line, line_beyond, no_lines, noted_line}
+use Rattle.lab_lines.proofs.Folds.{by_next, judged_line, line_beyond, noted_line}
 
 -- ---- what fits
 

@@ -1,27 +1,18 @@
 -- What a form reads after the line that stops the script.
-use Rattle.std.proofs.Common.{◌≡◌, ◌≢◌, ℕ, zero, suc, ◌+◌, ◌-◌, ◌<◌, ◌≤◌, Bool, true, false, cond, eqb, leb, List, []}
-use Rattle.std.proofs.Common.{◌∷◌}
-use Rattle.std.proofs.Common.{◌++◌, length, take, drop, Option, Some, None, Result, Ok, Err, refl, sym, ap, subst, ◌∙◌}
+use Rattle.std.proofs.Common.{◌≡◌, ℕ, ◌+◌, ◌<◌, true, false, List, []}
+use Rattle.std.proofs.Common.{◌++◌, length, take, drop, Option, Some, None, Ok, sym, ap, subst, ◌∙◌}
 use Rattle.std.proofs.Common.{append_assoc, length-append, arith, ◌⊎◌, inl, inr}
-use Rattle.std.specs.Prelude.{IsOk, ◌&&◌}
 use Rattle.std.specs.Io.KnownBytes.{IsAtEnd, Keeps, prepend_known}
-use Rattle.std.proofs.lemmas.Bool.{and_left, and_right, cases_Bool, false≢true, lt-leb, true≢false}
+use Rattle.std.proofs.lemmas.Bool.{false≢true, true≢false}
 use Rattle.std.proofs.lemmas.List.{append-nil, length-drop, nil_from_length, take_all}
-use Rattle.repo_io.specs.declared.failed.Failed.{Failed}
-use Rattle.repo_io.specs.Lines.{IsWhole, has_feed, lines}
-use Rattle.repo_io.specs.Outside.{GainsText}
-use Rattle.repo_io.proofs.LineLaws.{first_line, open_line, whole_first}
-use Rattle.repo_io.proofs.Outputs.{nothing_gained}
-use Rattle.script_lang.specs.Lines.{ends_with}
+use Rattle.repo_io.specs.Lines.{IsWhole, has_feed}
 use Rattle.script_lines.specs.Reading.{IsTooLong, LineIsBegun}
-use Rattle.script_story.specs.declared.ending.Ending.{Ending}
-use Rattle.lab_text.specs.Notes.{is_note}
 use Rattle.lab_lines.specs.declared.totals.Totals.{Totals}
-use Rattle.lab_lines.specs.Carrying.{HasRead, IsPiece, NotesAreRead, RestIsPassed, RestIsRead, after_feed, through_feed}
-use Rattle.lab_lines.specs.Folding.{FormOf, after_notes, fits, most_octets}
+use Rattle.lab_lines.specs.Carrying.{IsPiece, RestIsPassed, after_feed, through_feed}
+use Rattle.lab_lines.specs.Folding.{most_octets}
 use Rattle.lab_lines.specs.Written.{Known}
 use Rattle.lab_lines.proofs.Ends.{known_map}
-use Rattle.lab_lines.proofs.LongLines.{first_of, free_cut, free_joined, long_beyond, long_some, open_cut, whole_cut}
+use Rattle.lab_lines.proofs.LongLines.{free_cut, free_joined, open_cut, whole_cut}
 use Rattle.lab_lines.proofs.Runs.{held_parts}
 
 -- ---- a line that is passed to its end
@@ -34,7 +25,7 @@ pub record Passing (old new : Totals) (entry left before now : List ℕ) : Type 
   pub count : new.octets ≡ old.octets + length octets
   pub lines : new.lines ≡ old.lines
 
--- a part of a line that goes on has no line feed, and some octets
+-- a part of a line that goes on has no line feed
 pub part_free : (left : List ℕ) (now : Option (List ℕ)) (count : ℕ) → IsPiece left now count false
     → has_feed (take count left) ≡ false
 part_free left now count piece = by_kind piece.kind where
@@ -45,20 +36,6 @@ part_free left now count piece = by_kind piece.kind where
   by_kind (inr (inl long)) =
       subst (λ (x : List ℕ). has_feed x ≡ false) (sym (take_all count left (omega (arith, long.1)))) long.0.free
   by_kind (inr (inr last)) = absurd (false≢true last.2)
-
-pub part_some : (left : List ℕ) (now : Option (List ℕ)) (count : ℕ) → IsPiece left now count false
-    → 32768 < length (take count left)
-part_some left now count piece = by_kind piece.kind where
-  by_kind : (IsWhole (take count left) × (false ≡ true))
-      ⊎ ((IsTooLong left × (count ≡ length left) × (false ≡ false))
-      ⊎ (LineIsBegun left × (count ≡ length left) × (false ≡ true) × IsAtEnd now)) → 32768 < length (take count left)
-  by_kind (inl whole) = absurd (false≢true whole.1)
-  by_kind (inr (inl long)) =
-      omega (arith, long.0.long, ap length (take_all count left (omega (arith, long.1))))
-  by_kind (inr (inr last)) = absurd (false≢true last.2)
-
-pub passing_none : (t : Totals) (entry before : List ℕ) → Passing t t entry entry before before
-passing_none t entry before = record { octets = []; free = refl; are = refl; count = omega arith; lines = refl }
 
 module _ (old t : Totals) (entry left before now : List ℕ) (p : Passing old t entry left before now) where
   pub passing_read : (left' now' : List ℕ) → left' ++ now' ≡ left ++ now → Passing old t entry left' before now'
@@ -137,14 +114,6 @@ module _ (old t : Totals) (entry left before now : List ℕ) (p : Passing old t 
         );
   }
 
-  -- the source failed
-  pub passed_unread : (e : Failed) → RestIsPassed old t entry left (Err e) before now
-  passed_unread e = record {
-    lines = p.lines;
-    read = record { octets = p.octets; are = p.are };
-    passed = λ ok. absurd (false≢true ok);
-  }
-
 -- ---- the same where the input may not be known
 
 module _ (old t : Totals) (entry : List ℕ) where
@@ -192,8 +161,3 @@ module _ (old t : Totals) (entry : List ℕ) where
       → Known before now (Passing old t entry left) → Known before now (RestIsPassed old t entry left (Ok tt))
   known_over left before now over = known_map (Passing old t entry left) (RestIsPassed old t entry left (Ok tt))
       (λ input rest p. passed_over old t entry left input rest p over) before now
-
-  pub known_unpassed : (left : List ℕ) (e : Failed) (before now : Option (List ℕ))
-      → Known before now (Passing old t entry left) → Known before now (RestIsPassed old t entry left (Err e))
-  known_unpassed left e before now = known_map (Passing old t entry left) (RestIsPassed old t entry left (Err e))
-      (λ input rest p. passed_unread old t entry left input rest p e) before now

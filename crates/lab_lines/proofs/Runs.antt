@@ -1,38 +1,32 @@
 -- A form over an input: lines that were passed, and how it may end.
-use Rattle.std.proofs.Common.{◌≡◌, ◌≢◌, ℕ, zero, suc, ◌+◌, ◌-◌, ◌<◌, ◌≤◌, true, false, List, [], ◌∷◌, ◌++◌, length}
+use Rattle.std.proofs.Common.{◌≡◌, ℕ, ◌+◌, ◌≤◌, List, [], ◌∷◌, ◌++◌, length}
 use Rattle.std.proofs.Common.{take}
 use Rattle.std.proofs.Common.{drop, Option, None, refl, sym, ap, subst, ◌∙◌, append_assoc, length-append, arith, ◌⊎◌}
 use Rattle.std.proofs.Common.{inl, inr}
-use Rattle.std.specs.List.{concat, filter}
-use Rattle.std.proofs.KnownBytes.{Appends-trans}
+use Rattle.std.specs.List.{filter}
 use Rattle.std.proofs.lemmas.Bool.{cases_Bool}
-use Rattle.std.proofs.lemmas.List.{append-nil, take-append-drop, take-append-le, take_all}
-use Rattle.std.proofs.lemmas.List.Elements.{filter-append}
-use Rattle.std.proofs.lemmas.List.Folds.{concat-append}
-use Rattle.std.proofs.Math.Seq.{take-append_seam, take-append-add}
-use Rattle.repo_io.specs.Lines.{IsWhole, has_feed, lines}
-use Rattle.repo_io.specs.Outside.{GainsText, GainsFront}
-use Rattle.repo_io.proofs.LineLaws.{open_line, whole_first}
+use Rattle.std.proofs.lemmas.List.{append-nil, take-append-drop, take_all}
+use Rattle.repo_io.specs.Lines.{IsWhole, lines}
+use Rattle.repo_io.specs.Outside.{GainsFront}
+use Rattle.repo_io.proofs.LineLaws.{whole_first}
 use Rattle.script_report.specs.declared.refusal.Refusal.TheVariants.{Limit}
 use Rattle.script_story.specs.declared.ending.Ending.{Ending}
 use Rattle.script_story.specs.declared.ending.Ending.TheVariants as an_ending
-use Rattle.script_story.specs.Judging.{Given, Verdict, foreign, refused, says, unjudged}
+use Rattle.script_story.specs.Judging.{Given, foreign, refused, says, unjudged}
 use Rattle.script_lines.specs.declared.stop.Stop.TheVariants as stop
 use Rattle.script_lines.specs.Stopping.{stop_text}
-use Rattle.script_lines.specs.Reading.{HasLine, IsTooLong, LineIsBegun}
+use Rattle.script_lines.specs.Reading.{HasLine, IsTooLong}
 use Rattle.lab_text.specs.declared.status.LabStatus.{LabStatus}
-use Rattle.lab_text.specs.declared.status.LabStatus.TheVariants.{ReadFault, WriteFault}
-use Rattle.lab_text.specs.Outcomes.{IsEnd, Outcome}
+use Rattle.lab_text.specs.declared.status.LabStatus.TheVariants.{WriteFault}
 use Rattle.lab_text.specs.Transcripts.{shown_text}
 use Rattle.lab_lines.specs.declared.totals.Totals.{Totals}
-use Rattle.lab_lines.specs.Carrying.{Carried, Ends, EndsAfter, Fails, Halts, IsFailing, IsSettled, Passes, RunEnds}
-use Rattle.lab_lines.specs.Carrying.{after_feed, after_stop_at, ran, stopping_at, through_feed}
-use Rattle.lab_lines.specs.Folding.{FormOf, Lined, NextLine, Passed, Ran, after_stop, form_outcome, lined, next_line}
+use Rattle.lab_lines.specs.Carrying.{Fails, Halts, Passes}
+use Rattle.lab_lines.specs.Carrying.{after_feed, after_stop_at, ran, through_feed}
+use Rattle.lab_lines.specs.Folding.{FormOf, Lined, NextLine, Passed, Ran, after_stop, lined, next_line}
 use Rattle.lab_lines.specs.Folding.{noted}
-use Rattle.lab_lines.specs.Folding.{after_line, after_note, after_notes, nothing_passed, outcome_of}
-use Rattle.lab_lines.specs.Folding.{ran_from, ran_line, ran_over, scripted, taken_line, with_text}
-use Rattle.lab_lines.specs.Written.{IsTakenNear, can_be_judged, end_of_lines, lines_so_far, taken}
-use Rattle.lab_lines.proofs.Ends.{ends_after, ends_short, ends_so_far, failing_no_end}
+use Rattle.lab_lines.specs.Folding.{after_line, after_note, after_notes}
+use Rattle.lab_lines.specs.Folding.{ran_from, scripted, taken_line, with_text}
+use Rattle.lab_lines.specs.Written.{can_be_judged}
 use Rattle.lab_lines.proofs.Folds.{StopsSo, by_next, line_beyond, no_lines, stops_so}
 use Rattle.lab_lines.proofs.LongLines.{first_of, long_beyond, long_judged, long_shown, long_some, not_ended}
 use Rattle.lab_lines.proofs.LongLines.{whole_ended}

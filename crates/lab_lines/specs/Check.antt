@@ -1,7 +1,6 @@
 -- The check of a script with notes: each line's report against the notes right after it.
-use Rattle.std.specs.Prelude.{ℕ, Bool, true, not, List, [], ◌++◌, ◌==◌, if◌then◌else◌}
+use Rattle.std.specs.Prelude.{ℕ, Bool, true, List, [], ◌++◌, ◌==◌, if◌then◌else◌}
 use Rattle.repo_io.specs.InMemory.{one_more}
-use Rattle.script_story.specs.declared.ending.Ending.{Ending}
 use Rattle.script_story.specs.Judging.{Given}
 use Rattle.lab_text.specs.declared.status.LabStatus.TheVariants.{Done, Differs}
 use Rattle.lab_text.specs.Differences.{are_same, line_difference_text, sum_text}

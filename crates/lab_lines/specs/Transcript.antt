@@ -1,5 +1,5 @@
 -- The transcript of a script: each line, and its report as notes.
-use Rattle.std.specs.Prelude.{ℕ, Bool, false, List, []}
+use Rattle.std.specs.Prelude.{ℕ, false, List, []}
 use Rattle.script_story.specs.declared.ending.Ending.{Ending}
 use Rattle.script_story.specs.declared.ending.Ending.TheVariants as ending
 use Rattle.script_story.specs.Judging.{Given}

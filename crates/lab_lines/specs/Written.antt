@@ -10,7 +10,7 @@ use Rattle.repo_io.specs.Outside.{GainsText}
 use Rattle.lab_text.specs.declared.status.LabStatus.{LabStatus}
 use Rattle.lab_text.specs.declared.status.LabStatus.TheVariants.{ReadFault}
 use Rattle.lab_text.specs.Outcomes.{IsEnd}
-use Rattle.lab_lines.specs.Folding.{FormOf, Ran, ran_over}
+use Rattle.lab_lines.specs.Folding.{FormOf, ran_over}
 
 -- What holds of an input and of what is left of it, where both are known.
 abbrev pub Known : Option (List ℕ) → Option (List ℕ) → (List ℕ → List ℕ → Type 0) → Type 0

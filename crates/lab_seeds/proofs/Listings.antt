@@ -1,5 +1,5 @@
 -- How many entries catalogues list.
-use Rattle.std.proofs.Common.{◌≡◌, ℕ, suc, ◌+◌, ◌-◌, ◌<◌, ◌≤◌, List, length, ap, ◌∙◌, arith}
+use Rattle.std.proofs.Common.{◌≡◌, ℕ, suc, ◌+◌, ◌-◌, ◌<◌, ◌≤◌, length, ap, ◌∙◌, arith}
 use Rattle.std.specs.List.{sum_by}
 use Rattle.std.proofs.lemmas.List.{length-map}
 use Rattle.std.proofs.lemmas.List.Sums.{sum_by-cons}
@@ -22,8 +22,3 @@ pub next_sum : (f : ℕ → ℕ) (a n : ℕ) → a < n
 next_sum f a n lt =
     let more : n - a ≡ suc (n - (a + 1)) = omega arith in
     ap (λ (k : ℕ). sum_by f (numbers_from a k)) more ∙ sum_by-cons f a (numbers_from (a + 1) (n - (a + 1)))
-
-pub no_sum : (f : ℕ → ℕ) (a n : ℕ) → n ≤ a → sum_by f (numbers_from a (n - a)) ≡ 0
-no_sum f a n le =
-    let none : n - a ≡ 0 = omega arith in
-    ap (λ (k : ℕ). sum_by f (numbers_from a k)) none

@@ -1,7 +1,8 @@
 -- The least, the median and the greatest of numbers stand at known places once they are in order.
-use Rattle.std.proofs.Common.{◌≡◌, ℕ, zero, suc, ◌+◌, ◌-◌, ◌*◌, ◌/◌, ◌<◌, ◌≤◌, min, max, Bool, true, false, cond, leb, List, []}
-use Rattle.std.proofs.Common.{◌∷◌, length, take, drop, get_or, refl, sym, ap, ◌∙◌, arith, inl, inr}
-use Rattle.std.specs.List.{All, Contains, count_by, filter, fold, sum_by}
+use Rattle.std.proofs.Common.{◌≡◌, ℕ, zero, suc, ◌+◌, ◌*◌, ◌<◌, ◌≤◌, min, max, Bool, true, false, cond, leb, List}
+use Rattle.std.proofs.Common.{[]}
+use Rattle.std.proofs.Common.{◌∷◌, length, take, drop, get_or, refl, ap, ◌∙◌, arith, inl, inr}
+use Rattle.std.specs.List.{All, Contains, count_by, filter, fold}
 use Rattle.std.specs.List.Sorted.{IsNonDecreasing, IsPermutation}
 use Rattle.std.proofs.lemmas.Bool.{both_ways, cases_lt, le-leb, lt-leb}
 use Rattle.std.proofs.lemmas.List.{get_or-drop, get_or-take, length-drop, length-take}
@@ -127,7 +128,8 @@ module _ (ns sorted : List ℕ) (same : IsPermutation ns sorted) (up : IsNonDecr
           let p = λ (n : ℕ). leb n (get_or sorted middle 0) in
           let part = sum_by-take-le (λ n. cond (p n) 1 0) sorted (middle + 1) in
           let len = length-take (middle + 1) sorted in
-          let each : (i : ℕ) → i < length (take (middle + 1) sorted) → p (get_or (take (middle + 1) sorted) i 0) ≡ true =
+          let each : (i : ℕ) → i < length (take (middle + 1) sorted)
+          → p (get_or (take (middle + 1) sorted) i 0) ≡ true =
           λ i lt.
           let within : i < middle + 1 = omega arith in
           rw get_or-take (le-leb (get_or sorted i 0) (get_or sorted middle 0)

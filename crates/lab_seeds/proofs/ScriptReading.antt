@@ -1,24 +1,24 @@
 -- How a script is read line by line.
-use Rattle.std.proofs.Common.{◌≡◌, ◌≢◌, ℕ, ◌+◌, ◌-◌, ◌<◌, ◌≤◌, Bool, true, false, not, cond, eqb, leb, ltb, ◌&&◌, ◌||◌, List, []}
+use Rattle.std.proofs.Common.{◌≡◌, ◌≢◌, ℕ, ◌+◌, ◌-◌, ◌≤◌, Bool, true, false, not, cond, eqb, leb, ltb, ◌&&◌, ◌||◌, List}
+use Rattle.std.proofs.Common.{[]}
 use Rattle.std.proofs.Common.{◌∷◌, ◌++◌, length, take, drop, get_or, Option, Some, None, refl, sym, ap, subst, ◌∙◌}
 use Rattle.std.proofs.Common.{append_assoc, length-append, arith, ◌⊎◌, inl, inr}
-use Rattle.std.specs.Io.KnownBytes.{IsAtEnd, Keeps, prepend_known}
-use Rattle.std.proofs.lemmas.Bool.{and_left, and_parts, and_right, both_ways, cases_Bool, leb-true, lt-leb, ltb-true}
-use Rattle.std.proofs.lemmas.List.{append-nil, length-take, nil_from_length, take-append-drop, take_all}
+use Rattle.std.specs.Io.KnownBytes.{Keeps, prepend_known}
+use Rattle.std.proofs.lemmas.Bool.{and_left, and_right, both_ways, cases_Bool, lt-leb}
+use Rattle.std.proofs.lemmas.List.{append-nil, length-take, take-append-drop, take_all}
 use Rattle.std.proofs.lemmas.List.Folds.{list_any_at}
-use Rattle.std.proofs.Math.Seq.{take-append-add}
 use Rattle.repo_io.specs.Lines.{IsWhole, has_feed, lines}
 use Rattle.repo_io.proofs.LineLaws.{long_line, open_line, whole_first}
-use Rattle.script_lang.specs.Lines.{ends_with, without_last_octet}
+use Rattle.script_lang.specs.Lines.{ends_with}
 use Rattle.script_lines.specs.Reading.{HasLine, IsTooLong, LineIsBegun}
 use Rattle.lab_text.specs.LineTexts.{without_feed}
 use Rattle.lab_text.specs.Notes.{is_note}
 use Rattle.lab_seeds.specs.declared.input.ScriptLines.{ScriptLines as Kept}
 use Rattle.lab_seeds.specs.declared.input.SoFar.{SoFar}
 use Rattle.lab_seeds.specs.declared.input.Totals.{Totals}
-use Rattle.lab_seeds.specs.Inputs.{ScriptLines, fits, fits_input, fits_script, no_totals, script_from, script_lines_are}
+use Rattle.lab_seeds.specs.Inputs.{ScriptLines, fits, fits_input, fits_script, script_from, script_lines_are}
 use Rattle.lab_seeds.specs.Inputs.{script_of, with_line}
-use Rattle.lab_seeds.specs.Reading.{AreWithin, IsRead, Known, Takes, kept_line, lines_before, lines_read, octets_of}
+use Rattle.lab_seeds.specs.Reading.{IsRead, Known, Takes, kept_line, lines_before, lines_read, octets_of}
 
 -- ---- lines that are too long
 
@@ -38,7 +38,8 @@ left_long front [] free =
     rw (all, not_ended front free) (omega arith)
 left_long front (b ∷ bs) free = elim (cases_Bool (ends_with 10 (front ++ b ∷ bs))) [
   | inl ended ↦
-      rw ended (omega (arith, length-take (length (front ++ b ∷ bs) - 1) (front ++ b ∷ bs), length-append front (b ∷ bs)))
+      let size = length-take (length (front ++ b ∷ bs) - 1) (front ++ b ∷ bs) in
+      rw ended (omega (arith, size, length-append front (b ∷ bs)))
   | inr open_ ↦ rw open_ (omega (arith, length-append front (b ∷ bs)))
 ]
 
@@ -54,61 +55,6 @@ module _ (front : List ℕ) (long : IsTooLong front) where
       and_left (fits_input t line) (is_note line || fits_script t line)
       (and_left (leb (length (without_feed line)) 32768 && ltb t.lines 1000000) (leb (t.octets + length line) 300000000)
       (and_left (leb (length (without_feed line)) 32768) (ltb t.lines 1000000) test))
-
--- ---- totals
-
-pub begins_within : AreWithin no_totals
-begins_within = record { lines = omega arith; octets = omega arith; script_lines = omega arith; script_octets = omega arith }
-
-module _ (t : Totals) (line : List ℕ) (w : AreWithin t) (e : fits t line ≡ true) where
-  input_facts : (t.lines < 1000000) × (t.octets + length line ≤ 300000000)
-  input_facts =
-      let both = and_parts (fits_input t line) (is_note line || fits_script t line) e in
-      let three = and_parts (leb (length (without_feed line)) 32768 && ltb t.lines 1000000)
-      (leb (t.octets + length line) 300000000) both.0 in
-      let two = and_parts (leb (length (without_feed line)) 32768) (ltb t.lines 1000000) three.0 in
-      (ltb-true t.lines 1000000 two.1, leb-true (t.octets + length line) 300000000 three.1)
-
-  script_facts : is_note line ≡ false → (t.script_lines < 100000) × (t.script_octets + length line ≤ 16777216)
-  script_facts other =
-      let both = and_parts (fits_input t line) (is_note line || fits_script t line) e in
-      let script : fits_script t line ≡ true = rw other at both.1 in
-      let two = and_parts (ltb t.script_lines 100000) (leb (t.script_octets + length line) 16777216) script in
-      (ltb-true t.script_lines 100000 two.0, leb-true (t.script_octets + length line) 16777216 two.1)
-
-  pub lines_few : t.lines < 1000000
-  lines_few = input_facts.0
-
-  pub script_few : is_note line ≡ false → t.script_lines < 100000
-  script_few other = (script_facts other).0
-
-  pub stays_within : AreWithin (with_line t line)
-  stays_within = by_note (is_note line) refl where
-    by_note : (note : Bool) → is_note line ≡ note → AreWithin (record {
-      lines = t.lines + 1;
-      octets = t.octets + length line;
-      script_lines = cond note t.script_lines (t.script_lines + 1);
-      script_octets = cond note t.script_octets (t.script_octets + length line);
-    })
-    by_note true is =
-        let i = input_facts in
-        let x = i.0 in let y = i.1 in
-        record {
-          lines = omega arith;
-          octets = omega arith;
-          script_lines = w.script_lines;
-          script_octets = w.script_octets;
-        }
-    by_note false is =
-        let i = input_facts in
-        let s = script_facts is in
-        let x = i.0 in let y = i.1 in let z = s.0 in let u = s.1 in
-        record {
-          lines = omega arith;
-          octets = omega arith;
-          script_lines = omega arith;
-          script_octets = omega arith;
-        }
 
 -- ---- the first line
 
@@ -230,15 +176,6 @@ known_map P Q f None now h = tt
 known_map P Q f (Some input) None h = absurd h
 known_map P Q f (Some input) (Some rest) h = f input rest h
 
-pub known_begun : (held : List ℕ) (front : List (List ℕ)) (t : Totals) (a : Option (List ℕ)) → held ≡ []
-    → front ≡ [] → t ≡ no_totals → Known a a (Reads held front t)
-known_begun held front t None h f e = tt
-known_begun held front t (Some input) h f e = record {
-  script = sym (ap (λ (octets : List ℕ). lines_before front (script_from t (lines (octets ++ input)))) h
-      ∙ ap (λ (ls : List (List ℕ)). lines_before ls (script_from t (lines input))) f
-      ∙ ap (λ (totals : Totals). lines_before [] (script_from totals (lines input))) e);
-}
-
 pub known_read : (held held' : List ℕ) (front : List (List ℕ)) (t : Totals) (before now now' : Option (List ℕ))
     → Keeps (prepend_known held now) (prepend_known held' now') → Known before now (Reads held front t)
     → Known before now' (Reads held' front t)
@@ -273,15 +210,3 @@ module _ (held : List ℕ) (before now : Option (List ℕ)) (count : ℕ) (h : H
         whole = reads_cut held front t input rest count h r beyond ∙ sym is;
         ended = λ whole. absurd (both_ways s.cut whole (ap (λ (l : ScriptLines). l.cut) is));
       }) before now
-
-pub known_last : (held : List ℕ) (front : List (List ℕ)) (t : Totals) (before now : Option (List ℕ)) (s : Kept)
-    → IsAtEnd now → lines_read s ≡ lines_before front (script_from t (lines held))
-    → Known before now (Reads held front t) → Known before now (IsRead s)
-known_last held front t None now s ended is h = tt
-known_last held front t (Some input) None s ended is h = absurd h
-known_last held front t (Some input) (Some rest) s ended is h = record {
-  whole =
-      let all : held ++ rest ≡ held = ap (λ (octets : List ℕ). held ++ octets) ended ∙ append-nil held in
-      h.script ∙ ap (λ (octets : List ℕ). lines_before front (script_from t (lines octets))) all ∙ sym is;
-  ended = λ whole. ended;
-}

@@ -1,10 +1,9 @@
 -- What comes of ends of seeds that follow one another.
-use Rattle.std.proofs.Common.{◌≡◌, ◌≢◌, ℕ, zero, suc, ◌+◌, ◌-◌, ◌<◌, ◌≤◌, Bool, true, false, cond, List, [], ◌∷◌, ◌++◌}
-use Rattle.std.proofs.Common.{length, take, get_or, map, Option, Some, None, IfSome, refl, sym, ap, subst, ◌∙◌}
+use Rattle.std.proofs.Common.{◌≡◌, ◌≢◌, ℕ, suc, ◌+◌, ◌<◌, true, false, List, [], ◌∷◌, ◌++◌}
+use Rattle.std.proofs.Common.{length, take, get_or, map, Option, Some, IfSome, refl, sym, ap, subst, ◌∙◌}
 use Rattle.std.proofs.Common.{arith, inl, inr, ◌⊎◌}
 use Rattle.std.specs.List.{flat_map, list_all}
-use Rattle.std.specs.Option.{option_map}
-use Rattle.std.proofs.lemmas.Bool.{and_parts, both_ways, cases_Bool}
+use Rattle.std.proofs.lemmas.Bool.{cases_Bool}
 use Rattle.std.proofs.lemmas.List.{get_or-map, length-map}
 use Rattle.sorted_lists.specs.Range.{numbers_from}
 use Rattle.script_report.specs.declared.refusal.Refusal.{Refusal}
@@ -14,24 +13,18 @@ use Rattle.script_report.specs.declared.refusal.Refusal.TheVariants.{NumbersSpen
 use Rattle.script_report.specs.declared.refusal.Refusal.TheVariants.{BadPacket, NoSuchNumber, NoSuchWatch, NotLive}
 use Rattle.script_report.specs.Refusals.{refusal_number, refusal_word}
 use Rattle.script_story.specs.declared.ending.Ending.{Ending}
-use Rattle.script_story.specs.declared.ending.Ending.TheVariants as ending
-use Rattle.script_story.specs.Story.{Story, nothing_reached, story_from}
+use Rattle.script_story.specs.Story.{Story}
 use Rattle.repo_io.specs.Outside.{GainsText, GainsFront}
-use Rattle.repo_io.proofs.Outputs.{front_so_far, front_taken, front_whole, nothing_gained}
+use Rattle.repo_io.proofs.Outputs.{front_taken, front_whole}
 use Rattle.lab_text.specs.declared.status.LabStatus.{LabStatus}
 use Rattle.lab_text.specs.declared.status.LabStatus.TheVariants as lab
-use Rattle.lab_text.specs.Outcomes.{HasCause, IsEnd, Outcome, WritesOutcome}
+use Rattle.lab_text.specs.Outcomes.{Outcome}
 use Rattle.lab_seeds.specs.declared.end.SeedEnd.{SeedEnd}
 use Rattle.lab_seeds.specs.declared.end.SeedEnd.TheVariants.{Done, Refused, Foreign}
-use Rattle.lab_seeds.specs.declared.input.ScriptLines.{ScriptLines as Kept}
-use Rattle.lab_seeds.specs.Counted.{figures_at}
 use Rattle.lab_seeds.specs.Endings.{AreEnds, HasEnd, IsEndOf}
 use Rattle.lab_seeds.specs.Ends.{end_figures, end_is_done, end_text, ends_text}
-use Rattle.lab_seeds.specs.Inputs.{ScriptLines, script_of}
-use Rattle.lab_seeds.specs.Reading.{IsRead, Known, lines_read}
 use Rattle.lab_seeds.specs.Seeding.{WritesSeeds, ending_text, ends_status, figures_if_done, is_done, outcome_over}
-use Rattle.lab_seeds.specs.Seeding.{seed_text, seeds_of, word_of}
-use Rattle.lab_seeds.specs.Stories.{cut_at, ending_at, given_of, seed_story}
+use Rattle.lab_seeds.specs.Seeding.{seed_text, word_of}
 use Rattle.lab_seeds.specs.Texts.{done_text, ranks_text, refused_text}
 
 -- ---- one seed
@@ -138,17 +131,6 @@ not_failing ends P d r = elim (status_cases ends) [
 ]
 
 module _ (it : Outcome) (old : Option (List ℕ)) (Failed : Type 0) where
-  pub unwritten : WritesSeeds it old old Failed lab.NoMemory
-  unwritten = record {
-    end = λ e. absurd e;
-    text = λ e. absurd e;
-    prefix = front_so_far old old [] it.text it.text refl (λ e. absurd cc) (nothing_gained old);
-    write_fault = λ e. absurd cc;
-    others = inr (inr refl);
-    never_usage = λ e. absurd cc;
-    never_read_fault = λ e. absurd cc;
-  }
-
   module _ (new : Option (List ℕ)) (text : List ℕ) (is : text ≡ it.text) where
     pub fell_short : (n : ℕ) → n < length text → GainsText old new (take n text) → Failed
         → WritesSeeds it old new Failed lab.WriteFault
@@ -179,127 +161,3 @@ module _ (it : Outcome) (old : Option (List ℕ)) (Failed : Type 0) where
           never_read_fault =
               not_failing ends (λ (s : LabStatus). s ≡ lab.ReadFault → ⊥) (λ e. absurd cc) (λ e. absurd cc);
         }
-
--- ---- over an input
-
--- the outcome of a script that was read is that of the input
-same_outcome : (first last count : ℕ) → count ≡ last + 1 - first → (script : Kept) (a b : Option (List ℕ))
-    → Known a b (IsRead script) → IfSome (option_map (seeds_of first last) a)
-    (λ it. outcome_over (seed_story (lines_read script)) (numbers_from first count) ≡ it)
-same_outcome first last count e script None b known = tt
-same_outcome first last count e script (Some input) None known = absurd known
-same_outcome first last count e script (Some input) (Some rest) known =
-    ap (λ (n : ℕ). outcome_over (seed_story (lines_read script)) (numbers_from first n)) e
-    ∙ ap (λ (s : ScriptLines). outcome_over (seed_story s) (numbers_from first (last + 1 - first))) (sym known.whole)
-
-module _ (made : Outcome) (old new : Option (List ℕ)) (SourceFailed SinkFailed : Type 0) (status : LabStatus)
-    (w : WritesSeeds made old new SinkFailed status) where
-  writes_outcome : (o : Option Outcome) → IfSome o (λ it. made ≡ it) → WritesOutcome o old new status
-  writes_outcome None is = record { end = λ e. tt; text = λ e. tt; prefix = tt }
-  writes_outcome (Some it) is = record {
-    end = λ e. w.end e ∙ ap (λ (o : Outcome). o.status) is;
-    text = λ e. subst (λ (o : Outcome). GainsText old new o.text) is (w.text e);
-    prefix = subst (λ (o : Outcome). GainsFront old new o.text (status ≡ lab.WriteFault)) is w.prefix;
-  }
-
-  ended_so : (it : Outcome) → made ≡ it → (SinkFailed → ⊥) → (status ≡ it.status) ⊎ (status ≡ lab.NoMemory)
-  ended_so it is whole = elim w.others [
-    | inl same ↦ inl (same ∙ ap (λ (o : Outcome). o.status) is)
-    | inr (inl fault) ↦ absurd (whole (w.write_fault fault))
-    | inr (inr out) ↦ inr out
-  ]
-
-  has_cause : (o : Option Outcome) → IfSome o (λ it. made ≡ it) → HasCause o status SourceFailed SinkFailed
-  has_cause None is = record {
-    read_fault = λ e. absurd (w.never_read_fault e);
-    write_fault = w.write_fault;
-    complete = λ a b. tt;
-  }
-  has_cause (Some it) is = record {
-    read_fault = λ e. absurd (w.never_read_fault e);
-    write_fault = w.write_fault;
-    complete = λ a b. ended_so it is b;
-  }
-
-module _ (first last count : ℕ) (e : count ≡ last + 1 - first) (script : Kept) (a b old new : Option (List ℕ))
-    (known : Known a b (IsRead script)) (SourceFailed SinkFailed : Type 0) (status : LabStatus)
-    (w : WritesSeeds (outcome_over (seed_story (lines_read script)) (numbers_from first count)) old new SinkFailed
-    status) where
-  pub all_written : WritesOutcome (option_map (seeds_of first last) a) old new status
-  all_written = writes_outcome (outcome_over (seed_story (lines_read script)) (numbers_from first count)) old new
-      SourceFailed SinkFailed status w (option_map (seeds_of first last) a)
-      (same_outcome first last count e script a b known)
-
-  pub all_caused : HasCause (option_map (seeds_of first last) a) status SourceFailed SinkFailed
-  all_caused = has_cause (outcome_over (seed_story (lines_read script)) (numbers_from first count)) old new
-      SourceFailed SinkFailed status w (option_map (seeds_of first last) a)
-      (same_outcome first last count e script a b known)
-
--- nothing was written, and the status is that of no end
-module _ (first last : ℕ) (a old : Option (List ℕ)) (SourceFailed SinkFailed : Type 0) where
-  none_written : (o : Option Outcome) (status : LabStatus) → (IsEnd status → ⊥) → status ≢ lab.WriteFault
-      → WritesOutcome o old old status
-  none_written None status not_end whole = record { end = λ e. tt; text = λ e. tt; prefix = tt }
-  none_written (Some it) status not_end whole = record {
-    end = λ e. absurd (not_end e);
-    text = λ e. absurd (not_end e);
-    prefix = front_so_far old old [] it.text it.text refl (λ e. absurd (whole e)) (nothing_gained old);
-  }
-
-  pub unread : WritesOutcome (option_map (seeds_of first last) a) old old lab.ReadFault
-  unread = none_written (option_map (seeds_of first last) a) lab.ReadFault (λ e. absurd e) (λ e. absurd cc)
-
-  pub out_of_memory : WritesOutcome (option_map (seeds_of first last) a) old old lab.NoMemory
-  out_of_memory = none_written (option_map (seeds_of first last) a) lab.NoMemory (λ e. absurd e) (λ e. absurd cc)
-
-  if_some : (o : Option Outcome) (P : Outcome → Type 0) → ((it : Outcome) → P it) → IfSome o P
-  if_some None P f = tt
-  if_some (Some it) P f = f it
-
-  pub unread_caused : SourceFailed → HasCause (option_map (seeds_of first last) a) lab.ReadFault SourceFailed SinkFailed
-  unread_caused failed = record {
-    read_fault = λ e. failed;
-    write_fault = λ e. absurd cc;
-    complete = λ no other. absurd (no failed);
-  }
-
-  pub memory_caused : HasCause (option_map (seeds_of first last) a) lab.NoMemory SourceFailed SinkFailed
-  memory_caused = record {
-    read_fault = λ e. absurd cc;
-    write_fault = λ e. absurd cc;
-    complete = λ no other. if_some (option_map (seeds_of first last) a)
-        (λ it. (lab.NoMemory ≡ it.status) ⊎ (lab.NoMemory ≡ lab.NoMemory)) (λ it. inr refl);
-  }
-
--- ---- where all lines are taken, none was cut off
-
-never_done : (n : ℕ) (e : Ending) → is_done (ending_at n e) ≡ false
-never_done n ending.Done = refl
-never_done n (ending.Refused line number) = refl
-never_done n (ending.Foreign line) = refl
-
-cut_not_done : (cut : Bool) (n : ℕ) (s : Story) → is_done (cut_at cut n s).ending ≡ true → cut ≡ false
-cut_not_done false n s h = refl
-cut_not_done true n s h = absurd (both_ways (is_done (ending_at n s.ending)) (never_done n s.ending) h)
-
-done_test : (test : Bool) → (cond test lab.Done lab.Refused) ≡ lab.Done → test ≡ true
-done_test true e = refl
-done_test false e = absurd cc
-
-pub ended_whole : (script : Kept) (first count : ℕ) → 0 < count
-    → (outcome_over (seed_story (lines_read script)) (numbers_from first count)).status ≡ lab.Done
-    → script.cut ≡ false
-ended_whole script first zero some e = absurd (omega arith)
-ended_whole script first (suc count) some e =
-    let s = lines_read script in
-    let all = done_test (list_all (λ seed. is_done (seed_story s seed).ending) (numbers_from first (suc count))) e in
-    let here = and_parts (is_done (seed_story s first).ending)
-    (list_all (λ seed. is_done (seed_story s seed).ending) (numbers_from (first + 1) count)) all in
-    cut_not_done script.cut (length s.lines + 1) (story_from (given_of first) nothing_reached s.lines) here.0
-
--- so the input was read to its end
-pub read_to_end : (script : Kept) (a b : Option (List ℕ)) → Known a b (IsRead script) → script.cut ≡ false
-    → IfSome a (λ input. b ≡ Some [])
-read_to_end script None b known whole = tt
-read_to_end script (Some input) None known whole = absurd known
-read_to_end script (Some input) (Some rest) known whole = ap (λ (octets : List ℕ). Some octets) (known.ended whole)

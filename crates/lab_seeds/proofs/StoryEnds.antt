@@ -1,12 +1,13 @@
 -- How stories end, line by line.
-use Rattle.std.proofs.Common.{◌≡◌, ℕ, ◌+◌, Bool, true, false, List, [], ◌∷◌, length, Result, Ok, Err, IfOk, refl, sym, ap}
+use Rattle.std.proofs.Common.{◌≡◌, ℕ, ◌+◌, Bool, true, false, List, [], ◌∷◌, length, Result, Ok, Err, IfOk, refl, sym}
+use Rattle.std.proofs.Common.{ap}
 use Rattle.std.proofs.Common.{subst, ◌∙◌, arith}
 use Rattle.std.proofs.Common.{◌<◌, drop, get_or, Vec, Global}
 use Rattle.std.specs.Bool.{⊤}
 use Rattle.std.proofs.lemmas.List.{drop_more}
-use Rattle.script_report.specs.declared.refusal.Refusal.TheVariants.{Limit}
 use Rattle.script_story.specs.Judging.{Given, Verdict, says}
-use Rattle.script_story.specs.Story.{Reached, Story, behind_text, judged_next, nothing_reached, reached_behind, story_from}
+use Rattle.script_story.specs.Story.{Reached, Story, behind_text, judged_next, nothing_reached, reached_behind}
+use Rattle.script_story.specs.Story.{story_from}
 use Rattle.script_story.specs.Story.{story_of_line}
 use Rattle.script_lines.specs.declared.stop.Stop.{Stop}
 use Rattle.script_lines.specs.declared.stop.Stop.TheVariants as stop
@@ -105,15 +106,6 @@ last given r false e is = subst (IsEndOf (story_from given r [])) (sym is) (reco
 pub record Carries (given : Given) (s : ScriptLines) (left : List (List ℕ)) (r : Reached) : Type 0 where
   pub alike : EndsAlike (story_from given nothing_reached s.lines) (story_from given r left)
   pub count : r.lines + length left ≡ length s.lines
-
-pub carries_all : (given : Given) (s : ScriptLines) (r : Reached) → r ≡ nothing_reached → Carries given s s.lines r
-carries_all given s r is = record {
-  alike = record {
-    ending = ap (λ (n : Reached). (story_from given n s.lines).ending) (sym is);
-    world = ap (λ (n : Reached). (story_from given n s.lines).world) (sym is);
-  };
-  count = ap (λ (n : Reached). n.lines + length s.lines) is ∙ omega arith;
-}
 
 module _ (given : Given) (s : ScriptLines) (r : Reached) where
   pub carries_more : (line : List ℕ) (others : List (List ℕ)) (report : List ℕ) (next : Reached)

@@ -1,5 +1,5 @@
 -- What is counted of a world at the end of a story.
-use Rattle.std.specs.Prelude.{ℕ, List, length, Option, Some, None}
+use Rattle.std.specs.Prelude.{ℕ, length, Option, Some, None}
 use Rattle.std.specs.List.{sum_by}
 use Rattle.sorted_lists.specs.Range.{numbers_from}
 use Rattle.group_model.specs.World.{World, catalogue_at}

@@ -1,10 +1,11 @@
-ghost use Rattle.std.specs.Prelude.{◌≡◌, ◌++◌, [], true, false, length, Err, Ok, IfOk};
+ghost use Rattle.std.specs.Prelude.{◌≡◌, [], true, false, length, Err, Ok, IfOk};
 ghost use Rattle.repo_io.specs.Lines.{lines};
 ghost use Rattle.repo_io.specs.Outside.{HasRisen};
 ghost use Rattle.script_lines.specs.Reading.{LineIsBegun};
 ghost use Rattle.lab_text.specs.LineTexts.{without_feed};
 ghost use Rattle.lab_text.specs.Notes.{is_note};
-ghost use Rattle.lab_seeds.specs.Inputs.{fits, fits_input, fits_script, no_totals, script_from, script_lines_are, with_line};
+ghost use Rattle.lab_seeds.specs.Inputs.{fits, fits_input, fits_script, no_totals, script_from, script_lines_are};
+ghost use Rattle.lab_seeds.specs.Inputs.{with_line};
 ghost use Rattle.lab_seeds.specs.Reading.{AreWithin, IsRead, Known, Takes, lines_before, lines_read, octets_of};
 
 use lab_text::is_note;

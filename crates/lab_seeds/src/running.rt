@@ -1,4 +1,5 @@
-ghost use Rattle.std.specs.Prelude.{◌≡◌, ◌≢◌, ◌+◌, ◌-◌, ◌^◌, ◌<◌, ◌≤◌, ℕ, [], length, map, slice_index_or, IfOk, IfSome, Some};
+ghost use Rattle.std.specs.Prelude.{◌≡◌, ◌≢◌, ◌+◌, ◌-◌, ◌^◌, ◌<◌, ◌≤◌, ℕ, [], length, map, slice_index_or, IfOk};
+ghost use Rattle.std.specs.Prelude.{IfSome, Some};
 ghost use Rattle.std.specs.List.{list_all};
 ghost use Rattle.std.specs.Option.{option_map};
 ghost use Rattle.sorted_lists.specs.Range.{numbers_from};
@@ -21,9 +22,9 @@ use std::alloc::{AllocError, Global};
 use std::thread;
 use std::thread::Threads;
 
-/// Reads the script of the source, without its notes, and carries it out under each seed from the first to the last, so
-/// many at once, each in a thread and a world of its own. Then a line is written of each, in the order of seeds, and the
-/// least, the median and the greatest of what was counted.
+/// Reads the script of the source, without its notes, and carries it out under each seed from the first to the last, as
+/// many at once as there are workers, each in a thread and a world of its own. Then a line is written of each, in the
+/// order of seeds, and the least, the median and the greatest of what was counted.
 pub fn seeds<R: Threads + Sync, S: Source, K: Sink>(
     rt: &R,
     alloc: Global,

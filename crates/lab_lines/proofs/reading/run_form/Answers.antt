@@ -1,4 +1,3 @@
-use Rattle.std.proofs.Common.{List, ℕ}
 use Rattle.std.specs.Option.{option_map}
 use Rattle.script_story.specs.Judging.{given_by}
 use Rattle.lab_text.specs.declared.status.LabStatus.TheVariants.{NoMemory}

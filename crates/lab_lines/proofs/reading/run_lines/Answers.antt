@@ -1,15 +1,12 @@
-use Rattle.std.proofs.Common.{◌∙◌, ◌≤◌, sym, ap, subst, refl, length, take, drop, length-take, List, ℕ, arith}
+use Rattle.std.proofs.Common.{sym, subst, List, ℕ, arith}
 use Rattle.repo_io.specs.Lines.{lines}
 use Rattle.script_story.specs.Judging.{given_by}
 use Rattle.script_lines.specs.Scripts.{reached}
-use Rattle.lab_text.specs.declared.status.LabStatus.{LabStatus}
-use Rattle.lab_lines.specs.declared.totals.Totals.{Totals}
 use Rattle.lab_lines.specs.Carrying.{Carried, Ends, Fails, Halts, Passes, passed}
-use Rattle.lab_lines.specs.Folding.{nothing_passed, outcome_of, ran_from}
+use Rattle.lab_lines.specs.Folding.{outcome_of, ran_from}
 use Rattle.lab_lines.specs.Written.{Known}
-use Rattle.lab_lines.proofs.Carryings.{known_begun, known_failed, known_finished, known_halted, known_line, known_read}
+use Rattle.lab_lines.proofs.Carryings.{known_failed, known_finished, known_halted, known_line, known_read}
 use Rattle.lab_lines.proofs.Carryings.{known_unread}
-use Rattle.lab_lines.proofs.Folds.{same_passed}
 use Rattle.lab_lines.proofs.reading.run_lines.Goals as goal
 
 pub front-line-requires : goal.front-line-requires

@@ -1,4 +1,4 @@
-use Rattle.std.proofs.Common.{◌≡◌, ◌∙◌, ◌+◌, ◌&&◌, sym, ap, subst, true, false, List, ℕ, Ok, drop, length, arith}
+use Rattle.std.proofs.Common.{◌≡◌, ◌∙◌, ◌+◌, ◌&&◌, sym, ap, subst, true, false, List, ℕ, length, arith}
 use Rattle.lab_text.specs.declared.status.LabStatus.TheVariants.{NoMemory, ReadFault}
 use Rattle.lab_text.specs.Notes.{is_note}
 use Rattle.lab_lines.specs.Folding.{fits}

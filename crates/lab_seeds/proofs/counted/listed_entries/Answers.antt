@@ -1,4 +1,4 @@
-use Rattle.std.proofs.Common.{ℕ, ◌<◌, length, arith}
+use Rattle.std.proofs.Common.{ℕ, length, arith}
 use Rattle.group_model.specs.World.{catalogue_at}
 use Rattle.bench_world.specs.Worlds.{world_of}
 use Rattle.lab_seeds.proofs.Listings.{next_sum}

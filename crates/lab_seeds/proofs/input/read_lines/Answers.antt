@@ -1,4 +1,4 @@
-use Rattle.std.proofs.Common.{◌≡◌, List, ℕ, true, false, Ok, take, drop, ap, sym, subst, ◌∙◌, arith}
+use Rattle.std.proofs.Common.{◌≡◌, List, ℕ, true, false, Ok, take, ap, sym, subst, ◌∙◌, arith}
 use Rattle.script_lines.specs.Reading.{HasLine, IsNext}
 use Rattle.lab_seeds.specs.Inputs.{fits, script_lines_are}
 use Rattle.lab_seeds.specs.Reading.{Known, Takes, lines_read, octets_of}

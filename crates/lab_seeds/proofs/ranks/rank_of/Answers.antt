@@ -1,5 +1,5 @@
-use Rattle.std.proofs.Common.{◌≡◌, ◌<◌, ◌+◌, ◌-◌, ◌*◌, ◌≤◌, ◌/◌, ℕ, List, length, sym, ◌∙◌, arith}
-use Rattle.std.specs.List.Sorted.{IsNonDecreasing, IsPermutation}
+use Rattle.std.proofs.Common.{◌≡◌, ◌<◌, ◌+◌, ◌-◌, ◌*◌, ◌≤◌, ◌/◌, ℕ, length, sym, ◌∙◌, arith}
+use Rattle.std.specs.List.Sorted.{IsNonDecreasing}
 use Rattle.std.proofs.lemmas.List.{get_or_read}
 use Rattle.std.proofs.lemmas.List.Sorted.{IsNonDecreasingBy-from_sort, length_permutation}
 use Rattle.lab_seeds.proofs.Medians.{first_is_least, last_is_greatest, middle_is_median}
@@ -11,7 +11,8 @@ returns-clause-least c =
     let sorted = c.sort_unstable.new.self.items in
     let same = c.sort_unstable.ensures.permutation in
     let len = length_permutation ns sorted same in
-    let up : IsNonDecreasing sorted = IsNonDecreasingBy-from_sort (λ (x : ℕ). x) sorted c.sort_unstable.ensures.sorted in
+    let up : IsNonDecreasing sorted =
+    IsNonDecreasingBy-from_sort (λ (x : ℕ). x) sorted c.sort_unstable.ensures.sorted in
     let some : 0 < length sorted = omega arith in
     get_or_read sorted 0 c.index.result.now some c.index.ensures 0 ∙ sym (first_is_least ns sorted same up some)
 
@@ -21,7 +22,8 @@ returns-clause-median c =
     let sorted = c.sort_unstable.new.self.items in
     let same = c.sort_unstable.ensures.permutation in
     let len = length_permutation ns sorted same in
-    let up : IsNonDecreasing sorted = IsNonDecreasingBy-from_sort (λ (x : ℕ). x) sorted c.sort_unstable.ensures.sorted in
+    let up : IsNonDecreasing sorted =
+    IsNonDecreasingBy-from_sort (λ (x : ℕ). x) sorted c.sort_unstable.ensures.sorted in
     let some : 0 < length sorted = omega arith in
     let count : c.len-last.result ≡ length sorted = c.len-last.ensures ∙ c.sort_unstable.new.self.ok.0 in
     let middle : ℕ = (c.len-last.result - 1) / 2 in
@@ -36,7 +38,8 @@ returns-clause-greatest c =
     let sorted = c.sort_unstable.new.self.items in
     let same = c.sort_unstable.ensures.permutation in
     let len = length_permutation ns sorted same in
-    let up : IsNonDecreasing sorted = IsNonDecreasingBy-from_sort (λ (x : ℕ). x) sorted c.sort_unstable.ensures.sorted in
+    let up : IsNonDecreasing sorted =
+    IsNonDecreasingBy-from_sort (λ (x : ℕ). x) sorted c.sort_unstable.ensures.sorted in
     let some : 0 < length sorted = omega arith in
     let count : c.len-last.result ≡ length sorted = c.len-last.ensures ∙ c.sort_unstable.new.self.ok.0 in
     let last : ℕ = c.len-last.result - 1 in

@@ -1,6 +1,6 @@
-use Rattle.std.proofs.Common.{rules, ◌≡◌, ap, ◌∙◌, map, List, ℕ}
+use Rattle.std.proofs.Common.{rules, ◌≡◌, ap, ◌∙◌, map}
 use Rattle.lab_seeds.specs.declared.figures.Figures.{Figures}
-use Rattle.lab_seeds.specs.Ranks.{each_picked, greatest, least, median}
+use Rattle.lab_seeds.specs.Ranks.{greatest, least, median}
 use Rattle.lab_seeds.proofs.Medians.{same_figures, same_ranks}
 use Rattle.lab_seeds.proofs.ranks.ranks_of.Goals as goal
 

@@ -1,4 +1,4 @@
-use Rattle.std.proofs.Common.{◌≡◌, ◌+◌, ℕ, List, map, Some, Option, Vec, Global}
+use Rattle.std.proofs.Common.{◌≡◌, ◌+◌, map, Some, Vec, Global}
 use Rattle.lab_seeds.specs.declared.end.SeedEnd.{SeedEnd}
 use Rattle.lab_seeds.specs.Endings.{AreEnds, HasEnd}
 use Rattle.lab_seeds.specs.Reading.{lines_read}

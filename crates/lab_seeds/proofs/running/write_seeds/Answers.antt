@@ -28,7 +28,8 @@ returns-in-Ok-write_whole g c =
     c.in-Ok-text_of.ensures
     ∙ ap (λ (es : List SeedEnd). ends_text first es ++ ranks_text (flat_map end_figures es)) c.deref.ensures.value
     ∙ text_is story first count ends are len in
-    let gained : GainsText a b text = subst (GainsText a b) c.as_bytes.ensures.value c.in-Ok-write_whole.ensures.whole in
+    let gained : GainsText a b text =
+    subst (GainsText a b) c.as_bytes.ensures.value c.in-Ok-write_whole.ensures.whole in
     let status = c.status_of.ensures ∙ ap ends_status c.deref-in-Ok-write_whole.ensures.value in
     subst (WritesSeeds it a b Failed) (sym status)
     (written it a Failed b text is ends (status_is story first count ends are len) gained)
