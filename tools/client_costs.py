@@ -6,7 +6,7 @@ from cost_kinds import KEY, heads, kind, node, shuffled
 
 # ---- starting again
 
-@kind("restart behind as many publications that wait to be fetched", 49_000)
+@kind("restart after as many publications that wait to be fetched", 49_000)
 def restart(n):
     yield from heads(2)
     for i in range(n):
@@ -109,7 +109,7 @@ def delete_each(n):
         yield f"delete m1 c1 /o/{i}"
 
 
-@kind("publish and delete in turn, behind as many that stay", 32_700)
+@kind("publish and delete in turn, after as many that stay", 32_700)
 def delete_turns(n):
     yield from heads(1, 1)
     for i in range(n):
@@ -131,7 +131,7 @@ def delete_fetched(n):
         yield "claim m2 1"
 
 
-@kind("claim and fetch behind every second publication deleted", 48_000)
+@kind("claim and fetch after every second publication deleted", 48_000)
 def claim_holes(n):
     yield from heads(2, 1)
     for i in range(n):
@@ -152,7 +152,7 @@ def delete_none(n):
         yield f"delete m1 c1 /p/{i}"
 
 
-# What the hash of std's maps multiplies by: behind these octets all names have one hash there.
+# What the hash of std's maps multiplies by: after these octets all names have one hash there.
 TIE = "%15%7C%4A%7F%B9%79%37%9E"
 
 

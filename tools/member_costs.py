@@ -54,9 +54,9 @@ def withdraw(n):
 @kind("names of 200 empty components, which differ in the last", 16_000)
 def publish_components(n):
     yield from heads(1)
-    front = "/..." * 196
+    prefix = "/..." * 196
     for i in shuffled(n):
-        yield f"publish m1 {front}/{i:05d} 1 text:a"
+        yield f"publish m1 {prefix}/{i:05d} 1 text:a"
 
 
 @kind("16 members with nodes of 200 octets, each of which knows all, publish and tell each time", 99_900)
@@ -122,18 +122,18 @@ def watch(n):
 
 
 @kind("16 watchers of names of 200 empty components are told of 5,000 objects each", 16)
-def told_news(n):
+def reported_news(n):
     yield from heads(1)
-    front = "/..." * 196
+    prefix = "/..." * 196
     for i in range(n):
-        yield f"watch m1 * {front}"
+        yield f"watch m1 * {prefix}"
     for i in range(5_000):
-        yield f"publish m1 {front}/{i:05d} 1 text:"
+        yield f"publish m1 {prefix}/{i:05d} 1 text:"
     for i in range(n):
         yield f"told m1 {i + 1}"
 
 
-# ---- telling and hearing
+# ---- reporting and hearing
 
 @kind("one packet is delivered again and again", 90_000)
 def deliver_one(n):
@@ -187,7 +187,7 @@ def hear_doubled(n):
         yield f"hear m{1 + i % 16} {octets}"
 
 
-@kind("hear what was sent first, behind as many publications", 33_000)
+@kind("hear what was sent first, after as many publications", 33_000)
 def hear_first(n):
     yield from heads(2)
     for i in range(n):
@@ -230,7 +230,7 @@ def claim_segments(n):
         yield "answer m2 1 m1"
 
 
-@kind("claim and lose behind 15 claims and 32,000 publications", 32_000)
+@kind("claim and lose after 15 claims and 32,000 publications", 32_000)
 def claim_lose(n):
     yield from heads(2)
     for i in range(n):
@@ -353,7 +353,7 @@ def settle_large(n):
     yield "settle 1"
 
 
-@kind("settle 1,000 times, one publication each, behind 16 members' 90,000", 1_000)
+@kind("settle 1,000 times, one publication each, after 16 members' 90,000", 1_000)
 def settle_news(n):
     yield from heads(16)
     for i in range(90 * n):

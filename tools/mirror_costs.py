@@ -1,4 +1,4 @@
-"""The costliest scripts of what mirrors do: they hear, fetch, list, and gain their parts behind a settle."""
+"""The costliest scripts of what mirrors do: they hear, fetch, list, and gain their parts after a settle."""
 from cost_kinds import heads, kind
 
 

@@ -137,7 +137,7 @@ def signed_interest(name, parameters, node, key, bend=same):
 
 
 def number_at(octets, at):
-    """A type or a length, and the place behind it."""
+    """A type or a length, and the place after it."""
     width = {253: 2, 254: 4, 255: 8}.get(octets[at], 0)
     if not width:
         return octets[at], at + 1

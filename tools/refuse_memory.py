@@ -6,7 +6,7 @@
 Runs `ndnrepo run` on each script with the first request of a kind refused, then with the second alone, and so on up
 to the run that makes no more. The kinds, all of them unless some are named:
 
-    memory    no memory is given once. The run ends with 5 (out of memory) and has written a front of the report, or
+    memory    no memory is given once. The run ends with 5 (out of memory) and has written a prefix of the report, or
               it ends as without the refusal: where a list then asks for less, and where no thread could be started.
     shortage  no memory is given from here on. The run ends in the same ways.
     threads   no thread is started. The run ends as without the refusal: who wanted the thread does its work. One more
@@ -14,7 +14,7 @@ to the run that makes no more. The kinds, all of them unless some are named:
     reads     the input, which comes by pieces of 20 octets, can't be read from here on. The run ends with 3, and has
               written the report of the lines that were read whole.
     writes    the output, which goes by pieces of 8 octets, can't be written from here on. The run ends with 4, and
-              has written a front of the report, and not all.
+              has written a prefix of the report, and not all.
     signals   a signal interrupts one read or write, which is made again. The run ends as without it.
 
 Without scripts it takes three short ones and tools/every_line.script, which has every kind of line. A row tells of
@@ -103,11 +103,11 @@ __attribute__((constructor)) static void begin(void) {
     close(file);
 }
 
-/* Whether this call is of the kind, and its number is the refused one, or behind it where those are refused too. */
-static int refuses(const char *of, int and_behind) {
+/* Whether this call is of the kind, and its number is the refused one, or after it where those are refused too. */
+static int refuses(const char *of, int and_after) {
     if (!made || strcmp(of, kind)) return 0;
     long number = atomic_fetch_add(made, 1) + 1;
-    return number == refused || (and_behind && refused > 0 && number > refused);
+    return number == refused || (and_after && refused > 0 && number > refused);
 }
 static int refuses_memory(void) { return refuses("memory", 0) || refuses("shortage", 1); }
 

@@ -17,6 +17,6 @@ abbrev pub seeded_passes : List ℕ → ℕ → ℕ → ℕ → ℕ → ℕ → 
 seeded_passes seed asker publisher seq part attempt loss =
     nat_le loss (word seed asker (attempt_place publisher seq part attempt) % 1000)
 
--- A member's draw is the word of that number in a stream of its own, behind those of all askers.
+-- A member's draw is the word of that number in a stream of its own, after those of all askers.
 abbrev pub seeded_draw : List ℕ → ℕ → ℕ → ℕ
 seeded_draw seed member k = word seed (2 ^ 32 + member) k

@@ -1,4 +1,4 @@
--- How what was sent is kept: each vector that was told of once, and each packet with its vector's number.
+-- How what was sent is kept: each vector that was reported of once, and each packet with its vector's number.
 use Rattle.std.specs.Prelude.{◌≡◌, ℕ, ◌+◌, ◌<◌, ◌≤◌, Bool, false, List, [], map, length, slice_index_or, Vec}
 use Rattle.std.specs.Prelude.{vec_capacity, position, ◌==◌, ◌&&◌}
 use Rattle.std.specs.List.{list_any, All}
@@ -19,22 +19,22 @@ packets_of vectors packets =
     map (λ (p : Packet). sent_packet p.sender (slice_index_or vectors p.vector []) p.octets.items) packets
 
 -- The answer that the vectors and the pairs of a sender and a vector's number give.
-abbrev pub is_told : ℕ → List ℕ → List (List ℕ) → List (ℕ × ℕ) → Bool
-is_told sender vector vectors told =
-    option_map_or (λ i. list_any (λ pair. (sender == pair.0) && (i == pair.1)) told)
+abbrev pub is_reported : ℕ → List ℕ → List (List ℕ) → List (ℕ × ℕ) → Bool
+is_reported sender vector vectors reported =
+    option_map_or (λ i. list_any (λ pair. (sender == pair.0) && (i == pair.1)) reported)
     (position (bytes_eq vector) vectors) false
 
--- The pairs tell of the vectors, and as the packets do.
-pub record TellsOf (vectors : List (List ℕ)) (told : List (ℕ × ℕ)) (packets : List SentPacket) : Type 0 where
-  pub within : All (λ pair. pair.1 < length vectors) told
+-- The pairs report the vectors, and as the packets do.
+pub record ReportsOf (vectors : List (List ℕ)) (reported : List (ℕ × ℕ)) (packets : List SentPacket) : Type 0 where
+  pub within : All (λ pair. pair.1 < length vectors) reported
   pub answers : (sender : ℕ) (vector : List ℕ)
-      → was_sent sender vector packets ≡ is_told sender vector vectors told
+      → was_sent sender vector packets ≡ is_reported sender vector vectors reported
 
 -- There is the room that is spare, each packet's vector is there, and the pairs tell as the packets do.
 pub record AreSent (s : Inside) : Type 0 where
   pub room : s.spare + length s.packets.items ≤ vec_capacity s.packets
   pub room_of_vectors : s.spare ≤ spare s.vectors
-  pub room_of_told : s.spare ≤ spare s.told
+  pub room_of_reported : s.spare ≤ spare s.reported
   pub few : length s.packets.items < 4294967296
   pub within : All (λ (p : Packet). p.vector < length s.vectors.keys) s.packets.items
-  pub tells : TellsOf (lists_of s.vectors.keys) s.told.keys (packets_of (lists_of s.vectors.keys) s.packets.items)
+  pub tells : ReportsOf (lists_of s.vectors.keys) s.reported.keys (packets_of (lists_of s.vectors.keys) s.packets.items)

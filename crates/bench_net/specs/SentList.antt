@@ -4,7 +4,7 @@ use Rattle.std.specs.List.{list_any}
 use Rattle.std.specs.Option.{option_map}
 use Rattle.std.specs.Str.{bytes_eq}
 
--- Who sent a packet, which vector it tells of, and its octets.
+-- Who sent a packet, which vector it reports, and its octets.
 pub record SentPacket : Type 0 where
   pub sender : ℕ
   pub vector : List ℕ
@@ -24,12 +24,12 @@ abbrev pub sent_octets : List SentPacket → ℕ → Option (List ℕ)
 sent_octets packets k =
     if k == 0 then None else option_map (λ (p : SentPacket). p.octets) (slice_get packets (k - 1))
 
--- The vector that it tells of.
+-- The vector that it reports.
 abbrev pub sent_vector : List SentPacket → ℕ → Option (List ℕ)
 sent_vector packets k =
     if k == 0 then None else option_map (λ (p : SentPacket). p.vector) (slice_get packets (k - 1))
 
--- The sender sent a packet that tells of this vector.
+-- The sender sent a packet that reports this vector.
 abbrev pub was_sent : ℕ → List ℕ → List SentPacket → Bool
 was_sent sender vector packets =
     list_any (λ (p : SentPacket). (sender == p.sender) && bytes_eq vector p.vector) packets

@@ -16,7 +16,7 @@ const SEQ: u128 = 0x20_0000_0000;
 
 const PART: u128 = 0x20_0000;
 
-// The first stream of draws, behind those of all askers.
+// The first stream of draws, after those of all askers.
 const DRAWS: u64 = 0x1_0000_0000;
 
 /// A network and draws that follow from a seed: the words of ChaCha with 8 rounds under it, by stream and place.

@@ -9,21 +9,21 @@ use std::marker::Model;
 #[derive(Drop)]
 struct Packet {
     sender: u32,
-    // The vector's number among those that were told of.
+    // The vector's number among those that were reported of.
     vector: usize,
     octets: Vec<u8>,
 }
 
 /// The packets that were sent in a group, numbered from 1 in the order of sending, and room for more.
 ///
-/// Each has its sender, the vector that it tells of, and its octets. It is found by number and by sender and vector, in
+/// Each has its sender, the vector that it reports, and its octets. It is found by number and by sender and vector, in
 /// a time that doesn't grow with the list.
 pub struct Sent {
     packets: Vec<Packet>,
-    // Each vector that was told of, once.
+    // Each vector that was reported of, once.
     vectors: IndexSet<Vec<u16>>,
-    // Who told of which, by the vector's number.
-    told: IndexSet<(u32, usize)>,
+    // Who reported of which, by the vector's number.
+    reported: IndexSet<(u32, usize)>,
     spare: usize,
 }
 
@@ -33,7 +33,7 @@ impl Drop for Sent {
         let Sent {
             packets: _,
             vectors: _,
-            told: _,
+            reported: _,
             spare: _,
         } = self;
     }
@@ -62,7 +62,7 @@ impl Sent {
         Sent {
             packets: Vec::new(alloc),
             vectors: IndexSet::new(alloc),
-            told: IndexSet::new(alloc),
+            reported: IndexSet::new(alloc),
             spare: 0,
         }
     }
@@ -101,7 +101,7 @@ impl Sent {
         if self.spare < n {
             self.packets.reserve(n)?;
             self.vectors.reserve(n)?;
-            self.told.reserve(n)?;
+            self.reported.reserve(n)?;
             self.spare = n;
         }
         Ok(())
@@ -116,7 +116,7 @@ impl Sent {
         ensures spare { self.new.spare ≡ self.old.spare - 1 }
     {
         let (vector, _) = self.vectors.insert_full(vector).unwrap();
-        self.told.insert((sender, vector)).unwrap();
+        self.reported.insert((sender, vector)).unwrap();
         let packet = Packet {
             sender,
             vector,
@@ -136,21 +136,21 @@ impl Sent {
         Some(&packet.octets)
     }
 
-    /// The vector that the packet of that number tells of.
+    /// The vector that the packet of that number reports.
     pub fn vector(&self, k: u32) -> Option<&[u16]>
         ensures { option_map (λ vector. vector.now) result ≡ sent_vector self.now.packets k }
     {
-        let behind = k.checked_sub(1)?;
-        let packet = self.packets.get(behind as usize)?;
+        let after = k.checked_sub(1)?;
+        let packet = self.packets.get(after as usize)?;
         Some(self.vectors.as_slice()[packet.vector].as_slice())
     }
 
-    /// Whether the sender sent a packet that tells of this vector.
+    /// Whether the sender sent a packet that reports this vector.
     pub fn has(&self, sender: u32, vector: &[u16]) -> bool
         ensures { result ≡ was_sent sender vector.now self.now.packets }
     {
         match self.vectors.get_index_of(vector) {
-            Some(vector) => self.told.contains(&(sender, vector)),
+            Some(vector) => self.reported.contains(&(sender, vector)),
             None => false,
         }
     }

@@ -20,15 +20,15 @@ use Rattle.group_model.proofs.Lists.{from_filter}
 use Rattle.group_model.proofs.Parts.{all_parts_rise}
 use Rattle.group_model.proofs.Settles.{comes}
 use Rattle.repo_member.specs.Groups.{GroupKeys}
-use Rattle.repo_member.specs.Alone.{Alone, alone_holdings}
+use Rattle.repo_member.specs.MemberState.{MemberState, member_holdings}
 use Rattle.repo_member.specs.InGroup.{in_group, AreLogs}
-use Rattle.repo_member.specs.TrueMembers.{IsTrueMember}
+use Rattle.repo_member.specs.ConsistentMembers.{IsConsistentMember}
 use Rattle.bench_world.specs.Lending.{lends}
 use Rattle.bench_world.specs.Truth.{stores, TriedFew, AllTriedFew}
 use Rattle.bench_world.specs.MemberWords.{member_words}
 use Rattle.bench_world.specs.Gathering.{one_each, Counts, GainsParts, NothingLeft}
 use Rattle.bench_world.specs.Settling.{gain_sum, AreGathering, GatheredSoFar, IsPartlySettled, ArePartlySettled}
-use Rattle.bench_world.specs.Worlds.{nobody, alone_at, others_than, in_groups, AreTrueMembers, MembersAreNumbered}
+use Rattle.bench_world.specs.Worlds.{nobody, state_at, others_than, in_groups, AreConsistentMembers, MembersAreNumbered}
 use Rattle.bench_world.proofs.SetSums.{sum_insert_keys, ones}
 use Rattle.bench_world.specs.MembersHold.{members_hold}
 use Rattle.bench_world.proofs.Rounds.{tried_still}
@@ -38,23 +38,23 @@ use Rattle.bench_world.proofs.MemberGathering.{someones_after}
 -- ---- one of them
 
 -- Someone holds a part where the member does, or one of the others.
-someone_at : (members : List Alone) (j : ℕ) (t : Part) → j < length members
+someone_at : (members : List MemberState) (j : ℕ) (t : Part) → j < length members
     → someone_holds (in_groups members) t
-    ≡ (stores (alone_at members j) t || someone_holds (in_groups (others_than j members)) t)
+    ≡ (stores (state_at members j) t || someone_holds (in_groups (others_than j members)) t)
 someone_at [] j t l = absurd (omega (arith, l))
 someone_at (a ∷ members) zero t l = refl
 someone_at (a ∷ members) (suc j) t l =
     ap (λ (b : Bool). stores a t || b) (someone_at members j t (omega (arith, l)))
-    ∙ or_swap (stores a t) (stores (alone_at members j) t) (someone_holds (in_groups (others_than j members)) t)
+    ∙ or_swap (stores a t) (stores (state_at members j) t) (someone_holds (in_groups (others_than j members)) t)
 
-pub member_of : (members : List Alone) (j : ℕ) → j < length members
-    → get_or (in_groups members) j no_member ≡ in_group (alone_at members j)
+pub member_of : (members : List MemberState) (j : ℕ) → j < length members
+    → get_or (in_groups members) j no_member ≡ in_group (state_at members j)
 member_of members j l = get_or-map in_group members j nobody no_member l
 
-others_set : (ms : List Alone) (k : ℕ) (a : Alone) → others_than k (set ms k a) ≡ others_than k ms
+others_set : (ms : List MemberState) (k : ℕ) (a : MemberState) → others_than k (set ms k a) ≡ others_than k ms
 others_set [] k a = refl
 others_set (m ∷ ms) zero a = refl
-others_set (m ∷ ms) (suc k) a = ap (λ (xs : List Alone). m ∷ xs) (others_set ms k a)
+others_set (m ∷ ms) (suc k) a = ap (λ (xs : List MemberState). m ∷ xs) (others_set ms k a)
 
 -- However parts count, so much came as comes to a member in a settle.
 came_sum : (w : World) (m : Member) (held : Rises part_cmp m.held) (weight : Part → ℕ) (n : ℕ)
@@ -69,7 +69,7 @@ came_sum w m held weight n count =
 
 -- ---- all of them, one after another
 
-module _ (g : GroupKeys) (w : World) (group : IsSoundGroup w) (are : AreLogs g (logs w)) (begun : List Alone)
+module _ (g : GroupKeys) (w : World) (group : IsSoundGroup w) (are : AreLogs g (logs w)) (begun : List MemberState)
     (learnt_all : in_groups begun ≡ map (learnt_member w) w.members) where
   pub long : length begun ≡ length w.members
   long = sym (length-map begun in_group) ∙ ap length learnt_all ∙ length-map w.members (learnt_member w)
@@ -81,7 +81,7 @@ module _ (g : GroupKeys) (w : World) (group : IsSoundGroup w) (are : AreLogs g (
       let d = are.group.members.roster.few in
       omega (arith, a, b, d, long)
 
-  learnt_at : (j : ℕ) → j < length begun → in_group (alone_at begun j) ≡ learnt_member w (member w j)
+  learnt_at : (j : ℕ) → j < length begun → in_group (state_at begun j) ≡ learnt_member w (member w j)
   learnt_at j l =
       sym (member_of begun j l)
       ∙ ap (λ (ms : List Member). get_or ms j no_member) learnt_all
@@ -93,12 +93,12 @@ module _ (g : GroupKeys) (w : World) (group : IsSoundGroup w) (are : AreLogs g (
     again [] = refl
     again (m ∷ ms) = ap (λ (b : Bool). member_holds m t || b) (again ms)
 
-  pub gathered_none : AreTrueMembers g (logs w) begun → MembersAreNumbered begun → AllTriedFew begun
+  pub gathered_none : AreConsistentMembers g (logs w) begun → MembersAreNumbered begun → AllTriedFew begun
       → GatheredSoFar g w begun 0 begun
-  gathered_none truly numbers tried = record {
+  gathered_none consistent numbers tried = record {
     all = record {
       len = refl;
-      truly = truly;
+      consistent = consistent;
       numbers = numbers;
       tried = tried;
       each =
@@ -112,109 +112,111 @@ module _ (g : GroupKeys) (w : World) (group : IsSoundGroup w) (are : AreLogs g (
   }
 
   -- Each has come a part of the way.
-  pub partly_all : (mid : List Alone) → AreGathering g w begun mid → ArePartlySettled w (in_groups mid)
+  pub partly_all : (mid : List MemberState) → AreGathering g w begun mid → ArePartlySettled w (in_groups mid)
   partly_all mid all = record {
     len = length-map mid in_group ∙ all.len ∙ long;
     each = λ i l.
         let inside : i < length mid = omega (arith, l, all.len, long) in
         subst (IsPartlySettled w (member w i)) (sym (member_of mid i inside))
-        (partly_settled w group i l (in_group (alone_at mid i))
-        (subst (λ (k : ℕ). IsSoundMember (logs w) k (in_group (alone_at mid i))) (all.numbers i inside)
-        (all.truly i inside).sound) (all.each i inside));
+        (partly_settled w group i l (in_group (state_at mid i))
+        (subst (λ (k : ℕ). IsSoundMember (logs w) k (in_group (state_at mid i))) (all.numbers i inside)
+        (all.consistent i inside).sound) (all.each i inside));
   }
 
-  module _ (j : ℕ) (mid : List Alone) (so_far : GatheredSoFar g w begun j mid) (inside : j < length mid)
-      (new : List Alone) (set_is : new ≡ set mid j (alone_at new j))
-      (gains : GainsParts member_words g (logs w) (others_than j mid) (alone_at mid j) (alone_at new j)) where
-    stored : alone_at new j ≡ record (alone_at mid j) { store = (alone_at new j).store }
-    stored = only_stored g (logs w) (others_than j mid) (alone_at mid j) (alone_at new j) gains
+  module _ (j : ℕ) (mid : List MemberState) (so_far : GatheredSoFar g w begun j mid) (inside : j < length mid)
+      (new : List MemberState) (set_is : new ≡ set mid j (state_at new j))
+      (gains : GainsParts member_words g (logs w) (others_than j mid) (state_at mid j) (state_at new j)) where
+    stored : state_at new j ≡ record (state_at mid j) { store = (state_at new j).store }
+    stored = only_stored g (logs w) (others_than j mid) (state_at mid j) (state_at new j) gains
 
     there : j < length w.members
     there = omega (arith, inside, so_far.all.len, long)
 
-    learnt : in_group (alone_at mid j) ≡ learnt_member w (member w j)
+    learnt : in_group (state_at mid j) ≡ learnt_member w (member w j)
     learnt = ap in_group (so_far.still j (omega arith)) ∙ learnt_at j (omega (arith, inside, so_far.all.len))
 
-    someones : (t : Part) → (stores (alone_at mid j) t || lends (others_than j mid) t) ≡ someone_holds w.members t
+    someones : (t : Part) → (stores (state_at mid j) t || lends (others_than j mid) t) ≡ someone_holds w.members t
     someones t =
-        ap (λ (b : Bool). stores (alone_at mid j) t || b) (lends_held (others_than j mid) t)
+        ap (λ (b : Bool). stores (state_at mid j) t || b) (lends_held (others_than j mid) t)
         ∙ sym (someone_at mid j t inside)
         ∙ so_far.all.someones t
 
-    number : (alone_at new j).number ≡ j
-    number = ap (λ (a : Alone). a.number) stored ∙ so_far.all.numbers j inside
+    number : (state_at new j).number ≡ j
+    number = ap (λ (a : MemberState). a.number) stored ∙ so_far.all.numbers j inside
 
     new_len : length new ≡ length mid
-    new_len = ap length set_is ∙ length-set mid j (alone_at new j)
+    new_len = ap length set_is ∙ length-set mid j (state_at new j)
 
-    elsewhere : (i : ℕ) → (i ≡ j → ⊥) → alone_at new i ≡ alone_at mid i
+    elsewhere : (i : ℕ) → (i ≡ j → ⊥) → state_at new i ≡ state_at mid i
     elsewhere i other =
-        ap (λ (ms : List Alone). get_or ms i nobody) set_is ∙ get_or-set_other mid j i (alone_at new j) nobody other
+        ap (λ (ms : List MemberState). get_or ms i nobody) set_is
+        ∙ get_or-set_other mid j i (state_at new j) nobody other
 
     others_still : others_than j new ≡ others_than j mid
-    others_still = ap (others_than j) set_is ∙ others_set mid j (alone_at new j)
+    others_still = ap (others_than j) set_is ∙ others_set mid j (state_at new j)
 
     -- While one gathers, the others stay, and it may stop anywhere.
     pub gathered_part : AreGathering g w begun new
     gathered_part = record {
       len = new_len ∙ so_far.all.len;
-      truly = λ i l. elim (cases_eq i j) [
-        | inl same ↦ subst (λ (k : ℕ). IsTrueMember g (logs w) (alone_at new k)) (sym same) gains.truly
+      consistent = λ i l. elim (cases_eq i j) [
+        | inl same ↦ subst (λ (k : ℕ). IsConsistentMember g (logs w) (state_at new k)) (sym same) gains.consistent
         | inr other ↦
-            subst (IsTrueMember g (logs w)) (sym (elsewhere i other)) (so_far.all.truly i (omega (arith, l, new_len)))
+            subst (IsConsistentMember g (logs w)) (sym (elsewhere i other))
+            (so_far.all.consistent i (omega (arith, l, new_len)))
       ];
       numbers = λ i l. elim (cases_eq i j) [
-        | inl same ↦ ap (λ (k : ℕ). (alone_at new k).number) same ∙ number ∙ sym same
+        | inl same ↦ ap (λ (k : ℕ). (state_at new k).number) same ∙ number ∙ sym same
         | inr other ↦
-            ap (λ (a : Alone). a.number) (elsewhere i other) ∙ so_far.all.numbers i (omega (arith, l, new_len))
+            ap (λ (a : MemberState). a.number) (elsewhere i other) ∙ so_far.all.numbers i (omega (arith, l, new_len))
       ];
       tried = λ i l. elim (cases_eq i j) [
         | inl same ↦
-            subst (λ (k : ℕ). TriedFew (alone_holdings (alone_at new k))) (sym same)
-            (tried_still member_words members_hold g (logs w) (others_than j mid) (alone_at mid j) (alone_at new j)
+            subst (λ (k : ℕ). TriedFew (member_holdings (state_at new k))) (sym same)
+            (tried_still member_words members_hold g (logs w) (others_than j mid) (state_at mid j) (state_at new j)
             gains (so_far.all.tried j inside))
         | inr other ↦
-            subst (λ (a : Alone). TriedFew (alone_holdings a)) (sym (elsewhere i other))
+            subst (λ (a : MemberState). TriedFew (member_holdings a)) (sym (elsewhere i other))
             (so_far.all.tried i (omega (arith, l, new_len)))
       ];
       each = λ i l. elim (cases_eq i j) [
-        | inl same ↦ subst (λ (k : ℕ). IsGathering w (member w k) (in_group (alone_at new k))) (sym same)
-            (gathering g w group are j there (others_than j mid) (alone_at mid j) (alone_at new j) learnt someones
+        | inl same ↦ subst (λ (k : ℕ). IsGathering w (member w k) (in_group (state_at new k))) (sym same)
+            (gathering g w group are j there (others_than j mid) (state_at mid j) (state_at new j) learnt someones
             number gains)
         | inr other ↦
-            subst (λ (a : Alone). IsGathering w (member w i) (in_group a)) (sym (elsewhere i other))
+            subst (λ (a : MemberState). IsGathering w (member w i) (in_group a)) (sym (elsewhere i other))
             (so_far.all.each i (omega (arith, l, new_len)))
       ];
       someones = λ t.
           someone_at new j t (omega (arith, inside, new_len))
-          ∙ ap (λ (ms : List Alone). stores (alone_at new j) t || someone_holds (in_groups ms) t) others_still
-          ∙ ap (λ (b : Bool). stores (alone_at new j) t || b) (sym (lends_held (others_than j mid) t))
-          ∙ someones_after g w group are j there (others_than j mid) (alone_at mid j) (alone_at new j) learnt someones
+          ∙ ap (λ (ms : List MemberState). stores (state_at new j) t || someone_holds (in_groups ms) t) others_still
+          ∙ ap (λ (b : Bool). stores (state_at new j) t || b) (sym (lends_held (others_than j mid) t))
+          ∙ someones_after g w group are j there (others_than j mid) (state_at mid j) (state_at new j) learnt someones
           number gains t;
       counts = λ i. elim (cases_eq i j) [
         | inl same ↦ record {
           machine =
-              ap (λ (k : ℕ). (alone_at new k).machine) same
-              ∙ ap (λ (a : Alone). a.machine) stored
+              ap (λ (k : ℕ). (state_at new k).machine) same
+              ∙ ap (λ (a : MemberState). a.machine) stored
               ∙ (so_far.all.counts j).machine
-              ∙ ap (λ (k : ℕ). (alone_at begun k).machine) (sym same);
+              ∙ ap (λ (k : ℕ). (state_at begun k).machine) (sym same);
           attempts =
-              ap (λ (k : ℕ). (alone_at new k).attempts) same
-              ∙ ap (λ (a : Alone). a.attempts) stored
+              ap (λ (k : ℕ). (state_at new k).attempts) same
+              ∙ ap (λ (a : MemberState). a.attempts) stored
               ∙ (so_far.all.counts j).attempts
-              ∙ ap (λ (k : ℕ). (alone_at begun k).attempts) (sym same);
+              ∙ ap (λ (k : ℕ). (state_at begun k).attempts) (sym same);
         }
         | inr other ↦ record {
-          machine = ap (λ (a : Alone). a.machine) (elsewhere i other) ∙ (so_far.all.counts i).machine;
-          attempts = ap (λ (a : Alone). a.attempts) (elsewhere i other) ∙ (so_far.all.counts i).attempts;
+          machine = ap (λ (a : MemberState). a.machine) (elsewhere i other) ∙ (so_far.all.counts i).machine;
+          attempts = ap (λ (a : MemberState). a.attempts) (elsewhere i other) ∙ (so_far.all.counts i).attempts;
         }
       ];
     }
 
-    module _ (left : NothingLeft member_words (others_than j mid) (alone_at new j)) where
-      settled_here : in_group (alone_at new j) ≡ settled_member w (member w j)
+    module _ (left : NothingLeft member_words (others_than j mid) (state_at new j)) where
+      settled_here : in_group (state_at new j) ≡ settled_member w (member w j)
       settled_here =
-          settled g w group are j there (others_than j mid) (alone_at mid j) (alone_at new j) learnt someones number
+          settled g w group are j there (others_than j mid) (state_at mid j) (state_at new j) learnt someones number
           gains left
 
       pub gathered_more : GatheredSoFar g w begun (j + 1) new
@@ -222,7 +224,7 @@ module _ (g : GroupKeys) (w : World) (group : IsSoundGroup w) (are : AreLogs g (
         all = gathered_part;
         done = λ i l. elim (cases_eq i j) [
           | inl same ↦
-              subst (λ (k : ℕ). in_group (alone_at new k) ≡ settled_member w (member w k)) (sym same) settled_here
+              subst (λ (k : ℕ). in_group (state_at new k) ≡ settled_member w (member w k)) (sym same) settled_here
           | inr other ↦ ap in_group (elsewhere i other) ∙ so_far.done i (omega (arith, l, other))
         ];
         still = λ i l. elsewhere i (λ e. omega (arith, l, e)) ∙ so_far.still i (omega (arith, l));
@@ -230,10 +232,10 @@ module _ (g : GroupKeys) (w : World) (group : IsSoundGroup w) (are : AreLogs g (
 
       -- However parts count, so much more came.
       pub sum_more : (weight : Part → ℕ) (n came : ℕ) → n ≡ gain_sum weight w (take j w.members)
-          → Counts member_words weight came (alone_at mid j) (alone_at new j)
+          → Counts member_words weight came (state_at mid j) (state_at new j)
           → n + came ≡ gain_sum weight w (take (j + 1) w.members)
       sum_more weight n came so_many count =
-          let held : keys (alone_at mid j).store ≡ (member w j).held = ap (λ (m : Member). m.held) learnt in
+          let held : keys (state_at mid j).store ≡ (member w j).held = ap (λ (m : Member). m.held) learnt in
           let rises : Rises part_cmp (member w j).held = (group.members j there).in_order.held in
           let one : came ≡ sum_by weight (new_parts w (member w j)) =
           came_sum w (member w j) rises weight came
@@ -245,7 +247,7 @@ module _ (g : GroupKeys) (w : World) (group : IsSoundGroup w) (are : AreLogs g (
           omega (arith, one, more, so_many)
 
   -- All have gathered.
-  pub gathered_all : (new : List Alone) → GatheredSoFar g w begun (length begun) new
+  pub gathered_all : (new : List MemberState) → GatheredSoFar g w begun (length begun) new
       → in_groups new ≡ map (settled_member w) w.members
   gathered_all new h =
       ext_get_or no_member (in_groups new) (map (settled_member w) w.members)

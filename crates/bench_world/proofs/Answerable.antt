@@ -1,4 +1,4 @@
--- Who holds a part gives its packet to one that asks for it, where the packets of index packets and segments are told
+-- Who holds a part gives its packet to one that asks for it, where the packets of index packets and segments are known
 -- by their names and digests.
 use Rattle.std.proofs.Common.{◌≡◌, ◌≢◌, ◌⊎◌, inl, inr, ℕ, ◌-◌, ◌^◌, ◌<◌, ◌==◌, Bool, true, false, cond, List, [], ◌∷◌}
 use Rattle.std.proofs.Common.{◌++◌, length, get_or, Option, Some, None, option_map, refl, sym, ap, ◌∙◌, subst, arith}
@@ -21,18 +21,18 @@ use Rattle.ndn_data.specs.Data.{Data, data_of, Satisfies}
 use Rattle.svs_vector.specs.Rosters.{has_same_octets}
 use Rattle.repo_plan.specs.declared.part.Part.{Part}
 use Rattle.sorted_lists.specs.SortedList.{keys, value_of, contains}
-use Rattle.repo_plan.specs.Parts.{Pair, part_cmp, pair_of, index_packets, parts_behind}
+use Rattle.repo_plan.specs.Parts.{Pair, part_cmp, pair_of, index_packets, parts_after}
 use Rattle.repo_plan.specs.Plan.{claim_of, is_wanted}
 use Rattle.repo_object.specs.Objects.{Post, IsPost, offered, shape_in, Publisher, IsPublisher, record_name}
 use Rattle.repo_object.specs.Objects.{segment_name}
 use Rattle.repo_object.specs.Objects.Post.{Offers, Withdraws}
-use Rattle.repo_object.specs.Publication.{published_listing, published_record, record_packet, packets_behind, packet_at}
+use Rattle.repo_object.specs.Publication.{published_listing, published_record, record_packet, packets_after, packet_at}
 use Rattle.repo_object.specs.Wants.{WantedPart, asked_name, want_record, want_index, want_segment}
 use Rattle.repo_object.proofs.Asking.{asked_for, record_interest, index_interest, segment_interest}
 use Rattle.repo_object.proofs.IndexLemmas.{index_few}
-use Rattle.repo_object.proofs.Publications.{record_read, record_again, said_within_limits, index_part, segment_part}
-use Rattle.repo_object.proofs.Publications.{index_is, segment_is, index_digest, behind_is}
-use Rattle.repo_object.proofs.Telling.{last_same, records_differ, records_are_no_segments}
+use Rattle.repo_object.proofs.Publications.{record_read, record_again, stated_within_limits, index_part, segment_part}
+use Rattle.repo_object.proofs.Publications.{index_is, segment_is, index_digest, after_is}
+use Rattle.repo_object.proofs.Report.{last_same, records_differ, records_are_no_segments}
 use Rattle.repo_store.specs.Served.{satisfies, first_served, served_entry, served, served_part}
 use Rattle.repo_store.proofs.LawLemmas.{satisfies-Decides, served_least, served_of_part, has_value}
 use Rattle.group_model.specs.Publications.{Logs, no_object, post_at, shape_at}
@@ -46,14 +46,14 @@ use Rattle.group_model.specs.Refusals.{if_idle_or_foreign}
 use Rattle.group_model.proofs.PublicLaws.{publisher_holds}
 use Rattle.repo_member.specs.Groups.{GroupKeys, IsPlainNodeName, node_at, publisher_at}
 use Rattle.repo_member.specs.Records.{Packet}
-use Rattle.repo_member.specs.Alone.{Alone, alone_plan}
-use Rattle.repo_member.specs.InGroup.{in_group, AreLogs, true_packet}
-use Rattle.repo_member.specs.TrueMembers.{IsTrueMember, true_want}
+use Rattle.repo_member.specs.MemberState.{MemberState, member_plan}
+use Rattle.repo_member.specs.InGroup.{in_group, AreLogs, published_packet}
+use Rattle.repo_member.specs.ConsistentMembers.{IsConsistentMember, published_want}
 use Rattle.repo_member.proofs.PublicLaws.{stores_those}
-use Rattle.bench_world.specs.Worlds.{GroupState, IsTrueState, alone_at, in_groups, logs_around, world_of}
+use Rattle.bench_world.specs.Worlds.{GroupState, IsConsistentState, state_at, in_groups, logs_around, world_of}
 use Rattle.bench_world.specs.Serving.{judged_packet, found, came_of, keyed}
-use Rattle.bench_world.specs.EventValues.{answer_told}
-use Rattle.bench_world.specs.Answerable.{AreAllClear, IsKept}
+use Rattle.bench_world.specs.EventValues.{answer_reported}
+use Rattle.bench_world.specs.Answerable.{AreAllCollisionFree, IsKept}
 use Rattle.bench_world.proofs.States.{member_at, many_logs, sound_state}
 use Rattle.bench_world.proofs.ClaimedPackets.{publisher_there, post_within, packet_is, its_octets, claim_published}
 
@@ -61,19 +61,19 @@ use Rattle.bench_world.proofs.ClaimedPackets.{publisher_there, post_within, pack
 
 -- A name whose last component is no digest.
 pub record EndsPlainly (name : List Component) : Type 0 where
-  pub front : List Component
+  pub prefix : List Component
   pub last : Component
-  pub is : name ≡ front ++ last ∷ []
+  pub is : name ≡ prefix ++ last ∷ []
   pub plain : last.0 ≢ 1
 
 -- It is no full name.
 no_full_name : (name other : List Component) (digest : List ℕ) → EndsPlainly name → name ≢ full_name other digest
 no_full_name name other digest p e =
-    p.plain (ap (λ (c : Component). c.0) (last_same p.front other p.last (1, digest) (sym p.is ∙ e)).1)
+    p.plain (ap (λ (c : Component). c.0) (last_same p.prefix other p.last (1, digest) (sym p.is ∙ e)).1)
 
 record_plain : (node group : List Component) (seq : ℕ) → EndsPlainly (record_name node group seq)
 record_plain node group seq = record {
-  front = node ++ group;
+  prefix = node ++ group;
   last = (0x3a, number_field seq);
   is = joined node;
   plain = λ e. omega (arith, e);
@@ -84,7 +84,7 @@ record_plain node group seq = record {
   joined (x ∷ xs) = ap (λ (ys : List Component). x ∷ ys) (joined xs)
 
 segment_plain : (name : List Component) (i : ℕ) → EndsPlainly (segment_name name i)
-segment_plain name i = record { front = name; last = (0x32, number_field i); is = refl; plain = λ e. omega (arith, e) }
+segment_plain name i = record { prefix = name; last = (0x32, number_field i); is = refl; plain = λ e. omega (arith, e) }
 
 -- ---- the want of a part of a publication
 
@@ -106,8 +106,8 @@ pub record IsPartOf (octets : List ℕ) (want : WantedPart) : Type 0 where
   pub plain : EndsPlainly want.name
   pub interest : interest_of want.interest ≡ Ok (read_plain (asked_name want.name want.digest) false)
 
--- The same of a part behind a record, whose packet stands at its place of the publication.
-pub record IsBehind (publisher : Publisher) (post : Post) (t : Part) (octets : List ℕ) (want : WantedPart)
+-- The same of a part after a record, whose packet stands at its place of the publication.
+pub record ComesAfter (publisher : Publisher) (post : Post) (t : Part) (octets : List ℕ) (want : WantedPart)
     : Type 0 where
   pub under : List Component
   pub number : ℕ
@@ -116,7 +116,7 @@ pub record IsBehind (publisher : Publisher) (post : Post) (t : Part) (octets : L
   pub name : d.name ≡ want.name
   pub wanted : want.name ≡ segment_name under number
   pub digest : want.digest ≡ Some (sha256 octets)
-  pub stands : slice_get (packets_behind publisher t.seq post) (t.part - 1) ≡ Some octets
+  pub stands : slice_get (packets_after publisher t.seq post) (t.part - 1) ≡ Some octets
   pub interest : interest_of want.interest ≡ Ok (read_plain (asked_name want.name want.digest) false)
 
 module _ (g : GroupKeys) (t : Part) (is_publisher : IsPublisher (publisher_at g t.publisher)) (low : t.seq < 2 ^ 16)
@@ -138,13 +138,13 @@ module _ (g : GroupKeys) (t : Part) (is_publisher : IsPublisher (publisher_at g 
           interest = record_interest t (node_at g t.publisher) g.name is_publisher.node is_publisher.group low;
         }
 
-    behind_record : (post : Post) (octets : List ℕ) → IsPost t.seq post → packet_at own t.seq post t.part ≡ Some octets
-        → 0 < t.part → t.part ≤ parts_behind (shape_in post) → (is_index : Bool)
+    after_record : (post : Post) (octets : List ℕ) → IsPost t.seq post → packet_at own t.seq post t.part ≡ Some octets
+        → 0 < t.part → t.part ≤ parts_after (shape_in post) → (is_index : Bool)
         → nat_le t.part (shape_in post).index ≡ is_index
-        → IsBehind own post t octets (want_by g post t octets false is_index)
-    behind_record (Withdraws seq) octets is_post its above counted is_index e =
-        let none : parts_behind (shape_in (Withdraws seq)) ≡ 0 = refl in absurd (omega (arith, above, counted, none))
-    behind_record (Offers object) octets is_post its above counted true e =
+        → ComesAfter own post t octets (want_by g post t octets false is_index)
+    after_record (Withdraws seq) octets is_post its above counted is_index e =
+        let none : parts_after (shape_in (Withdraws seq)) ≡ 0 = refl in absurd (omega (arith, above, counted, none))
+    after_record (Offers object) octets is_post its above counted true e =
         let below : t.part ≤ index_packets (length object.contents) =
         leb-true t.part (index_packets (length object.contents)) e in
         let few : index_packets (length object.contents) ≤ 100 = index_few (length object.contents) is_post.few in
@@ -160,7 +160,7 @@ module _ (g : GroupKeys) (t : Part) (is_publisher : IsPublisher (publisher_at g 
           name = refl;
           wanted = refl;
           digest = digest;
-          stands = (behind_is own is_publisher t.seq t.part (Offers object) octets is_post low above its).stands;
+          stands = (after_is own is_publisher t.seq t.part (Offers object) octets is_post low above its).stands;
           interest =
               index_interest t (published_listing own t.seq object) (sha256 octets) (node_at g t.publisher) g.name
               is_publisher.node is_publisher.group low (omega (arith, below, few)) digest (length-sha256 _)
@@ -170,7 +170,7 @@ module _ (g : GroupKeys) (t : Part) (is_publisher : IsPublisher (publisher_at g 
               (segment_name (record_name (node_at g t.publisher) g.name t.seq) (t.part - 1)) o) false) in
               r) (sym digest);
         }
-    behind_record (Offers object) octets is_post its above counted false e =
+    after_record (Offers object) octets is_post its above counted false e =
         let past : index_packets (length object.contents) < t.part =
         leb-false t.part (index_packets (length object.contents)) e in
         let few : index_packets (length object.contents) ≤ 100 = index_few (length object.contents) is_post.few in
@@ -186,10 +186,10 @@ module _ (g : GroupKeys) (t : Part) (is_publisher : IsPublisher (publisher_at g 
           name = refl;
           wanted = refl;
           digest = refl;
-          stands = (behind_is own is_publisher t.seq t.part (Offers object) octets is_post low above its).stands;
+          stands = (after_is own is_publisher t.seq t.part (Offers object) octets is_post low above its).stands;
           interest =
               segment_interest t (shape_in (Offers object)) (published_listing own t.seq object) (sha256 octets)
-              (said_within_limits own is_publisher t.seq (Offers object) is_post low)
+              (stated_within_limits own is_publisher t.seq (Offers object) is_post low)
               (omega (arith, counted, few, many)) (length-sha256 _) (IsOctets-sha256 octets);
         }
 
@@ -238,32 +238,32 @@ module _ (g : GroupKeys) (logs : Logs) (are : AreLogs g logs) where
   is_index t = nat_le t.part (shape_at logs (pair_of t)).index
 
   record_want : (t : Part) → (t.part == 0) ≡ true
-      → true_want g logs t ≡ want_record t (node_at g t.publisher) g.name
+      → published_want g logs t ≡ want_record t (node_at g t.publisher) g.name
   record_want t zero_ =
       ap (λ (b : Bool).
-      want_by g (post_at logs (pair_of t)) t (unwrap_or (true_packet g logs t) []) b (is_index t)) zero_
+      want_by g (post_at logs (pair_of t)) t (unwrap_or (published_packet g logs t) []) b (is_index t)) zero_
 
-  behind_of : (t : Part) → IsPublishedPart logs t → (octets : List ℕ) → true_packet g logs t ≡ Some octets
+  after_of : (t : Part) → IsPublishedPart logs t → (octets : List ℕ) → published_packet g logs t ≡ Some octets
       → (t.part == 0) ≡ false
-      → IsBehind (publisher_at g t.publisher) (post_at logs (pair_of t)) t octets (true_want g logs t)
-  behind_of t is octets its p =
+      → ComesAfter (publisher_at g t.publisher) (post_at logs (pair_of t)) t octets (published_want g logs t)
+  after_of t is octets its p =
       let above : 0 < t.part = elim (cases_eq t.part 0) [
         | inl z ↦ absurd (true≢false (sym (eq-eqb t.part 0 z) ∙ p))
         | inr n ↦ omega (arith, n)
       ] in
-      let want_is : true_want g logs t ≡ want_by g (post_at logs (pair_of t)) t octets false (is_index t) =
+      let want_is : published_want g logs t ≡ want_by g (post_at logs (pair_of t)) t octets false (is_index t) =
       ap (λ (b : Bool).
-      want_by g (post_at logs (pair_of t)) t (unwrap_or (true_packet g logs t) []) b (is_index t)) p
+      want_by g (post_at logs (pair_of t)) t (unwrap_or (published_packet g logs t) []) b (is_index t)) p
       ∙ ap (λ (o : Option (List ℕ)). want_by g (post_at logs (pair_of t)) t (unwrap_or o []) false (is_index t)) its in
-      subst (IsBehind (publisher_at g t.publisher) (post_at logs (pair_of t)) t octets) (sym want_is)
-      (behind_record g t (publisher_within (pair_of t) is.there) (low_number (pair_of t) is.there)
+      subst (ComesAfter (publisher_at g t.publisher) (post_at logs (pair_of t)) t octets) (sym want_is)
+      (after_record g t (publisher_within (pair_of t) is.there) (low_number (pair_of t) is.there)
       (post_at logs (pair_of t)) octets (post_within g logs are (pair_of t) is.there) its above is.counted (is_index t)
       refl)
 
-  part_is : (t : Part) → IsPublishedPart logs t → (octets : List ℕ) → true_packet g logs t ≡ Some octets
-      → IsPartOf octets (true_want g logs t)
+  part_is : (t : Part) → IsPublishedPart logs t → (octets : List ℕ) → published_packet g logs t ≡ Some octets
+      → IsPartOf octets (published_want g logs t)
   part_is t is octets its = go (t.part == 0) refl where
-    go : (b : Bool) → (t.part == 0) ≡ b → IsPartOf octets (true_want g logs t)
+    go : (b : Bool) → (t.part == 0) ≡ b → IsPartOf octets (published_want g logs t)
     go true p =
         let zero_ : t.part ≡ 0 = eqb-true t.part 0 p in
         subst (IsPartOf octets) (sym (record_want t p))
@@ -271,7 +271,7 @@ module _ (g : GroupKeys) (logs : Logs) (are : AreLogs g logs) where
         (post_at logs (pair_of t)) octets (post_within g logs are (pair_of t) is.there)
         (ap (packet_at (publisher_at g t.publisher) t.seq (post_at logs (pair_of t))) (sym zero_) ∙ its))
     go false p =
-        let b = behind_of t is octets its p in
+        let b = after_of t is octets its p in
         let P : Option (List ℕ) → Type 0 = λ o. IfSome o (λ digest. sha256 octets ≡ digest) in
         record {
           d = b.d;
@@ -297,14 +297,15 @@ module _ (g : GroupKeys) (logs : Logs) (are : AreLogs g logs) where
       (both.0, sym (ap (λ (c : Component). c.1) both.1))
   same_name name (Some digest) octets d plain other (inr (inr both)) = absurd (true≢false (sym both.0))
 
-  module _ (clear : AreAllClear g logs) (t u : Part) (is_t : IsPublishedPart logs t) (is_u : IsPublishedPart logs u)
-      (y x : List ℕ) (its_t : true_packet g logs t ≡ Some y) (its_u : true_packet g logs u ≡ Some x) where
+  module _ (clear : AreAllCollisionFree g logs) (t u : Part) (is_t : IsPublishedPart logs t)
+      (is_u : IsPublishedPart logs u)
+      (y x : List ℕ) (its_t : published_packet g logs t ≡ Some y) (its_u : published_packet g logs u ≡ Some x) where
     -- Packets of one name and one digest are one.
-    same_octets : (true_want g logs t).name ≡ (true_want g logs u).name
-        → IfSome (true_want g logs t).digest (λ digest. sha256 x ≡ digest) → x ≡ y
+    same_octets : (published_want g logs t).name ≡ (published_want g logs u).name
+        → IfSome (published_want g logs t).digest (λ digest. sha256 x ≡ digest) → x ≡ y
     same_octets named digested = go (t.part == 0) (u.part == 0) refl refl where
       record_named : (v : Part) → (v.part == 0) ≡ true
-          → (true_want g logs v).name ≡ record_name (node_at g v.publisher) g.name v.seq
+          → (published_want g logs v).name ≡ record_name (node_at g v.publisher) g.name v.seq
       record_named v p = ap (λ (w : WantedPart). w.name) (record_want v p)
 
       go : (b c : Bool) → (t.part == 0) ≡ b → (u.part == 0) ≡ c → x ≡ y
@@ -318,51 +319,54 @@ module _ (g : GroupKeys) (logs : Logs) (are : AreLogs g logs) where
           (member_there (pair_of u) is_u.there) both.0 in
           let part : t.part ≡ u.part = eqb-true t.part 0 p ∙ sym (eqb-true u.part 0 q) in
           let same : t ≡ u = λ i. record { publisher = publisher i; seq = both.1 i; part = part i } in
-          same_Some x y (sym its_u ∙ ap (true_packet g logs) (sym same) ∙ its_t)
+          same_Some x y (sym its_u ∙ ap (published_packet g logs) (sym same) ∙ its_t)
       go true false p q =
-          let bu = behind_of u is_u x its_u q in
+          let bu = after_of u is_u x its_u q in
           absurd (records_are_no_segments (node_at g t.publisher) g.name bu.under t.seq bu.number
           (sym (record_named t p) ∙ named ∙ bu.wanted))
       go false true p q =
-          let bt = behind_of t is_t y its_t p in
+          let bt = after_of t is_t y its_t p in
           absurd (records_are_no_segments (node_at g u.publisher) g.name bt.under u.seq bt.number
           (sym (record_named u q) ∙ sym named ∙ bt.wanted))
       go false false p q =
-          let bt = behind_of t is_t y its_t p in
-          let bu = behind_of u is_u x its_u q in
+          let bt = after_of t is_t y its_t p in
+          let bu = after_of u is_u x its_u q in
           let digest : sha256 x ≡ sha256 y =
           subst (λ (o : Option (List ℕ)). IfSome o (λ digest. sha256 x ≡ digest)) bt.digest digested in
           sym (clear (pair_of t) (pair_of u) (t.part - 1) (u.part - 1) y x bt.d bu.d bt.stands bu.stands bt.read bu.read
           (bt.name ∙ named ∙ sym bu.name) (sym digest))
 
-    pub asked_is : satisfies (asked_name (true_want g logs t).name (true_want g logs t).digest) false x ≡ true → x ≡ y
+    pub asked_is : satisfies (asked_name (published_want g logs t).name (published_want g logs t).digest) false x ≡ true
+        → x ≡ y
     asked_is sat =
         let pt = part_is t is_t y its_t in
         let pu = part_is u is_u x its_u in
         let both =
-        same_name (true_want g logs t).name (true_want g logs t).digest x pu.d pt.plain
+        same_name (published_want g logs t).name (published_want g logs t).digest x pu.d pt.plain
         (subst EndsPlainly (sym pu.name) pu.plain)
-        ((satisfies-Decides (asked_name (true_want g logs t).name (true_want g logs t).digest) false x pu.d pu.read).0
+        ((satisfies-Decides (asked_name (published_want g logs t).name (published_want g logs t).digest) false x pu.d
+        pu.read).0
         sat) in
         same_octets (both.0 ∙ pu.name) both.1
 
-  own_asked : (t : Part) → IsPublishedPart logs t → (y : List ℕ) → true_packet g logs t ≡ Some y
-      → satisfies (asked_name (true_want g logs t).name (true_want g logs t).digest) false y ≡ true
+  own_asked : (t : Part) → IsPublishedPart logs t → (y : List ℕ) → published_packet g logs t ≡ Some y
+      → satisfies (asked_name (published_want g logs t).name (published_want g logs t).digest) false y ≡ true
   own_asked t is y its =
       let pt = part_is t is y its in
-      (satisfies-Decides (asked_name (true_want g logs t).name (true_want g logs t).digest) false y pt.d pt.read).1
-      (asked_for (true_want g logs t).name (true_want g logs t).digest y pt.d (sym pt.name) pt.digest)
+      (satisfies-Decides (asked_name (published_want g logs t).name (published_want g logs t).digest) false y pt.d
+      pt.read).1
+      (asked_for (published_want g logs t).name (published_want g logs t).digest y pt.d (sym pt.name) pt.digest)
 
   -- ---- what a member that holds a part gives
 
-  module _ (a : Alone) (truly : IsTrueMember g logs a) where
+  module _ (a : MemberState) (consistent : IsConsistentMember g logs a) where
     stored_there : (t : Part) (x : List ℕ) → value_of part_cmp a.store t ≡ Some x → IsPublishedPart logs t
     stored_there t x e =
-        let held = truly.sound.held t (sym (has_value a.store t) ∙ ap is_some e) in
+        let held = consistent.sound.held t (sym (has_value a.store t) ∙ ap is_some e) in
         record {
           there = record {
             from_one = held.known.from_one;
-            to_last = let no_more = truly.sound.known t.publisher in omega (arith, held.known.to_known, no_more);
+            to_last = let no_more = consistent.sound.known t.publisher in omega (arith, held.known.to_known, no_more);
           };
           counted = held.counted;
         }
@@ -375,82 +379,85 @@ module _ (g : GroupKeys) (logs : Logs) (are : AreLogs g logs) where
         >>= λ j. let z : Result (Option Packet) PacketFault = Ok (first_served j a.store) in z)
         >>= λ o. let z : Result (Option Part) PacketFault = Ok (option_map (λ s. s.0) o) in z) e
 
-    pub gives_its : AreAllClear g logs → (t : Part) → IsPublishedPart logs t → contains part_cmp (keys a.store) t ≡ true
+    pub gives_its : AreAllCollisionFree g logs → (t : Part) → IsPublishedPart logs t
+        → contains part_cmp (keys a.store) t ≡ true
         → came_of g logs (keys a.store) t ≡ Its
     gives_its clear t is holds =
-        ap (λ (es : List Packet). judged_packet g logs t (found (served (true_want g logs t).interest es)))
-        (sym (stores_those g logs a truly))
+        ap (λ (es : List Packet). judged_packet g logs t (found (served (published_want g logs t).interest es)))
+        (sym (stores_those g logs a consistent))
         ∙ go (option_map (λ s. s.0) (first_served asking a.store))
-        (first_is (true_want g logs t).interest asking interest) where
+        (first_is (published_want g logs t).interest asking interest) where
           y : List ℕ
-          y = unwrap_or (true_packet g logs t) []
+          y = unwrap_or (published_packet g logs t) []
 
-          its : true_packet g logs t ≡ Some (unwrap_or (true_packet g logs t) [])
+          its : published_packet g logs t ≡ Some (unwrap_or (published_packet g logs t) [])
           its = packet_is g logs t are is
 
           asking : Interest
-          asking = read_plain (asked_name (true_want g logs t).name (true_want g logs t).digest) false
+          asking = read_plain (asked_name (published_want g logs t).name (published_want g logs t).digest) false
 
-          interest : interest_of (true_want g logs t).interest
-              ≡ Ok (read_plain (asked_name (true_want g logs t).name (true_want g logs t).digest) false)
-          interest = (part_is t is (unwrap_or (true_packet g logs t) []) (packet_is g logs t are is)).interest
+          interest : interest_of (published_want g logs t).interest
+              ≡ Ok (read_plain (asked_name (published_want g logs t).name (published_want g logs t).digest) false)
+          interest = (part_is t is (unwrap_or (published_packet g logs t) []) (packet_is g logs t are is)).interest
 
           stored : (o : Option (List ℕ)) → value_of part_cmp a.store t ≡ o
-              → value_of part_cmp a.store t ≡ Some (unwrap_or (true_packet g logs t) [])
+              → value_of part_cmp a.store t ≡ Some (unwrap_or (published_packet g logs t) [])
           stored None e = absurd (true≢false (sym holds ∙ sym (has_value a.store t) ∙ ap is_some e))
-          stored (Some x) e = e ∙ sym (truly.packets t x e) ∙ packet_is g logs t are is
+          stored (Some x) e = e ∙ sym (consistent.packets t x e) ∙ packet_is g logs t are is
 
-          go : (o : Option Part) → served_part (true_want g logs t).interest a.store ≡ Ok o
-              → judged_packet g logs t (found (served (true_want g logs t).interest a.store)) ≡ Its
+          go : (o : Option Part) → served_part (published_want g logs t).interest a.store ≡ Ok o
+              → judged_packet g logs t (found (served (published_want g logs t).interest a.store)) ≡ Its
           go None e =
               let none =
-              served_least (true_want g logs t).interest a.store
-              (read_plain (asked_name (true_want g logs t).name (true_want g logs t).digest) false) None
-              truly.sound.in_order.held interest e in
+              served_least (published_want g logs t).interest a.store
+              (read_plain (asked_name (published_want g logs t).name (published_want g logs t).digest) false) None
+              consistent.sound.in_order.held interest e in
               absurd
-              (true≢false (sym (own_asked t is (unwrap_or (true_packet g logs t) []) its)
-              ∙ none refl t (unwrap_or (true_packet g logs t) []) (stored (value_of part_cmp a.store t) refl)))
+              (true≢false (sym (own_asked t is (unwrap_or (published_packet g logs t) []) its)
+              ∙ none refl t (unwrap_or (published_packet g logs t) []) (stored (value_of part_cmp a.store t) refl)))
           go (Some u) e =
               let found_u =
-              (served_least (true_want g logs t).interest a.store
-              (read_plain (asked_name (true_want g logs t).name (true_want g logs t).digest) false) (Some u)
-              truly.sound.in_order.held interest e).1 in
-              let same : found_u.octets ≡ unwrap_or (true_packet g logs t) [] =
-              asked_is clear t u is (stored_there u found_u.octets found_u.stored) (unwrap_or (true_packet g logs t) [])
-              found_u.octets its (truly.packets u found_u.octets found_u.stored) found_u.satisfied in
+              (served_least (published_want g logs t).interest a.store
+              (read_plain (asked_name (published_want g logs t).name (published_want g logs t).digest) false) (Some u)
+              consistent.sound.in_order.held interest e).1 in
+              let same : found_u.octets ≡ unwrap_or (published_packet g logs t) [] =
+              asked_is clear t u is (stored_there u found_u.octets found_u.stored)
+              (unwrap_or (published_packet g logs t) [])
+              found_u.octets its (consistent.packets u found_u.octets found_u.stored) found_u.satisfied in
               ap (λ (r : Result (Option (List ℕ)) PacketFault). judged_packet g logs t (found r))
-              (served_of_part (true_want g logs t).interest a.store u truly.sound.in_order.held e
+              (served_of_part (published_want g logs t).interest a.store u consistent.sound.in_order.held e
               ∙ ap (λ (o : Option (List ℕ)). let r : Result (Option (List ℕ)) PacketFault = Ok o in r) found_u.stored)
               ∙ its_octets g logs t are is found_u.octets
-              ((bytes_eq-Decides found_u.octets (unwrap_or (true_packet g logs t) [])).1 same)
+              ((bytes_eq-Decides found_u.octets (unwrap_or (published_packet g logs t) [])).1 same)
 
 -- ---- worlds
 
-module _ (s : GroupState) (is : IsTrueState s) (clear : AreAllClear s.keys (logs_around s.members)) (j f : ℕ) (t : Part)
+module _ (s : GroupState) (is : IsConsistentState s) (clear : AreAllCollisionFree s.keys (logs_around s.members))
+    (j f : ℕ) (t : Part)
     (there : j < length s.members) (claim : claim_at (world_of s) j f ≡ Some t) where
-  claimed : claim_of (alone_plan (alone_at s.members j)) f ≡ Some t
+  claimed : claim_of (member_plan (state_at s.members j)) f ≡ Some t
   claimed = sym (ap (λ (x : Member). get_or x.claims (f - 1) None) (member_at s.members j)) ∙ claim
 
   pub held_is_kept : (q : ℕ) → q < length s.members → member_holds (member (world_of s) q) t ≡ true → IsKept s j f q
   held_is_kept q other holds =
       let published =
-      claim_published s.keys (logs_around s.members) (alone_at s.members j) is.are (is.members j there) f t claimed in
-      let stored : contains part_cmp (keys (alone_at s.members q).store) t ≡ true =
+      claim_published s.keys (logs_around s.members) (state_at s.members j) is.are (is.members j there) f t claimed in
+      let stored : contains part_cmp (keys (state_at s.members q).store) t ≡ true =
       sym (ap (λ (x : Member). contains part_cmp x.held t) (member_at s.members q)) ∙ holds in
       let came : came_from (keyed s.keys) (world_of s) q (claim_at (world_of s) j f) ≡ Its =
       ap (came_from (keyed s.keys) (world_of s) q) claim
       ∙ ap (λ (x : Member). came_of s.keys (logs_around s.members) x.held t) (member_at s.members q)
-      ∙ gives_its s.keys (logs_around s.members) is.are (alone_at s.members q) (is.members q other) clear t published
+      ∙ gives_its s.keys (logs_around s.members) is.are (state_at s.members q) (is.members q other) clear t published
       stored in
       record {
         taken = λ i. if_idle_or_foreign (claim i) (came i);
-        told = ap (λ (k : Came). answer_told j f (passes_checks k)) came;
+        reported = ap (λ (k : Came). answer_reported j f (passes_checks k)) came;
       }
 
   pub publisher_is_kept : IsKept s j f t.publisher ⊎ (member_hides (member (world_of s) t.publisher) (pair_of t) ≡ true)
   publisher_is_kept =
       let published =
-      claim_published s.keys (logs_around s.members) (alone_at s.members j) is.are (is.members j there) f t claimed in
+      claim_published s.keys (logs_around s.members) (state_at s.members j) is.are (is.members j there) f t claimed in
       let many : length (logs_around s.members) ≡ length s.members = many_logs s.members in
       let other : t.publisher < length s.members =
       let l = publisher_there (logs_around s.members) (pair_of t) published.there in omega (arith, l, many) in

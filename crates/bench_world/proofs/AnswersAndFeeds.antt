@@ -17,20 +17,20 @@ use Rattle.group_model.specs.Refusals.{Refusal, refusal, if_idle_or_foreign}
 use Rattle.group_model.specs.World.{Tally, no_member, member}
 use Rattle.group_model.specs.Steps.{claim_at, came_from, came_as, passes_checks, tried_once, after_came, after_event}
 use Rattle.repo_member.specs.Groups.{GroupKeys}
-use Rattle.repo_member.specs.Alone.{Alone, alone_accepts}
-use Rattle.repo_member.specs.InGroup.{in_group, true_packet}
-use Rattle.repo_member.specs.TrueMembers.{IsTrueMember, true_want}
-use Rattle.repo_member.proofs.PublicLaws.{accepts_alike, accepts_true, true_stores}
-use Rattle.bench_world.specs.declared.event.EventFault.{EventFault}
-use Rattle.bench_world.specs.declared.event.EventFault.TheVariants as fault
+use Rattle.repo_member.specs.MemberState.{MemberState, member_accepts}
+use Rattle.repo_member.specs.InGroup.{in_group, published_packet}
+use Rattle.repo_member.specs.ConsistentMembers.{IsConsistentMember, published_want}
+use Rattle.repo_member.proofs.PublicLaws.{accepts_alike, accepts_consistent, consistent_stores}
+use Rattle.bench_world.specs.declared.event.EventError.{EventError}
+use Rattle.bench_world.specs.declared.event.EventError.TheVariants as fault
 use Rattle.bench_world.specs.declared.answering.Fed.{Fed}
 use Rattle.bench_world.specs.Sizes.{size_of}
 use Rattle.bench_world.specs.Serving.{keyed, octets_as}
 use Rattle.bench_world.specs.Answering.{claim_in, came_in, came_for, answered, after_claimed, fed_by, fed_as}
 use Rattle.bench_world.specs.Replying.{fed_reply, parts_kept}
-use Rattle.bench_world.specs.EventValues.{fed_told, feed_told}
+use Rattle.bench_world.specs.EventValues.{fed_reported, feed_reported}
 use Rattle.bench_world.specs.Steps.{IsFaultOf}
-use Rattle.bench_world.specs.Worlds.{GroupState, IsTrueState, alone_at, in_groups, logs_around, world_of, sync_in}
+use Rattle.bench_world.specs.Worlds.{GroupState, IsConsistentState, state_at, in_groups, logs_around, world_of, sync_in}
 use Rattle.bench_world.proofs.ClaimedPackets.{claim_published, packet_is}
 use Rattle.bench_world.proofs.PacketSizes.{size_short}
 use Rattle.bench_world.proofs.States.{member_at, stepped_at, tally_fits}
@@ -53,21 +53,22 @@ module _ (g : GroupKeys) (logs : Logs) where
       let same : kept ≡ Some (size_of g logs t) = cc in ap (λ (x : Option ℕ). is_some x) (sym same)
   passes_by (Some t) Another kept h = absurd cc
 
-  pub fault_by : (o : Option Part) (k : Came) (x : EventFault) → (x ≡ fault.NoMemory) ⊎ (answered g logs o k ≡ Err x)
+  pub fault_by : (o : Option Part) (k : Came) (x : EventError) → (x ≡ fault.NoMemory) ⊎ (answered g logs o k ≡ Err x)
       → IsFaultOf (if_idle_or_foreign o k) x
   fault_by o k x h = elim h [
     | inl memory ↦ subst (IsFaultOf (if_idle_or_foreign o k)) (sym memory) tt
-    | inr told ↦ go o k x told
+    | inr reported ↦ go o k x reported
   ] where
-    as_told : (r : Refusal) (y z : EventFault) → y ≡ z → IsFaultOf (Some r) z → IsFaultOf (Some r) y
-    as_told r y z e = subst (IsFaultOf (Some r)) (sym e)
+    as_reported : (r : Refusal) (y z : EventError) → y ≡ z → IsFaultOf (Some r) z → IsFaultOf (Some r) y
+    as_reported r y z e = subst (IsFaultOf (Some r)) (sym e)
 
-    go : (o : Option Part) (k : Came) (x : EventFault) → answered g logs o k ≡ Err x
+    go : (o : Option Part) (k : Came) (x : EventError) → answered g logs o k ≡ Err x
         → IsFaultOf (if_idle_or_foreign o k) x
-    go None k x h = let same : x ≡ fault.FetcherIdle = cc in as_told Refusal.FetcherIdle x fault.FetcherIdle same refl
+    go None k x h = let same : x ≡ fault.FetcherIdle = cc in as_reported Refusal.FetcherIdle x fault.FetcherIdle same
+        refl
     go (Some t) Nothing x h = absurd cc
     go (Some t) Its x h = absurd cc
-    go (Some t) Another x h = let same : x ≡ fault.Foreign = cc in as_told Refusal.Foreign x fault.Foreign same refl
+    go (Some t) Another x h = let same : x ≡ fault.Foreign = cc in as_reported Refusal.Foreign x fault.Foreign same refl
 
 -- ---- the world
 
@@ -75,7 +76,7 @@ module _ (g : GroupKeys) (logs : Logs) where
 abbrev pub with_kept : Option ℕ → Tally → Tally
 with_kept kept t = record t { parts = t.parts + parts_kept kept; octets = t.octets + unwrap_or kept 0 }
 
-module _ (s : GroupState) (is : IsTrueState s) (m : ℕ) (there : m < length s.members) (f : ℕ) where
+module _ (s : GroupState) (is : IsConsistentState s) (m : ℕ) (there : m < length s.members) (f : ℕ) where
   small : HasSmallPackets (keyed s.keys) (world_of s)
   small t = size_short s.keys (logs_around s.members) is.are t
 
@@ -83,35 +84,36 @@ module _ (s : GroupState) (is : IsTrueState s) (m : ℕ) (there : m < length s.m
   claim_same = ap (λ (x : Member). get_or x.claims (f - 1) None) (member_at s.members m)
 
   module _ (came : Came) where
-    abbrev got : Alone
-    got = after_claimed s.keys (logs_around s.members) f (claim_in s.members m f) came (alone_at s.members m)
+    abbrev got : MemberState
+    got = after_claimed s.keys (logs_around s.members) f (claim_in s.members m f) came (state_at s.members m)
 
     its_packet : (t : Part) → claim_in s.members m f ≡ Some t
-        → true_packet s.keys (logs_around s.members) t
-        ≡ Some (unwrap_or (true_packet s.keys (logs_around s.members) t) [])
+        → published_packet s.keys (logs_around s.members) t
+        ≡ Some (unwrap_or (published_packet s.keys (logs_around s.members) t) [])
     its_packet t e =
         packet_is s.keys (logs_around s.members) t is.are
-        (claim_published s.keys (logs_around s.members) (alone_at s.members m) is.are (is.members m there) f t e)
+        (claim_published s.keys (logs_around s.members) (state_at s.members m) is.are (is.members m there) f t e)
 
-    got_truly : (o : Option Part) (k : Came) → claim_in s.members m f ≡ o
-        → IsTrueMember s.keys (logs_around s.members)
-        (after_claimed s.keys (logs_around s.members) f o k (alone_at s.members m))
-    got_truly None k e = is.members m there
-    got_truly (Some t) Nothing e = is.members m there
-    got_truly (Some t) Its e =
-        accepts_true s.keys (logs_around s.members) f t (unwrap_or (true_packet s.keys (logs_around s.members) t) [])
-        (alone_at s.members m) is.are e (its_packet t e) (is.members m there)
-    got_truly (Some t) Another e = is.members m there
+    got_consistently : (o : Option Part) (k : Came) → claim_in s.members m f ≡ o
+        → IsConsistentMember s.keys (logs_around s.members)
+        (after_claimed s.keys (logs_around s.members) f o k (state_at s.members m))
+    got_consistently None k e = is.members m there
+    got_consistently (Some t) Nothing e = is.members m there
+    got_consistently (Some t) Its e =
+        accepts_consistent s.keys (logs_around s.members) f t
+        (unwrap_or (published_packet s.keys (logs_around s.members) t) [])
+        (state_at s.members m) is.are e (its_packet t e) (is.members m there)
+    got_consistently (Some t) Another e = is.members m there
 
     got_number : (o : Option Part) (k : Came)
-        → (after_claimed s.keys (logs_around s.members) f o k (alone_at s.members m)).number
-        ≡ (alone_at s.members m).number
+        → (after_claimed s.keys (logs_around s.members) f o k (state_at s.members m)).number
+        ≡ (state_at s.members m).number
     got_number None k = refl
     got_number (Some t) Nothing = refl
     got_number (Some t) Its = refl
     got_number (Some t) Another = refl
 
-    still : (b : Alone) → in_group b ≡ in_group (alone_at s.members m)
+    still : (b : MemberState) → in_group b ≡ in_group (state_at s.members m)
         → in_groups (set s.members m b) ≡ in_groups s.members
     still b e =
         map-set in_group s.members m b
@@ -122,7 +124,7 @@ module _ (s : GroupState) (is : IsTrueState s) (m : ℕ) (there : m < length s.m
     came_world : (kept : Option ℕ) (tally : Tally) → (o : Option Part) (k : Came)
         → answered s.keys (logs_around s.members) o k ≡ Ok kept
         → world_of (record s {
-          members = set s.members m (after_claimed s.keys (logs_around s.members) f o k (alone_at s.members m));
+          members = set s.members m (after_claimed s.keys (logs_around s.members) f o k (state_at s.members m));
           tally = with_kept kept tally;
           steps = s.steps + 1;
         })
@@ -130,39 +132,39 @@ module _ (s : GroupState) (is : IsTrueState s) (m : ℕ) (there : m < length s.m
     came_world kept tally None k h = absurd cc
     came_world kept tally (Some t) Nothing h =
         let none : kept ≡ None = cc in
-        let members : in_groups (set s.members m (alone_at s.members m)) ≡ in_groups s.members =
-        still (alone_at s.members m) refl in
+        let members : in_groups (set s.members m (state_at s.members m)) ≡ in_groups s.members =
+        still (state_at s.members m) refl in
         let parts : tally.parts + 0 ≡ tally.parts = omega arith in
         let octets : tally.octets + 0 ≡ tally.octets = omega arith in
         (λ i. record {
           members = members i;
           sent = map sync_in s.sent;
-          moment = s.moment;
+          time = s.time;
           issued = s.issued;
           tally = with_kept (none i) tally;
         })
         ∙ (λ i. record {
           members = in_groups s.members;
           sent = map sync_in s.sent;
-          moment = s.moment;
+          time = s.time;
           issued = s.issued;
           tally = record tally { parts = parts i; octets = octets i };
         })
     came_world kept tally (Some t) Its h =
         let some : kept ≡ Some (size_of s.keys (logs_around s.members) t) = cc in
-        let b : Alone =
-        alone_accepts f t (unwrap_or (true_packet s.keys (logs_around s.members) t) []) (alone_at s.members m) in
+        let b : MemberState =
+        member_accepts f t (unwrap_or (published_packet s.keys (logs_around s.members) t) []) (state_at s.members m) in
         let members : in_groups (set s.members m b)
         ≡ set (in_groups s.members) m (group.takes f t (member (world_of s) m)) =
         map-set in_group s.members m b
         ∙ ap (set (in_groups s.members) m)
-        (accepts_alike f t (unwrap_or (true_packet s.keys (logs_around s.members) t) []) (alone_at s.members m)
-        (true_stores s.keys (logs_around s.members) (alone_at s.members m) (is.members m there)).in_order
+        (accepts_alike f t (unwrap_or (published_packet s.keys (logs_around s.members) t) []) (state_at s.members m)
+        (consistent_stores s.keys (logs_around s.members) (state_at s.members m) (is.members m there)).in_order
         ∙ ap (group.takes f t) (sym (member_at s.members m))) in
         (λ i. record {
           members = members i;
           sent = map sync_in s.sent;
-          moment = s.moment;
+          time = s.time;
           issued = s.issued;
           tally = with_kept (some i) tally;
         })
@@ -172,11 +174,17 @@ module _ (s : GroupState) (is : IsTrueState s) (m : ℕ) (there : m < length s.m
         → world_of (record s { members = set s.members m got; tally = with_kept kept tally; steps = s.steps + 1 })
         ≡ after_event (keyed s.keys) (world_of s) e
         → IsInRange e
-        → IsTrueState (record s { members = set s.members m got; tally = with_kept kept tally; steps = s.steps + 1 })
+        → IsConsistentState (record s {
+          members = set s.members m got;
+          tally = with_kept kept tally;
+          steps = s.steps
+              + 1;
+        })
     came_state kept tally e few world_is range =
         stepped_at s is few (keyed s.keys) small e range m there got
-        (got_number (claim_in s.members m f) came ∙ is.numbers m there) (got_truly (claim_in s.members m f) came refl)
-        s.sent s.moment (with_kept kept tally) is.sent world_is
+        (got_number (claim_in s.members m f) came ∙ is.numbers m there)
+        (got_consistently (claim_in s.members m f) came refl)
+        s.sent s.time (with_kept kept tally) is.sent world_is
 
   -- ---- what another member gives
 
@@ -216,10 +224,10 @@ module _ (s : GroupState) (is : IsTrueState s) (m : ℕ) (there : m < length s.m
           ∙ passes_by s.keys (logs_around s.members) (claim_in s.members m f)
           (came_in s.keys (logs_around s.members) s.members q (claim_in s.members m f)) kept e)
 
-      module _ (new : List Alone)
+      module _ (new : List MemberState)
           (same : new ≡ set s.members m
           (after_claimed s.keys (logs_around s.members) f (claim_in s.members m f)
-          (came_in s.keys (logs_around s.members) s.members q (claim_in s.members m f)) (alone_at s.members m))) where
+          (came_in s.keys (logs_around s.members) s.members q (claim_in s.members m f)) (state_at s.members m))) where
         abbrev tried : Tally
         tried = record s.tally { attempts = s.tally.attempts + 1 }
 
@@ -227,7 +235,7 @@ module _ (s : GroupState) (is : IsTrueState s) (m : ℕ) (there : m < length s.m
           members =
               set s.members m
               (after_claimed s.keys (logs_around s.members) f (claim_in s.members m f)
-              (came_in s.keys (logs_around s.members) s.members q (claim_in s.members m f)) (alone_at s.members m));
+              (came_in s.keys (logs_around s.members) s.members q (claim_in s.members m f)) (state_at s.members m));
           tally = with_kept kept tried;
           steps = s.steps + 1;
         })
@@ -240,15 +248,15 @@ module _ (s : GroupState) (is : IsTrueState s) (m : ℕ) (there : m < length s.m
         pub answer_world : world_of (record s { members = new; tally = with_kept kept tried; steps = s.steps + 1 })
             ≡ after_event (keyed s.keys) (world_of s) (Event.Answer m f q)
         answer_world =
-            ap (λ (ms : List Alone).
+            ap (λ (ms : List MemberState).
             world_of (record s { members = ms; tally = with_kept kept tried; steps = s.steps + 1 })) same
             ∙ made
 
         pub answer_state : s.steps < 100000
-            → IsTrueState (record s { members = new; tally = with_kept kept tried; steps = s.steps + 1 })
+            → IsConsistentState (record s { members = new; tally = with_kept kept tried; steps = s.steps + 1 })
         answer_state few =
-            subst (λ (ms : List Alone).
-            IsTrueState (record s { members = ms; tally = with_kept kept tried; steps = s.steps + 1 })) (sym same)
+            subst (λ (ms : List MemberState).
+            IsConsistentState (record s { members = ms; tally = with_kept kept tried; steps = s.steps + 1 })) (sym same)
             (came_state (came_in s.keys (logs_around s.members) s.members q (claim_in s.members m f)) kept tried
             (Event.Answer m f q) few made tt)
 
@@ -281,22 +289,23 @@ module _ (s : GroupState) (is : IsTrueState s) (m : ℕ) (there : m < length s.m
         ≡ after_event (keyed s.keys) (world_of s) (Event.Feed m f read)
     feed_after = λ i. after_came (keyed s.keys) (world_of s) m f (sym claim_same i) (sym fed_same i)
 
-    -- The verdict on the octets is told as itself.
+    -- The verdict on the octets is reported as itself.
     pub feed_is : (fed : Fed)
         → option_map (fed_as s.keys (logs_around s.members) octets) (claim_in s.members m f) ≡ Some fed
-        → fed_reply m f fed ≡ feed_told s.keys (world_of s) m f octets (claim_at (world_of s) m f)
-    feed_is fed e = go (claim_in s.members m f) e ∙ ap (feed_told s.keys (world_of s) m f octets) (sym claim_same) where
-      by : (r : Result Data PartRefusal) → fed_reply m f (fed_by r) ≡ fed_told m f r
-      by (Ok d) = refl
-      by (Err refusal) = refl
+        → fed_reply m f fed ≡ feed_reported s.keys (world_of s) m f octets (claim_at (world_of s) m f)
+    feed_is fed e = go (claim_in s.members m f) e ∙ ap (feed_reported s.keys (world_of s) m f octets)
+        (sym claim_same) where
+          by : (r : Result Data PartRefusal) → fed_reply m f (fed_by r) ≡ fed_reported m f r
+          by (Ok d) = refl
+          by (Err refusal) = refl
 
-      go : (o : Option Part) → option_map (fed_as s.keys (logs_around s.members) octets) o ≡ Some fed
-          → fed_reply m f fed ≡ feed_told s.keys (world_of s) m f octets o
-      go None h = absurd cc
-      go (Some t) h =
-          let same : fed_as s.keys (logs_around s.members) octets t ≡ fed = cc in
-          ap (fed_reply m f) (sym same)
-          ∙ by (ring_verdict (true_want s.keys (logs_around s.members) t) s.keys.members.ring octets)
+          go : (o : Option Part) → option_map (fed_as s.keys (logs_around s.members) octets) o ≡ Some fed
+              → fed_reply m f fed ≡ feed_reported s.keys (world_of s) m f octets o
+          go None h = absurd cc
+          go (Some t) h =
+              let same : fed_as s.keys (logs_around s.members) octets t ≡ fed = cc in
+              ap (fed_reply m f) (sym same)
+              ∙ by (ring_verdict (published_want s.keys (logs_around s.members) t) s.keys.members.ring octets)
 
     module _ (kept : Option ℕ)
         (e : answered s.keys (logs_around s.members) (claim_in s.members m f)
@@ -308,15 +317,15 @@ module _ (s : GroupState) (is : IsTrueState s) (m : ℕ) (there : m < length s.m
           ∙ taken_by s.keys (logs_around s.members) (claim_in s.members m f)
           (came_for s.keys (logs_around s.members) octets (claim_in s.members m f)) kept e
 
-      module _ (new : List Alone)
+      module _ (new : List MemberState)
           (same : new ≡ set s.members m
           (after_claimed s.keys (logs_around s.members) f (claim_in s.members m f)
-          (came_for s.keys (logs_around s.members) octets (claim_in s.members m f)) (alone_at s.members m))) where
+          (came_for s.keys (logs_around s.members) octets (claim_in s.members m f)) (state_at s.members m))) where
         fed : world_of (record s {
           members =
               set s.members m
               (after_claimed s.keys (logs_around s.members) f (claim_in s.members m f)
-              (came_for s.keys (logs_around s.members) octets (claim_in s.members m f)) (alone_at s.members m));
+              (came_for s.keys (logs_around s.members) octets (claim_in s.members m f)) (state_at s.members m));
           tally = with_kept kept s.tally;
           steps = s.steps + 1;
         })
@@ -329,15 +338,16 @@ module _ (s : GroupState) (is : IsTrueState s) (m : ℕ) (there : m < length s.m
         pub feed_world : world_of (record s { members = new; tally = with_kept kept s.tally; steps = s.steps + 1 })
             ≡ after_event (keyed s.keys) (world_of s) (Event.Feed m f read)
         feed_world =
-            ap (λ (ms : List Alone).
+            ap (λ (ms : List MemberState).
             world_of (record s { members = ms; tally = with_kept kept s.tally; steps = s.steps + 1 })) same
             ∙ fed
 
         pub feed_state : s.steps < 100000
-            → IsTrueState (record s { members = new; tally = with_kept kept s.tally; steps = s.steps + 1 })
+            → IsConsistentState (record s { members = new; tally = with_kept kept s.tally; steps = s.steps + 1 })
         feed_state few =
-            subst (λ (ms : List Alone).
-            IsTrueState (record s { members = ms; tally = with_kept kept s.tally; steps = s.steps + 1 })) (sym same)
+            subst (λ (ms : List MemberState).
+            IsConsistentState (record s { members = ms; tally = with_kept kept s.tally; steps = s.steps + 1 }))
+            (sym same)
             (came_state (came_for s.keys (logs_around s.members) octets (claim_in s.members m f)) kept s.tally
             (Event.Feed m f read) few fed tt)
 

@@ -31,26 +31,28 @@ use Rattle.repo_member.specs.declared.member.block.Blocked.{Blocked}
 use Rattle.repo_member.specs.declared.member.block.Blocked.TheVariants as blocked
 use Rattle.repo_member.specs.declared.refusals.PublishRefusal.{PublishRefusal}
 use Rattle.repo_member.specs.declared.refusals.PublishRefusal.TheVariants.{NumbersSpent}
-use Rattle.repo_member.specs.Alone.{Alone, alone_publishes}
+use Rattle.repo_member.specs.MemberState.{MemberState, member_publishes}
 use Rattle.repo_member.specs.Blocks as own
-use Rattle.repo_member.specs.Blocks.{alone_block, alone_keeps, alone_blocks, CompletesAnObject, TellsBlock}
+use Rattle.repo_member.specs.Blocks.{member_block, member_keeps, member_blocks, CompletesAnObject, ReportsBlock}
 use Rattle.repo_member.specs.InGroup.{in_group}
-use Rattle.repo_member.specs.TrueMembers.{IsTrueMember}
-use Rattle.repo_member.proofs.PublicLaws.{block_states_alike, inserts_true}
-use Rattle.bench_world.specs.Blocks.{after_blocked, blocked_told}
-use Rattle.bench_world.specs.EventValues.{Told, block_told}
-use Rattle.bench_world.specs.Worlds.{GroupState, IsTrueState, IsTrueSync, nobody, alone_at, in_groups, logs_around}
-use Rattle.bench_world.specs.Worlds.{MembersAreNumbered, AreTrueMembers, sync_in, world_of, drawing}
+use Rattle.repo_member.specs.ConsistentMembers.{IsConsistentMember}
+use Rattle.repo_member.proofs.PublicLaws.{block_states_alike, inserts_consistent}
+use Rattle.bench_world.specs.Blocks.{after_blocked, blocked_reported}
+use Rattle.bench_world.specs.EventValues.{Reported, block_reported}
+use Rattle.bench_world.specs.Worlds.{GroupState, IsConsistentState, IsConsistentSync, nobody, state_at, in_groups}
+use Rattle.bench_world.specs.Worlds.{logs_around}
+use Rattle.bench_world.specs.Worlds.{MembersAreNumbered, AreConsistentMembers, sync_in, world_of, drawing}
 use Rattle.bench_world.proofs.Objects.{log_is, sent_is, world_sent, state_sent}
-use Rattle.bench_world.proofs.States.{truly, number_is, member_is, old_at, in_world, member_at, member_within, many}
-use Rattle.bench_world.proofs.States.{logs_are, set_truly, set_numbers, changed_state, stepped_at}
+use Rattle.bench_world.proofs.States.{consistent, number_is, member_is, old_at, in_world, member_at, member_within}
+use Rattle.bench_world.proofs.States.{many}
+use Rattle.bench_world.proofs.States.{logs_are, set_consistently, set_numbers, changed_state, stepped_at}
 
 -- ---- a member with another insertion process
 
-module _ (s : GroupState) (is : IsTrueState s) (m : ℕ) (there : m < length s.members) (old : Alone)
+module _ (s : GroupState) (is : IsConsistentState s) (m : ℕ) (there : m < length s.members) (old : MemberState)
     (old_is : old ≡ get_or s.members m old) (number : ℕ) (p : Process) where
-  abbrev kept : Alone
-  kept = alone_keeps number p old
+  abbrev kept : MemberState
+  kept = member_keeps number p old
 
   abbrev keeping : GroupState
   keeping = record s { members = set s.members m kept }
@@ -65,16 +67,16 @@ module _ (s : GroupState) (is : IsTrueState s) (m : ℕ) (there : m < length s.m
   kept_numbers : MembersAreNumbered keeping.members
   kept_numbers = set_numbers s.members m there kept (number_is s is m there old old_is) is.numbers
 
-  kept_truly : AreTrueMembers s.keys (logs_around s.members) keeping.members
-  kept_truly =
-      set_truly s.members m there kept s.keys (logs_around s.members) is.members
-      (inserts_true s.keys (logs_around s.members) (with_process number p old.insertions) old
-      (truly s is m there old old_is))
+  kept_consistently : AreConsistentMembers s.keys (logs_around s.members) keeping.members
+  kept_consistently =
+      set_consistently s.members m there kept s.keys (logs_around s.members) is.members
+      (inserts_consistent s.keys (logs_around s.members) (with_process number p old.insertions) old
+      (consistent s is m there old old_is))
 
   kept_logs : logs_around keeping.members ≡ logs_around s.members
   kept_logs =
       logs_are s.keys (logs_around s.members) keeping.members (length-set s.members m kept ∙ many s is) kept_numbers
-      kept_truly
+      kept_consistently
 
   module _ (few : length (indexes p) ≤ 200) where
     kept_within : IsMemberWithin s.steps (in_group kept)
@@ -87,7 +89,7 @@ module _ (s : GroupState) (is : IsTrueState s) (m : ℕ) (there : m < length s.m
     } where
       before : IsMemberWithin s.steps (in_group old)
       before =
-          subst (λ (a : Alone). IsMemberWithin s.steps (in_group a)) (sym (old_at s is m there old old_is))
+          subst (λ (a : MemberState). IsMemberWithin s.steps (in_group a)) (sym (old_at s is m there old old_is))
           (member_within s is m)
 
       at : (n : ℕ) (q : Process) (b : Bool) → cond b (Some p) (value_of nat_cmp old.insertions.processes n) ≡ Some q
@@ -98,16 +100,16 @@ module _ (s : GroupState) (is : IsTrueState s) (m : ℕ) (there : m < length s.m
     each_within : (j : ℕ) → IsMemberWithin s.steps (member (world_of keeping) j)
     each_within j = subst (IsMemberWithin s.steps) (sym (member_at keeping.members j)) (elim (cases_eq j m) [
       | inl same ↦
-          subst (λ (a : Alone). IsMemberWithin s.steps (in_group a))
-          (sym (ap (alone_at keeping.members) same ∙ get_or-set_same s.members m kept nobody there)) kept_within
+          subst (λ (a : MemberState). IsMemberWithin s.steps (in_group a))
+          (sym (ap (state_at keeping.members) same ∙ get_or-set_same s.members m kept nobody there)) kept_within
       | inr other ↦
-          subst (λ (a : Alone). IsMemberWithin s.steps (in_group a))
+          subst (λ (a : MemberState). IsMemberWithin s.steps (in_group a))
           (sym (get_or-set_other s.members m j kept nobody other)) (member_within s is j)
     ])
 
     keeping_within : IsWithinSteps s.steps (world_of keeping)
     keeping_within = record {
-      moment = is.within.moment;
+      time = is.within.time;
       sent = is.within.sent;
       published = subst (λ (ls : Logs). length (published ls) ≤ s.steps) (sym kept_logs) is.within.published;
       segments =
@@ -117,17 +119,17 @@ module _ (s : GroupState) (is : IsTrueState s) (m : ℕ) (there : m < length s.m
       tally = is.within.tally;
     }
 
-    keeping_state : IsTrueState keeping
+    keeping_state : IsConsistentState keeping
     keeping_state =
-        changed_state s is keeping.members s.sent s.moment s.tally s.steps (length-set s.members m kept) kept_numbers
-        kept_truly is.sent (omega arith) is.steps keeping_within
+        changed_state s is keeping.members s.sent s.time s.tally s.steps (length-set s.members m kept) kept_numbers
+        kept_consistently is.sent (omega arith) is.steps keeping_within
 
 -- ---- a block
 
-module _ (s : GroupState) (is : IsTrueState s) (m : ℕ) (there : m < length s.members) (old : Alone)
+module _ (s : GroupState) (is : IsConsistentState s) (m : ℕ) (there : m < length s.members) (old : MemberState)
     (old_is : old ≡ get_or s.members m old) (process index : ℕ) (content : List ℕ) where
   abbrev comes_to : BlockState
-  comes_to = alone_block old process index content
+  comes_to = member_block old process index content
 
   abbrev event : Event
   event = Event.Block m process index content
@@ -183,29 +185,29 @@ module _ (s : GroupState) (is : IsTrueState s) (m : ℕ) (there : m < length s.m
           leb-true 65535 (length (member (world_of s) m).log) e in
           omega (arith, most, less, l)))
 
-    module _ (b : Alone) (draw : ℕ → ℕ → ℕ) (n : ℕ) (n_is : n ≡ draw m old.machine.draws)
-        (b_is : b ≡ alone_blocks s.keys process index content s.moment n old)
-        (x : Blocked) (tells : TellsBlock s.keys old b comes_to x) where
-      -- What is told of it.
-      pub told_so : (told : Told) (k : ℕ) → told ≡ blocked_told m k x → k ≡ length s.sent + 1
-          → told ≡ block_told m (next_seq_at (world_of s) m) (next_sync (world_of s))
+    module _ (b : MemberState) (draw : ℕ → ℕ → ℕ) (n : ℕ) (n_is : n ≡ draw m old.machine.draws)
+        (b_is : b ≡ member_blocks s.keys process index content s.time n old)
+        (x : Blocked) (tells : ReportsBlock s.keys old b comes_to x) where
+      -- What is reported of it.
+      pub reported_so : (reported : Reported) (k : ℕ) → reported ≡ blocked_reported m k x → k ≡ length s.sent + 1
+          → reported ≡ block_reported m (next_seq_at (world_of s) m) (next_sync (world_of s))
           (block_at (world_of s) m process index content)
-      told_so told k e k_is =
+      reported_so reported k e k_is =
           e
           ∙ go comes_to x tells
-          ∙ ap (block_told m (next_seq_at (world_of s) m) (next_sync (world_of s))) (sym state_is) where
+          ∙ ap (block_reported m (next_seq_at (world_of s) m) (next_sync (world_of s))) (sym state_is) where
             seq_so : (seq : ℕ) → seq ≡ length old.log + 1 → seq ≡ next_seq_at (world_of s) m
             seq_so seq h = let l = log_is s is m there old old_is in omega (arith, h, l)
 
             sync_so : k ≡ next_sync (world_of s)
             sync_so = let l = length-map s.sent sync_in in omega (arith, k_is, l)
 
-            go : (c : BlockState) (y : Blocked) → TellsBlock s.keys old b c y
-                → blocked_told m k y ≡ block_told m (next_seq_at (world_of s) m) (next_sync (world_of s)) c
+            go : (c : BlockState) (y : Blocked) → ReportsBlock s.keys old b c y
+                → blocked_reported m k y ≡ block_reported m (next_seq_at (world_of s) m) (next_sync (world_of s)) c
             go Unknown blocked.Unknown t = refl
             go Already blocked.Already t = refl
             go (Waiting p) blocked.Waiting t = refl
-            go (Whole p) (blocked.Published one) t = λ i. Told.BlockPublished m (seq_so one.seq t.0 i) (sync_so i)
+            go (Whole p) (blocked.Published one) t = λ i. Reported.BlockPublished m (seq_so one.seq t.0 i) (sync_so i)
             go _ _ t = absurd t
 
       module _ (few : s.steps < 100000) (objects : CompletesAnObject comes_to) (sent reserved : List SentPacket)
@@ -218,17 +220,17 @@ module _ (s : GroupState) (is : IsTrueState s) (m : ℕ) (there : m < length s.m
         -- The world is what the group makes of it, and sound.
         pub record IsAfter (w : World) : Type 0 where
           pub world : world_of after ≡ w
-          pub state : IsTrueState after
+          pub state : IsConsistentState after
 
         -- nothing is sent
         unsent : (w : World) → w ≡ after_event (drawing draw) (world_of s) event
-            → IsTrueMember s.keys (logs_around s.members) b → b.number ≡ m → sent ≡ s.sent → world_of after ≡ w
+            → IsConsistentMember s.keys (logs_around s.members) b → b.number ≡ m → sent ≡ s.sent → world_of after ≡ w
             → IsAfter w
         unsent w w_is true_ number same e = record {
           world = e;
           state =
-              stepped_at s is few (drawing draw) (λ t. omega arith) event tt m there b number true_ sent s.moment
-              s.tally (subst (All (IsTrueSync s.keys (logs_around s.members))) (sym same) is.sent) (e ∙ w_is);
+              stepped_at s is few (drawing draw) (λ t. omega arith) event tt m there b number true_ sent s.time
+              s.tally (subst (All (IsConsistentSync s.keys (logs_around s.members))) (sym same) is.sent) (e ∙ w_is);
         }
 
         -- the member is as before
@@ -238,55 +240,56 @@ module _ (s : GroupState) (is : IsTrueState s) (m : ℕ) (there : m < length s.m
             let back : set s.members m b ≡ s.members =
             ap (set s.members m) (same ∙ old_at s is m there old old_is) ∙ set-get_or s.members m nobody in
             unsent (world_of s) w_is
-            (subst (IsTrueMember s.keys (logs_around s.members)) (sym same) (truly s is m there old old_is))
-            (ap (λ (a : Alone). a.number) same ∙ number_is s is m there old old_is) none
+            (subst (IsConsistentMember s.keys (logs_around s.members)) (sym same) (consistent s is m there old old_is))
+            (ap (λ (a : MemberState). a.number) same ∙ number_is s is m there old old_is) none
             (λ i. world_of (record s { members = back i; sent = none i; steps = s.steps + 1 }))
 
         -- another block is missing
         waits : (p : Process) → with_process_at (world_of s) m process p ≡ after_event (drawing draw) (world_of s) event
-            → b ≡ alone_keeps process p old → sent ≡ s.sent → IsAfter (with_process_at (world_of s) m process p)
+            → b ≡ member_keeps process p old → sent ≡ s.sent → IsAfter (with_process_at (world_of s) m process p)
         waits p w_is keeps none =
             unsent (with_process_at (world_of s) m process p) w_is
-            (subst (IsTrueMember s.keys (logs_around s.members)) (sym keeps)
-            (inserts_true s.keys (logs_around s.members) (with_process process p old.insertions) old
-            (truly s is m there old old_is)))
-            (ap (λ (a : Alone). a.number) keeps ∙ number_is s is m there old old_is) none
+            (subst (IsConsistentMember s.keys (logs_around s.members)) (sym keeps)
+            (inserts_consistent s.keys (logs_around s.members) (with_process process p old.insertions) old
+            (consistent s is m there old old_is)))
+            (ap (λ (a : MemberState). a.number) keeps ∙ number_is s is m there old old_is) none
             ((λ i. world_of (record s { members = set s.members m (keeps i); sent = none i; steps = s.steps + 1 }))
             ∙ keeping_world s is m there old old_is process p)
 
         -- the object is published by the member with a closed process
         publishes : (p : Process) → length (indexes p) ≤ 200 → IsObject (object_of p) → length old.log < 65535
-            → b ≡ own.alone_publishes_whole s.keys process s.moment n p old → (y : Blocked)
-            → TellsBlock s.keys old b (Whole p) y → sent ≡ after_blocked m old.known y s.sent
+            → b ≡ own.member_publishes_whole s.keys process s.time n p old → (y : Blocked)
+            → ReportsBlock s.keys old b (Whole p) y → sent ≡ after_blocked m old.known y s.sent
             → IsAfter (after_publish (drawing draw) (with_process_at (world_of s) m process (closed p)) m
             (Offers (object_of p)))
         publishes p short object less e (blocked.Published one) t so =
-            let now : Alone = alone_keeps process (closed p) old in
+            let now : MemberState = member_keeps process (closed p) old in
             let s1 : GroupState = record s { members = set s.members m now } in
-            let is1 : IsTrueState s1 =
+            let is1 : IsConsistentState s1 =
             keeping_state s is m there old old_is process (closed p) short in
             let there1 : m < length s1.members = let l = length-set s.members m now in omega (arith, there, l) in
             let now_is : now ≡ get_or s1.members m now = sym (get_or-set_same s.members m now now there) in
-            let b_now : b ≡ alone_publishes s1.keys (Offers (object_of p)) s1.moment n now =
+            let b_now : b ≡ member_publishes s1.keys (Offers (object_of p)) s1.time n now =
             e
-            ∙ ap (λ (c : Bool). cond c (alone_publishes s.keys (Offers (object_of p)) s.moment n now) old)
+            ∙ ap (λ (c : Bool). cond c (member_publishes s.keys (Offers (object_of p)) s.time n now) old)
             (lt-ltb (length old.log) 65535 less) in
-            let told : sent ≡ s1.sent ++ _ =
+            let reported : sent ≡ s1.sent ++ _ =
             sent_is s1 is1 m there1 now now_is b draw n n_is (Offers (object_of p)) b_now sent s.sent old.known one.seq
             one.sync.items refl refl t.0 t.1 so in
             let twice : set s1.members m b ≡ set s.members m b = set-set s.members m now b in
             record {
               world =
-                  ap (λ (ms : List Alone). world_of (record s { members = ms; sent = sent; steps = s.steps + 1 }))
+                  ap (λ (ms : List MemberState). world_of (record s { members = ms; sent = sent; steps = s.steps + 1 }))
                   (sym twice)
-                  ∙ world_sent s1 is1 m there1 now now_is b draw n n_is (Offers (object_of p)) b_now sent told
+                  ∙ world_sent s1 is1 m there1 now now_is b draw n n_is (Offers (object_of p)) b_now sent reported
                   ∙ ap (λ (w : World). after_publish (drawing draw) w m (Offers (object_of p)))
                   (keeping_world s is m there old old_is process (closed p));
               state =
-                  subst (λ (ms : List Alone). IsTrueState (record s { members = ms; sent = sent; steps = s.steps + 1 }))
+                  subst (λ (ms : List MemberState). IsConsistentState
+                  (record s { members = ms; sent = sent; steps = s.steps + 1 }))
                   twice
                   (state_sent s1 is1 m there1 now now_is b draw n n_is (Offers (object_of p)) b_now few object less
-                  sent told);
+                  sent reported);
             }
         publishes p short object less e _ t so = absurd t
 
@@ -301,7 +304,8 @@ module _ (s : GroupState) (is : IsTrueState s) (m : ℕ) (there : m < length s.m
 
               within : IsMemberWithin s.steps (in_group old)
               within =
-                  subst (λ (a : Alone). IsMemberWithin s.steps (in_group a)) (sym (old_at s is m there old old_is))
+                  subst (λ (a : MemberState). IsMemberWithin s.steps (in_group a))
+                  (sym (old_at s is m there old old_is))
                   (member_within s is m)
 
               short_blocks : HasFewBlocks comes_to
@@ -310,9 +314,9 @@ module _ (s : GroupState) (is : IsTrueState s) (m : ℕ) (there : m < length s.m
 
               go : (c : BlockState) → HasFewBlocks c
                   → after_block (drawing draw) (world_of s) m process c ≡ after_event (drawing draw) (world_of s) event
-                  → (IsTrue (is_last c) → length old.log < 65535) → b ≡ own.after_block s.keys process s.moment n old c
+                  → (IsTrue (is_last c) → length old.log < 65535) → b ≡ own.after_block s.keys process s.time n old c
                   → CompletesAnObject c
-                  → (y : Blocked) → TellsBlock s.keys old b c y → sent ≡ after_blocked m old.known y s.sent
+                  → (y : Blocked) → ReportsBlock s.keys old b c y → sent ≡ after_blocked m old.known y s.sent
                   → IsAfter (after_block (drawing draw) (world_of s) m process c)
               go (Whole p) short w_is h e object y t so = publishes p short object (h refl) e y t so
               go Unknown short w_is h e object blocked.Unknown t so = still w_is e so

@@ -29,14 +29,15 @@ use Rattle.group_model.proofs.PublicLaws.{parts_are_those, tests_those}
 use Rattle.repo_object.specs.Objects.{Post, IsPost, key_name}
 use Rattle.repo_object.specs.Wants.{want_record, want_index, want_segment}
 use Rattle.repo_member.specs.Groups.{GroupKeys, HaveKeys, node_at}
-use Rattle.repo_member.specs.Alone.{Alone, alone_holdings, alone_plan, want_of, alone_accepts}
-use Rattle.repo_member.specs.InGroup.{in_group, AreLogs, true_packet}
-use Rattle.repo_member.specs.TrueMembers.{IsTrueMember, true_listing, true_want}
-use Rattle.repo_member.proofs.PublicLaws.{true_stores, plans_alike, wants_published, wants_are_true, packets_are_there}
+use Rattle.repo_member.specs.MemberState.{MemberState, member_holdings, member_plan, want_of, member_accepts}
+use Rattle.repo_member.specs.InGroup.{in_group, AreLogs, published_packet}
+use Rattle.repo_member.specs.ConsistentMembers.{IsConsistentMember, consistent_listing, published_want}
+use Rattle.repo_member.proofs.PublicLaws.{consistent_stores, plans_alike, wants_published, wants_are_consistent}
+use Rattle.repo_member.proofs.PublicLaws.{packets_are_there}
 use Rattle.repo_member.proofs.PublicLaws.{packets_pass}
 use Rattle.repo_object.specs.Verdict.{publisher_key}
 use Rattle.repo_member.specs.Outcomes.{IsCheckedFor}
-use Rattle.bench_world.specs.declared.event.EventFault.{EventFault}
+use Rattle.bench_world.specs.declared.event.EventError.{EventError}
 use Rattle.bench_world.specs.declared.answering.Fed.{Fed}
 use Rattle.bench_world.specs.declared.answering.Fed.TheVariants.{Kept}
 use Rattle.bench_world.specs.Sizes.{size_of}
@@ -73,30 +74,32 @@ post_within g logs are pair there =
 -- ---- the packet of a published part
 
 module _ (g : GroupKeys) (logs : Logs) (t : Part) (are : AreLogs g logs) (is : IsPublishedPart logs t) where
-  pub packet_is : true_packet g logs t ≡ Some (unwrap_or (true_packet g logs t) [])
-  packet_is = go (true_packet g logs t) (packets_are_there g logs t are is) where
+  pub packet_is : published_packet g logs t ≡ Some (unwrap_or (published_packet g logs t) [])
+  packet_is = go (published_packet g logs t) (packets_are_there g logs t are is) where
     go : (o : Option (List ℕ)) → IsSomeAnd o (λ octets. length octets ≤ 8800) → o ≡ Some (unwrap_or o [])
     go None h = absurd h
     go (Some x) h = refl
 
-  pub not_none : true_packet g logs t ≡ None → ⊥
+  pub not_none : published_packet g logs t ≡ None → ⊥
   not_none none = let h = packet_is in cc
 
-  size_of_it : size_of g logs t ≡ length (unwrap_or (true_packet g logs t) [])
+  size_of_it : size_of g logs t ≡ length (unwrap_or (published_packet g logs t) [])
   size_of_it =
-      ap (λ (b : Bool). cond b (length (unwrap_or (true_packet g logs t) [])) 0) ((parts_are_those logs t).1 is)
+      ap (λ (b : Bool). cond b (length (unwrap_or (published_packet g logs t) [])) 0) ((parts_are_those logs t).1 is)
 
-  module _ (octets : List ℕ) (same : bytes_eq octets (unwrap_or (true_packet g logs t) []) ≡ true) where
-    pub octets_are : octets ≡ unwrap_or (true_packet g logs t) []
-    octets_are = (bytes_eq-Decides octets (unwrap_or (true_packet g logs t) [])).0 same
+  module _ (octets : List ℕ) (same : bytes_eq octets (unwrap_or (published_packet g logs t) []) ≡ true) where
+    pub octets_are : octets ≡ unwrap_or (published_packet g logs t) []
+    octets_are = (bytes_eq-Decides octets (unwrap_or (published_packet g logs t) [])).0 same
 
-    -- They pass, so they are told as the publisher's.
+    -- They pass, so they are given as the publisher's.
     pub its_octets : octets_as g logs t octets ≡ Its
     its_octets =
-        let its : true_packet g logs t ≡ Some octets =
+        let its : published_packet g logs t ≡ Some octets =
         packet_is ∙ ap (λ (o : List ℕ). let p : Option (List ℕ) = Some o in p) (sym octets_are) in
-        ap (λ (b : Bool). cond b (cond (bytes_eq octets (unwrap_or (true_packet g logs t) [])) Its Another) Nothing)
-        (passed (ring_verdict (true_want g logs t) g.members.ring octets) (packets_pass g logs t octets are is its))
+        ap (λ (b : Bool). cond b (cond (bytes_eq octets (unwrap_or (published_packet g logs t) [])) Its Another)
+        Nothing)
+        (passed (ring_verdict (published_want g logs t) g.members.ring octets)
+        (packets_pass g logs t octets are is its))
         ∙ ap (λ (b : Bool). cond b Its Another) same where
           passed : (r : Result Data PartRefusal) → IsOk r → is_ok r ≡ true
           passed (Ok d) h = refl
@@ -107,81 +110,85 @@ module _ (g : GroupKeys) (logs : Logs) (t : Part) (are : AreLogs g logs) (is : I
 
 -- ---- what a publisher stores and logs
 
-module _ (g : GroupKeys) (logs : Logs) (a : Alone) (truly : IsTrueMember g logs a) (t : Part) where
+module _ (g : GroupKeys) (logs : Logs) (a : MemberState) (consistent : IsConsistentMember g logs a) (t : Part) where
   pub stored_same : (octets packet : List ℕ) → Some packet ≡ value_of part_cmp a.store t
-      → bytes_eq octets packet ≡ bytes_eq octets (unwrap_or (true_packet g logs t) [])
+      → bytes_eq octets packet ≡ bytes_eq octets (unwrap_or (published_packet g logs t) [])
   stored_same octets packet e =
-      ap (λ (o : Option (List ℕ)). bytes_eq octets (unwrap_or o [])) (sym (truly.packets t packet (sym e)))
+      ap (λ (o : Option (List ℕ)). bytes_eq octets (unwrap_or o [])) (sym (consistent.packets t packet (sym e)))
 
 -- ---- what octets are
 
 module _ (g : GroupKeys) (logs : Logs) (t : Part) (octets : List ℕ) where
   -- They don't pass.
-  pub refused_nothing : (refusal : PartRefusal) → ring_verdict (true_want g logs t) g.members.ring octets ≡ Err refusal
+  pub refused_nothing : (refusal : PartRefusal) → ring_verdict (published_want g logs t) g.members.ring octets
+      ≡ Err refusal
       → octets_as g logs t octets ≡ Nothing
   refused_nothing refusal e =
       ap (λ (r : Result Data PartRefusal).
-      cond (is_ok r) (cond (bytes_eq octets (unwrap_or (true_packet g logs t) [])) Its Another) Nothing) e
+      cond (is_ok r) (cond (bytes_eq octets (unwrap_or (published_packet g logs t) [])) Its Another) Nothing) e
 
-  pub refused_fed : (refusal : PartRefusal) → ring_verdict (true_want g logs t) g.members.ring octets ≡ Err refusal
+  pub refused_fed : (refusal : PartRefusal) → ring_verdict (published_want g logs t) g.members.ring octets ≡ Err refusal
       → Fed.Refused refusal ≡ fed_as g logs octets t
   refused_fed refusal e = sym (ap fed_by e)
 
   -- They pass.
-  pub passed_fed : IsOk (ring_verdict (true_want g logs t) g.members.ring octets) → Kept ≡ fed_as g logs octets t
-  passed_fed h = go (ring_verdict (true_want g logs t) g.members.ring octets) h where
+  pub passed_fed : IsOk (ring_verdict (published_want g logs t) g.members.ring octets) → Kept ≡ fed_as g logs octets t
+  passed_fed h = go (ring_verdict (published_want g logs t) g.members.ring octets) h where
     go : (r : Result Data PartRefusal) → IsOk r → Kept ≡ fed_by r
     go (Ok d) k = refl
     go (Err refusal) k = absurd (true≢false (sym k))
 
-  pub passed_another : IsOk (ring_verdict (true_want g logs t) g.members.ring octets)
-      → bytes_eq octets (unwrap_or (true_packet g logs t) []) ≡ false → octets_as g logs t octets ≡ Another
+  pub passed_another : IsOk (ring_verdict (published_want g logs t) g.members.ring octets)
+      → bytes_eq octets (unwrap_or (published_packet g logs t) []) ≡ false → octets_as g logs t octets ≡ Another
   passed_another h other =
-      go (ring_verdict (true_want g logs t) g.members.ring octets) h ∙ ap (λ (b : Bool). cond b Its Another) other where
+      go (ring_verdict (published_want g logs t) g.members.ring octets) h
+      ∙ ap (λ (b : Bool). cond b Its Another) other where
         go : (r : Result Data PartRefusal) → IsOk r
-            → cond (is_ok r) (cond (bytes_eq octets (unwrap_or (true_packet g logs t) [])) Its Another) Nothing
-            ≡ cond (bytes_eq octets (unwrap_or (true_packet g logs t) [])) Its Another
+            → cond (is_ok r) (cond (bytes_eq octets (unwrap_or (published_packet g logs t) [])) Its Another) Nothing
+            ≡ cond (bytes_eq octets (unwrap_or (published_packet g logs t) [])) Its Another
         go (Ok d) k = refl
         go (Err refusal) k = absurd (true≢false (sym k))
 
 -- ---- what a fetcher claims
 
-module _ (g : GroupKeys) (logs : Logs) (a : Alone) (are : AreLogs g logs) (truly : IsTrueMember g logs a) (f : ℕ)
-    (t : Part) (claim : claim_of (alone_plan a) f ≡ Some t) where
-  pub claim_wanted : is_wanted (alone_plan a) t ≡ true
+module _ (g : GroupKeys) (logs : Logs) (a : MemberState) (are : AreLogs g logs)
+    (consistent : IsConsistentMember g logs a) (f : ℕ)
+    (t : Part) (claim : claim_of (member_plan a) f ≡ Some t) where
+  pub claim_wanted : is_wanted (member_plan a) t ≡ true
   claim_wanted =
-      subst (λ (p : PlanState). is_wanted p t ≡ true) (sym (plans_alike g logs a are (true_stores g logs a truly)))
-      (truly.sound.claimed (f - 1) t claim)
+      subst (λ (p : PlanState). is_wanted p t ≡ true)
+      (sym (plans_alike g logs a are (consistent_stores g logs a consistent)))
+      (consistent.sound.claimed (f - 1) t claim)
 
   pub claim_published : IsPublishedPart logs t
-  claim_published = wants_published g logs a t are truly claim_wanted
+  claim_published = wants_published g logs a t are consistent claim_wanted
 
-  pub claim_want : want_of g a.store t ≡ true_want g logs t
-  claim_want = wants_are_true g logs a t are truly claim_wanted
+  pub claim_want : want_of g a.store t ≡ published_want g logs t
+  claim_want = wants_are_consistent g logs a t are consistent claim_wanted
 
   -- Its publisher is another member.
   pub claim_of_another : t.publisher ≢ a.number
   claim_of_another own =
       let is : IsWantedPart logs (in_group a) t =
-      (tests_those logs (in_group a) t (λ u h. (truly.sound.held u h).with_record)).0
-      (truly.sound.claimed (f - 1) t claim) in
+      (tests_those logs (in_group a) t (λ u h. (consistent.sound.held u h).with_record)).0
+      (consistent.sound.claimed (f - 1) t claim) in
       let own_held : (member_hides (in_group a) (t.publisher, t.seq) ≡ true)
       ⊎ ((x : ℕ) → x ≤ count logs (t.publisher, t.seq)
       → member_holds (in_group a) (part_of (t.publisher, t.seq) x) ≡ true) =
       subst (λ (p : ℕ). IsPublished logs (p, t.seq)
       → (member_hides (in_group a) (p, t.seq) ≡ true)
       ⊎ ((x : ℕ) → x ≤ count logs (p, t.seq) → member_holds (in_group a) (part_of (p, t.seq) x) ≡ true)) (sym own)
-      (truly.sound.own_held t.seq) claim_published.there in
+      (consistent.sound.own_held t.seq) claim_published.there in
       elim own_held [
         | inl hidden ↦ true≢false (sym hidden ∙ is.not_hidden)
         | inr held ↦ true≢false (sym (held t.part claim_published.counted) ∙ is.not_held)
       ]
 
   -- The packet of the part is accepted, where octets that are it came.
-  pub accepts_its : (octets : List ℕ) → bytes_eq octets (unwrap_or (true_packet g logs t) []) ≡ true
-      → alone_accepts f t octets a ≡ accepts_claimed g logs f t (octets_as g logs t octets) a
+  pub accepts_its : (octets : List ℕ) → bytes_eq octets (unwrap_or (published_packet g logs t) []) ≡ true
+      → member_accepts f t octets a ≡ accepts_claimed g logs f t (octets_as g logs t octets) a
   accepts_its octets same =
-      ap (λ (o : List ℕ). alone_accepts f t o a) (octets_are g logs t are claim_published octets same)
+      ap (λ (o : List ℕ). member_accepts f t o a) (octets_are g logs t are claim_published octets same)
       ∙ ap (λ (c : Came). accepts_claimed g logs f t c a) (sym (its_octets g logs t are claim_published octets same))
 
   -- The ring has its publisher's key.
@@ -192,34 +199,35 @@ module _ (g : GroupKeys) (logs : Logs) (a : Alone) (are : AreLogs g logs) (truly
       omega (arith, long, are.width, publisher_there logs (pair_of t) there)
 
 -- The want of a claim is that of the claimed part.
-pub want_claimed : (g : GroupKeys) (a : Alone) (f : ℕ) (want : WantedPart)
-    → IsSomeAnd (claim_of (alone_plan a) f) (λ part. want ≡ want_of g a.store part)
-    → claim_of (alone_plan a) f ≡ Some want.part
-want_claimed g a f want h = go (claim_of (alone_plan a) f) h where
+pub want_claimed : (g : GroupKeys) (a : MemberState) (f : ℕ) (want : WantedPart)
+    → IsSomeAnd (claim_of (member_plan a) f) (λ part. want ≡ want_of g a.store part)
+    → claim_of (member_plan a) f ≡ Some want.part
+want_claimed g a f want h = go (claim_of (member_plan a) f) h where
   go : (o : Option Part) → IsSomeAnd o (λ part. want ≡ want_of g a.store part) → o ≡ Some want.part
   go None k = absurd k
   go (Some t) k =
-      let part : want.part ≡ t = ap (λ (w : WantedPart). w.part) k ∙ want_part g (alone_holdings a) t in
+      let part : want.part ≡ t = ap (λ (w : WantedPart). w.part) k ∙ want_part g (member_holdings a) t in
       ap (λ (u : Part). let o : Option Part = Some u in o) (sym part)
 
 -- The want of a claim is the group's.
-pub want_true : (g : GroupKeys) (logs : Logs) (a : Alone) → AreLogs g logs → IsTrueMember g logs a
+pub want_consistent : (g : GroupKeys) (logs : Logs) (a : MemberState) → AreLogs g logs → IsConsistentMember g logs a
     → (f : ℕ) (want : WantedPart)
-    → IsSomeAnd (claim_of (alone_plan a) f) (λ part. want ≡ want_of g a.store part) → want ≡ true_want g logs want.part
-want_true g logs a are truly f want h = go (claim_of (alone_plan a) f) refl h where
-  go : (o : Option Part) → claim_of (alone_plan a) f ≡ o → IsSomeAnd o (λ part. want ≡ want_of g a.store part)
-      → want ≡ true_want g logs want.part
+    → IsSomeAnd (claim_of (member_plan a) f) (λ part. want ≡ want_of g a.store part) → want
+    ≡ published_want g logs want.part
+want_consistent g logs a are consistent f want h = go (claim_of (member_plan a) f) refl h where
+  go : (o : Option Part) → claim_of (member_plan a) f ≡ o → IsSomeAnd o (λ part. want ≡ want_of g a.store part)
+      → want ≡ published_want g logs want.part
   go None e k = absurd k
   go (Some t) e k =
-      let same : want ≡ true_want g logs t = k ∙ claim_want g logs a are truly f t e in
-      same ∙ ap (true_want g logs) (sym (ap (λ (w : WantedPart). w.part) same ∙ true_part t)) where
-        true_part : (u : Part) → (true_want g logs u).part ≡ u
-        true_part u = by_kind (u.part == 0) (nat_le u.part (shape_at logs (pair_of u)).index) where
+      let same : want ≡ published_want g logs t = k ∙ claim_want g logs a are consistent f t e in
+      same ∙ ap (published_want g logs) (sym (ap (λ (w : WantedPart). w.part) same ∙ consistent_part t)) where
+        consistent_part : (u : Part) → (published_want g logs u).part ≡ u
+        consistent_part u = by_kind (u.part == 0) (nat_le u.part (shape_at logs (pair_of u)).index) where
           by_kind : (b c : Bool)
               → (cond b (want_record u (node_at g u.publisher) g.name)
-              (cond c (want_index u (true_listing g logs (pair_of u)) (node_at g u.publisher) g.name)
-              (want_segment u (shape_at logs (pair_of u)) (true_listing g logs (pair_of u)).name
-              (sha256 (unwrap_or (true_packet g logs u) []))))).part
+              (cond c (want_index u (consistent_listing g logs (pair_of u)) (node_at g u.publisher) g.name)
+              (want_segment u (shape_at logs (pair_of u)) (consistent_listing g logs (pair_of u)).name
+              (sha256 (unwrap_or (published_packet g logs u) []))))).part
               ≡ u
           by_kind true c = refl
           by_kind false true = refl
@@ -227,12 +235,13 @@ want_true g logs a are truly f want h = go (claim_of (alone_plan a) f) refl h wh
 
 -- ---- what an accepted packet comes to
 
-module _ (g : GroupKeys) (logs : Logs) (a : Alone) (are : AreLogs g logs) (truly : IsTrueMember g logs a) (f : ℕ)
-    (t : Part) (claim : claim_of (alone_plan a) f ≡ Some t) where
+module _ (g : GroupKeys) (logs : Logs) (a : MemberState) (are : AreLogs g logs)
+    (consistent : IsConsistentMember g logs a) (f : ℕ)
+    (t : Part) (claim : claim_of (member_plan a) f ≡ Some t) where
   -- What passed for the published part passed for what the fetcher claims.
-  pub checked_for_claim : (octets : List ℕ) (c : CheckedPart) (want : WantedPart) → want ≡ true_want g logs t
+  pub checked_for_claim : (octets : List ℕ) (c : CheckedPart) (want : WantedPart) → want ≡ published_want g logs t
       → c ≡ checked_part want g.members.ring octets
-      → IfSome (claim_of (alone_plan a) f) (λ part. IsCheckedFor g (want_of g a.store part) c)
+      → IfSome (claim_of (member_plan a) f) (λ part. IsCheckedFor g (want_of g a.store part) c)
   checked_for_claim octets c want want_is c_is =
       subst (λ (o : Option Part). IfSome o (λ part. IsCheckedFor g (want_of g a.store part) c)) (sym claim)
       (subst (λ (x : CheckedPart). IsCheckedFor g (want_of g a.store t) x) (sym c_is)
@@ -242,12 +251,13 @@ module _ (g : GroupKeys) (logs : Logs) (a : Alone) (are : AreLogs g logs) (truly
         key = ap (λ (w : WantedPart). (publisher_key g.members.ring w).key) same;
       })) where
         same : want ≡ want_of g a.store t
-        same = want_is ∙ sym (claim_want g logs a are truly f t claim)
+        same = want_is ∙ sym (claim_want g logs a are consistent f t claim)
 
   -- What is kept has the size of the part's packet.
-  pub keeps_its : (octets : List ℕ) → bytes_eq octets (unwrap_or (true_packet g logs t) []) ≡ true
+  pub keeps_its : (octets : List ℕ) → bytes_eq octets (unwrap_or (published_packet g logs t) []) ≡ true
       → answered g logs (Some t) (octets_as g logs t octets) ≡ Ok (Some (length octets))
   keeps_its octets same =
-      ap (answered g logs (Some t)) (its_octets g logs t are (claim_published g logs a are truly f t claim) octets same)
-      ∙ ap (λ (n : ℕ). let r : Result (Option ℕ) EventFault = Ok (Some n) in r)
-      (its_size g logs t are (claim_published g logs a are truly f t claim) octets same)
+      ap (answered g logs (Some t)) (its_octets g logs t are (claim_published g logs a are consistent f t claim) octets
+      same)
+      ∙ ap (λ (n : ℕ). let r : Result (Option ℕ) EventError = Ok (Some n) in r)
+      (its_size g logs t are (claim_published g logs a are consistent f t claim) octets same)

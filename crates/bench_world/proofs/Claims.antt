@@ -9,27 +9,28 @@ use Rattle.group_model.specs.Events.{Event}
 use Rattle.group_model.specs.Changes.{member_with_claim}
 use Rattle.group_model.specs.World.{World, no_member, member, with_member}
 use Rattle.group_model.specs.Steps.{claim_at, to_claim, after_claiming}
-use Rattle.repo_member.specs.Alone.{Alone, alone_plan, alone_claims}
+use Rattle.repo_member.specs.MemberState.{MemberState, member_plan, member_claims}
 use Rattle.repo_member.specs.InGroup.{in_group}
-use Rattle.repo_member.specs.TrueMembers.{IsTrueMember}
-use Rattle.repo_member.proofs.PublicLaws.{open_parts_alike, claims_true, loses_true}
-use Rattle.bench_world.specs.Worlds.{GroupState, IsTrueState, in_groups, logs_around, world_of, drawing}
-use Rattle.bench_world.proofs.States.{truly, number_is, member_is, in_world, true_in, stepped_at}
+use Rattle.repo_member.specs.ConsistentMembers.{IsConsistentMember}
+use Rattle.repo_member.proofs.PublicLaws.{open_parts_alike, claims_consistent, loses_consistent}
+use Rattle.bench_world.specs.Worlds.{GroupState, IsConsistentState, in_groups, logs_around, world_of, drawing}
+use Rattle.bench_world.proofs.States.{consistent, number_is, member_is, in_world, consistent_in, stepped_at}
 
-module _ (s : GroupState) (is : IsTrueState s) (m : ℕ) (there : m < length s.members) (old : Alone)
+module _ (s : GroupState) (is : IsConsistentState s) (m : ℕ) (there : m < length s.members) (old : MemberState)
     (old_is : old ≡ get_or s.members m old) where
-  pub claim_is : (f : ℕ) → claim_at (world_of s) m f ≡ claim_of (alone_plan old) f
+  pub claim_is : (f : ℕ) → claim_at (world_of s) m f ≡ claim_of (member_plan old) f
   claim_is f = ap (λ (x : Member). get_or x.claims (f - 1) None) (member_is s is m there old old_is)
 
-  pub to_claim_is : to_claim (world_of s) m ≡ first (unclaimed (alone_plan old))
+  pub to_claim_is : to_claim (world_of s) m ≡ first (unclaimed (member_plan old))
   to_claim_is =
       ap first
-      (open_parts_alike (world_of s) m s.keys old (in_world s is m there old old_is) (true_in s is m there old old_is))
+      (open_parts_alike (world_of s) m s.keys old (in_world s is m there old old_is)
+      (consistent_in s is m there old old_is))
 
   -- ---- a fetcher claims a part, or nothing
 
-  module _ (f : ℕ) (claim : Option Part) (first_is : claim ≡ first (unclaimed (alone_plan old))) (b : Alone)
-      (b_is : b ≡ alone_claims f claim old) (idle : claim_of (alone_plan old) f ≡ None) where
+  module _ (f : ℕ) (claim : Option Part) (first_is : claim ≡ first (unclaimed (member_plan old))) (b : MemberState)
+      (b_is : b ≡ member_claims f claim old) (idle : claim_of (member_plan old) f ≡ None) where
     -- So it is for a claim of nothing too, since the fetcher claimed nothing.
     same_claims : (c : Option Part) → claim ≡ c
         → world_of (record s { members = set s.members m b; steps = s.steps + 1 }) ≡ after_claiming (world_of s) m f c
@@ -64,20 +65,21 @@ module _ (s : GroupState) (is : IsTrueState s) (m : ℕ) (there : m < length s.m
         ≡ after_claiming (world_of s) m f (to_claim (world_of s) m)
     claimed_world = same_claims claim refl ∙ ap (after_claiming (world_of s) m f) (first_is ∙ sym to_claim_is)
 
-    pub claimed_state : s.steps < 100000 → IsTrueState (record s { members = set s.members m b; steps = s.steps + 1 })
+    pub claimed_state : s.steps < 100000 → IsConsistentState
+        (record s { members = set s.members m b; steps = s.steps + 1 })
     claimed_state few =
         let one :
-        IsTrueMember s.keys (logs_around s.members) (alone_claims f (first (unclaimed (alone_plan old))) old) =
-        claims_true s.keys (logs_around s.members) f old is.are (truly s is m there old old_is) in
+        IsConsistentMember s.keys (logs_around s.members) (member_claims f (first (unclaimed (member_plan old))) old) =
+        claims_consistent s.keys (logs_around s.members) f old is.are (consistent s is m there old old_is) in
         stepped_at s is few (drawing (λ _ _. 0)) (λ t. omega arith) (Event.Claim m f) tt m there b
-        (ap (λ (a : Alone). a.number) b_is ∙ number_is s is m there old old_is)
-        (subst (IsTrueMember s.keys (logs_around s.members))
-        (sym (b_is ∙ ap (λ (c : Option Part). alone_claims f c old) first_is)) one)
-        s.sent s.moment s.tally is.sent claimed_world
+        (ap (λ (a : MemberState). a.number) b_is ∙ number_is s is m there old old_is)
+        (subst (IsConsistentMember s.keys (logs_around s.members))
+        (sym (b_is ∙ ap (λ (c : Option Part). member_claims f c old) first_is)) one)
+        s.sent s.time s.tally is.sent claimed_world
 
   -- ---- a claim ends
 
-  module _ (f : ℕ) (b : Alone) (b_is : b ≡ alone_claims f None old) where
+  module _ (f : ℕ) (b : MemberState) (b_is : b ≡ member_claims f None old) where
     pub lost_world : world_of (record s { members = set s.members m b; steps = s.steps + 1 })
         ≡ with_member (world_of s) m (member_with_claim f None (member (world_of s) m))
     lost_world =
@@ -86,10 +88,11 @@ module _ (s : GroupState) (is : IsTrueState s) (m : ℕ) (there : m < length s.m
         ∙ ap (set (in_groups s.members) m)
         (ap in_group b_is ∙ ap (member_with_claim f None) (sym (member_is s is m there old old_is))))
 
-    pub lost_state : s.steps < 100000 → IsTrueState (record s { members = set s.members m b; steps = s.steps + 1 })
+    pub lost_state : s.steps < 100000 → IsConsistentState
+        (record s { members = set s.members m b; steps = s.steps + 1 })
     lost_state few =
         stepped_at s is few (drawing (λ _ _. 0)) (λ t. omega arith) (Event.Lose m f) tt m there b
-        (ap (λ (a : Alone). a.number) b_is ∙ number_is s is m there old old_is)
-        (subst (IsTrueMember s.keys (logs_around s.members)) (sym b_is)
-        (loses_true s.keys (logs_around s.members) f old (truly s is m there old old_is)))
-        s.sent s.moment s.tally is.sent lost_world
+        (ap (λ (a : MemberState). a.number) b_is ∙ number_is s is m there old old_is)
+        (subst (IsConsistentMember s.keys (logs_around s.members)) (sym b_is)
+        (loses_consistent s.keys (logs_around s.members) f old (consistent s is m there old old_is)))
+        s.sent s.time s.tally is.sent lost_world

@@ -15,12 +15,12 @@ use Rattle.group_model.specs.Events.{Came}
 use Rattle.group_model.specs.Events.Came.{Nothing, Its, Another}
 use Rattle.repo_member.specs.Groups.{GroupKeys}
 use Rattle.repo_member.specs.Records.{Packet}
-use Rattle.repo_member.specs.Alone.{Alone, alone_plan}
-use Rattle.repo_member.specs.TrueMembers.{IsTrueMember, true_want, true_packets}
+use Rattle.repo_member.specs.MemberState.{MemberState, member_plan}
+use Rattle.repo_member.specs.ConsistentMembers.{IsConsistentMember, published_want, published_packets}
 use Rattle.repo_member.proofs.PublicLaws.{stores_those}
-use Rattle.bench_world.specs.declared.event.EventFault.{EventFault}
+use Rattle.bench_world.specs.declared.event.EventError.{EventError}
 use Rattle.bench_world.specs.declared.answering.Fed.{Fed}
-use Rattle.bench_world.specs.Worlds.{nobody, alone_at}
+use Rattle.bench_world.specs.Worlds.{nobody, state_at}
 use Rattle.bench_world.specs.Conditions.{CanAccept, CanGetAt}
 use Rattle.bench_world.specs.Serving.{octets_as, judged_packet, found}
 use Rattle.bench_world.specs.Answering.{answered, claim_in, came_in, came_for, fed_as, kept_of, accepts_claimed}
@@ -36,44 +36,46 @@ if_err (Err e) p f = f e p
 
 -- ---- a member and its claim
 
-module _ (g : GroupKeys) (logs : Logs) (f m : ℕ) (ms : List Alone) (can : CanGetAt g logs f m ms) (want : WantedPart)
-    (claim : claim_of (alone_plan (alone_at ms m)) f ≡ Some want.part) where
+module _ (g : GroupKeys) (logs : Logs) (f m : ℕ) (ms : List MemberState) (can : CanGetAt g logs f m ms)
+    (want : WantedPart)
+    (claim : claim_of (member_plan (state_at ms m)) f ≡ Some want.part) where
   -- The publisher of what is claimed is another member.
   pub publisher_in : want.part.publisher < length ms
   publisher_in =
       let p =
       publisher_there logs (pair_of want.part)
-      (claim_published g logs (alone_at ms m) can.logs (can.truly m can.there) f want.part claim).there in
+      (claim_published g logs (state_at ms m) can.logs (can.consistent m can.there) f want.part claim).there in
       omega (arith, p, can.width)
 
   pub publisher_other : want.part.publisher ≢ m
   publisher_other same =
-      claim_of_another g logs (alone_at ms m) can.logs (can.truly m can.there) f want.part claim
+      claim_of_another g logs (state_at ms m) can.logs (can.consistent m can.there) f want.part claim
       (same ∙ sym (can.numbers m can.there))
 
-  module _ (want_is : want ≡ true_want g logs want.part) where
+  module _ (want_is : want ≡ published_want g logs want.part) where
     -- So it can be asked for.
-    pub can_accept : (x p : Alone) → x ≡ alone_at ms m → p ≡ alone_at ms want.part.publisher
+    pub can_accept : (x p : MemberState) → x ≡ state_at ms m → p ≡ state_at ms want.part.publisher
         → CanAccept g logs f want p x
     can_accept x p x_is p_is = record {
       logs = can.logs;
-      publisher = subst (IsTrueMember g logs) (sym p_is) (can.truly want.part.publisher publisher_in);
-      number = ap (λ (a : Alone). a.number) p_is ∙ can.numbers want.part.publisher publisher_in;
-      asker = subst (IsTrueMember g logs) (sym x_is) (can.truly m can.there);
+      publisher = subst (IsConsistentMember g logs) (sym p_is) (can.consistent want.part.publisher publisher_in);
+      number = ap (λ (a : MemberState). a.number) p_is ∙ can.numbers want.part.publisher publisher_in;
+      asker = subst (IsConsistentMember g logs) (sym x_is) (can.consistent m can.there);
       fetcher = can.fetcher;
-      claim = ap (λ (a : Alone). claim_of (alone_plan a) f) x_is ∙ claim;
+      claim = ap (λ (a : MemberState). claim_of (member_plan a) f) x_is ∙ claim;
       want = want_is;
     }
 
     -- What a member serves is what the group says that it gives.
-    pub served_is : (q : ℕ) → q < length ms → (b : Alone) → b ≡ alone_at ms q
+    pub served_is : (q : ℕ) → q < length ms → (b : MemberState) → b ≡ state_at ms q
         → judged_packet g logs want.part (found (served want.interest b.store)) ≡ came_in g logs ms q (claim_in ms m f)
     served_is q other b b_is =
-        ap (λ (a : Alone). judged_packet g logs want.part (found (served want.interest a.store))) b_is
+        ap (λ (a : MemberState). judged_packet g logs want.part (found (served want.interest a.store))) b_is
         ∙ ap (λ (es : List Packet). judged_packet g logs want.part (found (served want.interest es)))
-        (stores_those g logs (alone_at ms q) (can.truly q other))
+        (stores_those g logs (state_at ms q) (can.consistent q other))
         ∙ ap (λ (w : WantedPart).
-        judged_packet g logs want.part (found (served w.interest (true_packets g logs (keys (alone_at ms q).store)))))
+        judged_packet g logs want.part (found (served w.interest
+        (published_packets g logs (keys (state_at ms q).store)))))
         want_is
         ∙ ap (came_in g logs ms q) (sym claim)
 
@@ -93,47 +95,47 @@ module _ (g : GroupKeys) (logs : Logs) (f m : ℕ) (ms : List Alone) (can : CanG
         subst (λ (o : Option Part). IfOk r (λ fed. answered g logs o came ≡ Ok (kept_of octets fed))) (sym claim)
         (subst (λ (c : Came). IfOk r (λ fed. answered g logs (Some want.part) c ≡ Ok (kept_of octets fed))) same h)
 
-    pub refused_so : {T : Type 0} (r : Result T EventFault)
-        → IfErr r (λ fault. (fault ≡ EventFault.NoMemory) ⊎ (answered g logs (Some want.part) k ≡ Err fault))
-        → IfErr r (λ fault. (fault ≡ EventFault.NoMemory) ⊎ (answered g logs (claim_in ms m f) came ≡ Err fault))
+    pub refused_so : {T : Type 0} (r : Result T EventError)
+        → IfErr r (λ fault. (fault ≡ EventError.NoMemory) ⊎ (answered g logs (Some want.part) k ≡ Err fault))
+        → IfErr r (λ fault. (fault ≡ EventError.NoMemory) ⊎ (answered g logs (claim_in ms m f) came ≡ Err fault))
     refused_so r h =
         subst
-        (λ (o : Option Part). IfErr r (λ fault. (fault ≡ EventFault.NoMemory) ⊎ (answered g logs o came ≡ Err fault)))
+        (λ (o : Option Part). IfErr r (λ fault. (fault ≡ EventError.NoMemory) ⊎ (answered g logs o came ≡ Err fault)))
         (sym claim)
         (subst (λ (c : Came).
-        IfErr r (λ fault. (fault ≡ EventFault.NoMemory) ⊎ (answered g logs (Some want.part) c ≡ Err fault))) same h)
+        IfErr r (λ fault. (fault ≡ EventError.NoMemory) ⊎ (answered g logs (Some want.part) c ≡ Err fault))) same h)
 
-    module _ (mid new : List Alone) (x y : Alone) (x_is : x ≡ alone_at ms m) (mid_is : mid ≡ remove ms m)
+    module _ (mid new : List MemberState) (x y : MemberState) (x_is : x ≡ state_at ms m) (mid_is : mid ≡ remove ms m)
         (new_is : new ≡ insert mid m y) where
       pub members_so : {T E : Type 0} (r : Result T E) → OnOk r (y ≡ accepts_claimed g logs f want.part k x)
-          → OnOk r (new ≡ set ms m (after_claimed g logs f (claim_in ms m f) came (alone_at ms m)))
+          → OnOk r (new ≡ set ms m (after_claimed g logs f (claim_in ms m f) came (state_at ms m)))
       members_so r = on_ok_weaker r (λ e.
           put_in ms mid new m y can.there mid_is new_is
           ∙ ap (set ms m) (e ∙ ap (accepts_claimed g logs f want.part k) x_is
-          ∙ ap (λ (c : Came). accepts_claimed g logs f want.part c (alone_at ms m)) same
-          ∙ ap (λ (o : Option Part). after_claimed g logs f o came (alone_at ms m)) (sym claim)))
+          ∙ ap (λ (c : Came). accepts_claimed g logs f want.part c (state_at ms m)) same
+          ∙ ap (λ (o : Option Part). after_claimed g logs f o came (state_at ms m)) (sym claim)))
 
       pub still_so : {T E : Type 0} (r : Result T E) → OnErr r (y ≡ x) → OnErr r (new ≡ ms)
       still_so r = on_err_weaker r (λ e. put_back nobody ms mid new m y can.there mid_is new_is (e ∙ x_is))
 
   -- It isn't refused for want of a claim.
-  pub busy_so : {T : Type 0} (k : Came) (r : Result T EventFault)
-      → IfErr r (λ fault. (fault ≡ EventFault.NoMemory) ⊎ (answered g logs (Some want.part) k ≡ Err fault))
-      → (r ≡ Err EventFault.FetcherIdle → claim_in ms m f ≡ None)
-      × (claim_in ms m f ≡ None → r ≡ Err EventFault.FetcherIdle)
+  pub busy_so : {T : Type 0} (k : Came) (r : Result T EventError)
+      → IfErr r (λ fault. (fault ≡ EventError.NoMemory) ⊎ (answered g logs (Some want.part) k ≡ Err fault))
+      → (r ≡ Err EventError.FetcherIdle → claim_in ms m f ≡ None)
+      × (claim_in ms m f ≡ None → r ≡ Err EventError.FetcherIdle)
   busy_so k r h = (
     λ e. absurd
         (go k (subst
         (λ x. IfErr x (λ fault.
-        (fault ≡ EventFault.NoMemory) ⊎ (answered g logs (Some want.part) k ≡ Err fault))) e h)),
+        (fault ≡ EventError.NoMemory) ⊎ (answered g logs (Some want.part) k ≡ Err fault))) e h)),
     λ none. absurd (claims (sym claim ∙ none)),
   ) where
     claims : Some want.part ≡ None → ⊥
     claims e = cc
 
     go : (k : Came)
-        → (EventFault.FetcherIdle ≡ EventFault.NoMemory)
-        ⊎ (answered g logs (Some want.part) k ≡ Err EventFault.FetcherIdle)
+        → (EventError.FetcherIdle ≡ EventError.NoMemory)
+        ⊎ (answered g logs (Some want.part) k ≡ Err EventError.FetcherIdle)
         → ⊥
     go k (inl memory) = cc
     go Nothing (inr e) = cc
@@ -145,9 +147,10 @@ module _ (g : GroupKeys) (logs : Logs) (f m : ℕ) (ms : List Alone) (can : CanG
   pub came_for_it : (octets : List ℕ) → octets_as g logs want.part octets ≡ came_for g logs octets (claim_in ms m f)
   came_for_it octets = ap (came_for g logs octets) (sym claim)
 
-  pub told_so : {E : Type 0} (octets : List ℕ) (r : Result Fed E) → IfOk r (λ fed. fed ≡ fed_as g logs octets want.part)
+  pub reported_so : {E : Type 0} (octets : List ℕ) (r : Result Fed E)
+      → IfOk r (λ fed. fed ≡ fed_as g logs octets want.part)
       → IfOk r (λ fed. option_map (fed_as g logs octets) (claim_in ms m f) ≡ Some fed)
-  told_so octets r h =
+  reported_so octets r h =
       subst (λ (o : Option Part). IfOk r (λ fed. option_map (fed_as g logs octets) o ≡ Some fed)) (sym claim)
       (go r h) where
         go : {E : Type 0} (r : Result Fed E) → IfOk r (λ fed. fed ≡ fed_as g logs octets want.part)
@@ -156,14 +159,14 @@ module _ (g : GroupKeys) (logs : Logs) (f m : ℕ) (ms : List Alone) (can : CanG
         go (Err x) e = tt
 
   -- They are foreign where they pass and aren't the publisher's.
-  pub foreign_so : {T : Type 0} (octets : List ℕ) (r : Result T EventFault)
+  pub foreign_so : {T : Type 0} (octets : List ℕ) (r : Result T EventError)
       → IfErr r (λ fault.
-      (fault ≡ EventFault.NoMemory) ⊎ ((fault ≡ EventFault.Foreign) × (octets_as g logs want.part octets ≡ Another)))
-      → IfErr r (λ fault. (fault ≡ EventFault.NoMemory)
+      (fault ≡ EventError.NoMemory) ⊎ ((fault ≡ EventError.Foreign) × (octets_as g logs want.part octets ≡ Another)))
+      → IfErr r (λ fault. (fault ≡ EventError.NoMemory)
       ⊎ (answered g logs (Some want.part) (octets_as g logs want.part octets) ≡ Err fault))
   foreign_so octets r h = if_err r h (λ fault k. elim k [
     | inl memory ↦ inl memory
     | inr foreign ↦
         inr (ap (answered g logs (Some want.part)) foreign.1
-        ∙ ap (λ (e : EventFault). let a : Result (Option ℕ) EventFault = Err e in a) (sym foreign.0))
+        ∙ ap (λ (e : EventError). let a : Result (Option ℕ) EventError = Err e in a) (sym foreign.0))
   ])

@@ -14,14 +14,15 @@ use Rattle.group_model.specs.World.{World, no_sync, member, sent_at}
 use Rattle.group_model.specs.Steps.{after_deliver, drawn}
 use Rattle.group_model.specs.Refusals.{Refusal, unless, unless_sent}
 use Rattle.group_model.specs.Changes as group
-use Rattle.repo_member.specs.Alone.{Alone, alone_hears}
+use Rattle.repo_member.specs.MemberState.{MemberState, member_hears}
 use Rattle.repo_member.specs.InGroup.{in_group}
 use Rattle.repo_member.specs.Verdicts.{sync_of}
-use Rattle.repo_member.specs.TrueMembers.{IsTrueMember}
-use Rattle.repo_member.proofs.PublicLaws.{hears_true}
-use Rattle.bench_world.specs.Worlds.{GroupState, IsTrueState, IsTrueSync, in_groups, logs_around, sync_in, world_of}
+use Rattle.repo_member.specs.ConsistentMembers.{IsConsistentMember}
+use Rattle.repo_member.proofs.PublicLaws.{hears_consistent}
+use Rattle.bench_world.specs.Worlds.{GroupState, IsConsistentState, IsConsistentSync, in_groups, logs_around, sync_in}
+use Rattle.bench_world.specs.Worlds.{world_of}
 use Rattle.bench_world.specs.Worlds.{no_packet, drawing}
-use Rattle.bench_world.proofs.States.{many, few_members, truly, number_is, member_is, stepped_at}
+use Rattle.bench_world.proofs.States.{many, few_members, consistent, number_is, member_is, stepped_at}
 
 -- ---- packets by number
 
@@ -95,8 +96,8 @@ module _ (s : GroupState) (k : ℕ) where
       ap (λ (n : ℕ). unless (nat_le 1 k && nat_le k n) Refusal.NoSuchPacket) many_sent
       ∙ ap (λ (b : Bool). unless b Refusal.NoSuchPacket) (nowhere of s.sent k e)
 
-module _ (s : GroupState) (is : IsTrueState s) (k : ℕ) (one : 1 ≤ k) (last : k ≤ length s.sent) where
-  pub sync : IsTrueSync s.keys (logs_around s.members) (get_or s.sent (k - 1) no_packet)
+module _ (s : GroupState) (is : IsConsistentState s) (k : ℕ) (one : 1 ≤ k) (last : k ≤ length s.sent) where
+  pub sync : IsConsistentSync s.keys (logs_around s.members) (get_or s.sent (k - 1) no_packet)
   sync = is.sent (k - 1) no_packet (omega (arith, one, last))
 
   pub sent_is : sent_at (world_of s) k ≡ sync_in (get_or s.sent (k - 1) no_packet)
@@ -108,30 +109,30 @@ module _ (s : GroupState) (is : IsTrueState s) (k : ℕ) (one : 1 ≤ k) (last :
   octets_are = sync.octets ∙ ap (λ (p : SyncInterest). sync_of s.keys p.sender p.vector) (sym sent_is)
 
   -- It has a number for each member.
-  pub few_numbers : (told : List ℕ) → told ≡ (get_or s.sent (k - 1) no_packet).vector → length told ≤ 16
-  few_numbers told same =
+  pub few_numbers : (reported : List ℕ) → reported ≡ (get_or s.sent (k - 1) no_packet).vector → length reported ≤ 16
+  few_numbers reported same =
       let e = ap length same in let w = sync.vector.width in let n = many s is in let few = few_members s is in
       omega (arith, e, w, n, few)
 
-  module _ (m : ℕ) (there : m < length s.members) (old b : Alone) (old_is : old ≡ get_or s.members m old) where
+  module _ (m : ℕ) (there : m < length s.members) (old b : MemberState) (old_is : old ≡ get_or s.members m old) where
     pub fits : length (get_or s.sent (k - 1) no_packet).vector ≡ length old.known
-    fits = sync.vector.width ∙ sym (truly s is m there old old_is).sound.width
+    fits = sync.vector.width ∙ sym (consistent s is m there old old_is).sound.width
 
-    -- It tells of no publication that there isn't.
-    pub no_more : (told : List ℕ) → told ≡ (get_or s.sent (k - 1) no_packet).vector
-        → slice_index told old.number ≤ length old.log
-    no_more told at =
+    -- It reports no publication that there isn't.
+    pub no_more : (reported : List ℕ) → reported ≡ (get_or s.sent (k - 1) no_packet).vector
+        → slice_index reported old.number ≤ length old.log
+    no_more reported at =
         let here = ap (λ (v : List ℕ). slice_index v old.number) at in
         let most = sync.vector.no_more old.number in
         let own : last_of (logs_around s.members) old.number ≡ length old.log =
-        ap length (truly s is m there old old_is).log in
+        ap length (consistent s is m there old old_is).log in
         omega (arith, here, most, own)
 
-    told_is : (sent_at (world_of s) k).vector ≡ (get_or s.sent (k - 1) no_packet).vector
-    told_is = ap (λ (p : SyncInterest). p.vector) sent_is
+    reported_is : (sent_at (world_of s) k).vector ≡ (get_or s.sent (k - 1) no_packet).vector
+    reported_is = ap (λ (p : SyncInterest). p.vector) sent_is
 
     module _ (draws : ℕ → ℕ → ℕ) (draw : ℕ)
-        (e : b ≡ alone_hears (get_or s.sent (k - 1) no_packet).vector s.moment draw old)
+        (e : b ≡ member_hears (get_or s.sent (k - 1) no_packet).vector s.time draw old)
         (d : draw ≡ draws m old.machine.draws) where
       pub heard_world : world_of (record s {
         members = set s.members m b;
@@ -142,36 +143,36 @@ module _ (s : GroupState) (is : IsTrueState s) (k : ℕ) (one : 1 ≤ k) (last :
       heard_world =
           let changed : in_groups (set s.members m b)
           ≡ set (in_groups s.members) m
-          (group.learns (drawn (drawing draws) (world_of s) m) s.moment (sent_at (world_of s) k).vector
+          (group.learns (drawn (drawing draws) (world_of s) m) s.time (sent_at (world_of s) k).vector
           (member (world_of s) m)) =
           map-set in_group s.members m b
           ∙ ap (set (in_groups s.members) m) (ap in_group e
-          ∙ ap (λ (n : ℕ). group.learns n s.moment (get_or s.sent (k - 1) no_packet).vector (in_group old)) d
+          ∙ ap (λ (n : ℕ). group.learns n s.time (get_or s.sent (k - 1) no_packet).vector (in_group old)) d
           ∙ ap
-          (λ (x : Member). group.learns (draws m x.machine.draws) s.moment (get_or s.sent (k - 1) no_packet).vector x)
+          (λ (x : Member). group.learns (draws m x.machine.draws) s.time (get_or s.sent (k - 1) no_packet).vector x)
           (sym (member_is s is m there old old_is))
-          ∙ ap (λ (v : List ℕ). group.learns (drawn (drawing draws) (world_of s) m) s.moment v (member (world_of s) m))
-          (sym told_is)) in
+          ∙ ap (λ (v : List ℕ). group.learns (drawn (drawing draws) (world_of s) m) s.time v (member (world_of s) m))
+          (sym reported_is)) in
           ap (λ (ms : List Member).
           let w : World = record {
             members = ms;
             sent = map sync_in s.sent;
-            moment = s.moment;
+            time = s.time;
             issued = s.issued;
             tally = record s.tally { delivered = s.tally.delivered + 1 };
           } in
           w) changed
 
       pub heard_state : s.steps < 100000
-          → IsTrueState (record s {
+          → IsConsistentState (record s {
             members = set s.members m b;
             tally = record s.tally { delivered = s.tally.delivered + 1 };
             steps = s.steps + 1;
           })
       heard_state few =
           stepped_at s is few (drawing draws) (λ t. omega arith) (Event.Deliver k m) tt m there b
-          (ap (λ (a : Alone). a.number) e ∙ number_is s is m there old old_is)
-          (subst (IsTrueMember s.keys (logs_around s.members)) (sym e)
-          (hears_true s.keys (logs_around s.members) (get_or s.sent (k - 1) no_packet).vector s.moment draw old
-          sync.vector (truly s is m there old old_is)))
-          s.sent s.moment (record s.tally { delivered = s.tally.delivered + 1 }) is.sent heard_world
+          (ap (λ (a : MemberState). a.number) e ∙ number_is s is m there old old_is)
+          (subst (IsConsistentMember s.keys (logs_around s.members)) (sym e)
+          (hears_consistent s.keys (logs_around s.members) (get_or s.sent (k - 1) no_packet).vector s.time draw old
+          sync.vector (consistent s is m there old old_is)))
+          s.sent s.time (record s.tally { delivered = s.tally.delivered + 1 }) is.sent heard_world

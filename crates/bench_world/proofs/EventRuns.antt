@@ -4,12 +4,12 @@ use Rattle.std.proofs.Common.{◌∙◌, subst, arith}
 use Rattle.std.specs.List.{take-map}
 use Rattle.std.proofs.lemmas.List.{length-map, map-append, take_more, take_all, get_or-map}
 use Rattle.group_model.specs.Events as group
-use Rattle.group_model.specs.World.{Outside, World}
+use Rattle.group_model.specs.World.{Environment, World}
 use Rattle.group_model.specs.Steps.{after_event, after_events}
 use Rattle.group_model.specs.Refusals.{Refusal, refusal, NamesThose, EventIsTaken, EventsAreTaken}
 use Rattle.group_model.specs.Sound.{IsSoundGroup}
 use Rattle.group_model.specs.Laws.{NothingHidden, NothingWanted, AllJoined}
-use Rattle.group_model.proofs.PublicLaws.{told_of_all}
+use Rattle.group_model.proofs.PublicLaws.{informed_of_all}
 use Rattle.group_model.proofs.Worlds.{sound_after_all}
 use Rattle.group_model.proofs.Lasting.{lasts}
 use Rattle.repo_member.specs.Groups.{GroupKeys}
@@ -22,17 +22,17 @@ use Rattle.bench_world.specs.Worlds.{GroupState, world_of}
 
 -- ---- lists
 
-after_append : (out : Outside) (w : World) (xs ys : List group.Event)
+after_append : (out : Environment) (w : World) (xs ys : List group.Event)
     → after_events out w (xs ++ ys) ≡ after_events out (after_events out w xs) ys
 after_append out w [] ys = refl
 after_append out w (x ∷ xs) ys = after_append out (after_event out w x) xs ys
 
-taken_append : (out : Outside) (w : World) (xs ys : List group.Event) → EventsAreTaken out w xs
+taken_append : (out : Environment) (w : World) (xs ys : List group.Event) → EventsAreTaken out w xs
     → EventsAreTaken out (after_events out w xs) ys → EventsAreTaken out w (xs ++ ys)
 taken_append out w [] ys a b = b
 taken_append out w (x ∷ xs) ys a b = (a.0, taken_append out (after_event out w x) xs ys a.1 b)
 
-taken_split : (out : Outside) (w : World) (xs ys : List group.Event) → EventsAreTaken out w (xs ++ ys)
+taken_split : (out : Environment) (w : World) (xs ys : List group.Event) → EventsAreTaken out w (xs ++ ys)
     → EventsAreTaken out w xs × EventsAreTaken out (after_events out w xs) ys
 taken_split out w [] ys a = (tt, a)
 taken_split out w (x ∷ xs) ys a = let r = taken_split out (after_event out w x) xs ys a.1 in ((a.0, r.0), r.1)
@@ -68,7 +68,7 @@ named_ready n w g (EventValue.Delete m client name) many r = omega (arith, many,
 named_ready n w g EventValue.Summary many r = tt
 named_ready n w g EventValue.Traffic many r = tt
 
-module _ (out : Outside) (g : GroupKeys) (begun : World) (events : List Event) where
+module _ (out : Environment) (g : GroupKeys) (begun : World) (events : List Event) where
   module _ (i : ℕ) (inside : i < length events) (item : Event) (item_is : item ≡ get_or events i item) (mid new : World)
       (n : ℕ) (many : length mid.members ≡ n) (ready : IsReady n (event_value item))
       (taken : EventsAreTaken out begun (group_events g (event_values (take i events))))
@@ -89,7 +89,7 @@ module _ (out : Outside) (g : GroupKeys) (begun : World) (events : List Event) w
     take_values = ap (group_events g) (take-map event_value i events)
 
     -- The fault of this event is that of the list.
-    pub stopped_here : (out_ : Outside) (begun_ mid_ new_ : GroupState) (fault : StepFault) → out ≡ out_
+    pub stopped_here : (out_ : Environment) (begun_ mid_ new_ : GroupState) (fault : StepFault) → out ≡ out_
         → world_of begun_ ≡ begun → begun_.keys ≡ g → world_of mid_ ≡ mid
         → mid_.steps ≡ begun_.steps + i → mid_.keys ≡ begun_.keys
         → IsStepFaultOf (refusal out mid (group_event g (event_value item))) fault
@@ -101,7 +101,7 @@ module _ (out : Outside) (g : GroupKeys) (begun : World) (events : List Event) w
           let e : group_events begun_.keys (take i (event_values events))
           ≡ group_events g (event_values (take i events)) =
           ap (λ (h : GroupKeys). group_events h (take i (event_values events))) keys_are ∙ take_values in
-          subst (λ (o : Outside).
+          subst (λ (o : Environment).
           EventsAreTaken o (world_of begun_) (group_events begun_.keys (take i (event_values events)))) out_is
           (subst (λ (w : World). EventsAreTaken out w (group_events begun_.keys (take i (event_values events))))
           (sym begun_is) (subst (EventsAreTaken out begun) (sym e) taken));
@@ -167,6 +167,7 @@ module _ (out : Outside) (g : GroupKeys) (begun : World) (events : List Event) w
         let last_is : last ≡ after_events out (after_events out begun first) later =
         all_world ∙ ap (after_events out begun) e ∙ after_append out begun first later in
         subst AllJoined (sym last_is)
-        (told_of_all out (after_events out begun first) (sound_after_all out first begun split.0 sound) later split.1
+        (informed_of_all out (after_events out begun first) (sound_after_all out first begun split.0 sound) later
+        split.1
         tells
         (subst NothingHidden last_is hidden) (subst NothingWanted last_is wanted))

@@ -16,22 +16,22 @@ use Rattle.repo_object.specs.Objects.{contents_of}
 use Rattle.group_model.specs.Publications.{Logs, no_post, published}
 use Rattle.group_model.specs.Member.{Member, tries_of}
 use Rattle.group_model.specs.Events.{SyncInterest, Event}
-use Rattle.group_model.specs.World.{Tally, World, Outside, no_member, member}
+use Rattle.group_model.specs.World.{Tally, World, Environment, no_member, member}
 use Rattle.group_model.specs.Laws.{NothingHidden, AllJoined}
 use Rattle.group_model.specs.Limits.{IsWithinSteps, IsMemberWithin, FitsIn64Bits}
 use Rattle.group_model.specs.Sound.{IsSoundGroup}
 use Rattle.group_model.specs.Steps.{settle_gains, settled_member, syncs_of, after_gathering, fetched_parts}
 use Rattle.group_model.specs.Steps.{attempts_made, after_fetch}
 use Rattle.group_model.proofs.PublicLaws.{gathering_joins, gathering_within, more_within, tallies_fit}
-use Rattle.repo_member.specs.Alone.{Alone}
+use Rattle.repo_member.specs.MemberState.{MemberState}
 use Rattle.repo_member.specs.InGroup.{in_group}
-use Rattle.bench_world.specs.declared.telling.MemberSync.{MemberSync}
-use Rattle.bench_world.specs.Serving.{outside, keyed}
-use Rattle.bench_world.specs.Settling.{told_of, gain_sum, ArePartlySettled, IsPartlySettled}
+use Rattle.bench_world.specs.declared.sync_exchange.MemberSync.{MemberSync}
+use Rattle.bench_world.specs.Serving.{environment, keyed}
+use Rattle.bench_world.specs.Settling.{reported_of, gain_sum, ArePartlySettled, IsPartlySettled}
 use Rattle.bench_world.specs.Sizes.{size_of}
 use Rattle.bench_world.specs.Runs.{HaveSettledPart}
-use Rattle.bench_world.specs.Worlds.{GroupState, IsTrueState, IsTrueSync, alone_at, in_groups, logs_around}
-use Rattle.bench_world.specs.Worlds.{AllCountsStay, MembersAreNumbered, AreTrueMembers, sync_in, tells, world_of}
+use Rattle.bench_world.specs.Worlds.{GroupState, IsConsistentState, IsConsistentSync, state_at, in_groups, logs_around}
+use Rattle.bench_world.specs.Worlds.{AllCountsStay, MembersAreNumbered, AreConsistentMembers, sync_in, tells, world_of}
 use Rattle.bench_world.specs.Worlds.{only_members}
 use Rattle.bench_world.proofs.States.{many, few_here, member_at, member_within, logs_are, sound_state, changed_state}
 use Rattle.bench_world.proofs.States.{within_more, stepped}
@@ -41,10 +41,10 @@ use Rattle.bench_world.proofs.Readers.{counted_state}
 
 -- ---- a fetch
 
-module _ (s : GroupState) (is : IsTrueState s) (few : s.steps < 100000) (passes : ℕ → ℕ → ℕ → ℕ → ℕ → ℕ → Bool)
+module _ (s : GroupState) (is : IsConsistentState s) (few : s.steps < 100000) (passes : ℕ → ℕ → ℕ → ℕ → ℕ → ℕ → Bool)
     (m tries loss : ℕ) (most : tries ≤ 16) where
-  abbrev out : Outside
-  out = outside s.keys (λ _ _. 0) passes
+  abbrev out : Environment
+  out = environment s.keys (λ _ _. 0) passes
 
   fetch_within : IsWithinSteps (s.steps + 1) (after_fetch out (world_of s) m tries loss)
   fetch_within =
@@ -72,7 +72,7 @@ module _ (s : GroupState) (is : IsTrueState s) (few : s.steps < 100000) (passes 
         fits.octets in
         (omega (arith, a, attempts_is), omega (arith, p, parts_is), omega (arith, o, octets_is))
 
-    module _ (new : List Alone)
+    module _ (new : List MemberState)
         (new_is : in_groups new ≡ (after_fetch out (only_members s.members) m tries loss).members) where
       abbrev fetched : Tally
       fetched = record s.tally {
@@ -93,39 +93,45 @@ module _ (s : GroupState) (is : IsTrueState s) (few : s.steps < 100000) (passes 
       }
 
       pub fetch_state : length new ≡ length s.members → MembersAreNumbered new
-          → AreTrueMembers s.keys (logs_around s.members) new
-          → IsTrueState (record s { members = new; tally = fetched; steps = s.steps + 1 })
-      fetch_state len numbers truly =
+          → AreConsistentMembers s.keys (logs_around s.members) new
+          → IsConsistentState (record s { members = new; tally = fetched; steps = s.steps + 1 })
+      fetch_state len numbers consistent =
           stepped s is few out (λ t. size_short s.keys (logs_around s.members) is.are t) (Event.Fetch m tries loss)
-          most new s.sent s.moment fetched len numbers truly is.sent fetch_world
+          most new s.sent s.time fetched len numbers consistent is.sent fetch_world
 
 -- ---- a settle
 
-module _ (s : GroupState) (is : IsTrueState s) where
-  told_syncs : (j : ℕ) (members : List Alone) → ((i : ℕ) → i < length members → (alone_at members i).number ≡ j + i)
+module _ (s : GroupState) (is : IsConsistentState s) where
+  reported_syncs : (j : ℕ) (members : List MemberState)
+      → ((i : ℕ) → i < length members → (state_at members i).number ≡ j + i)
       → map sync_in (map (tells s.keys) members) ≡ syncs_of j (in_groups members)
-  told_syncs j [] numbers = refl
-  told_syncs j (a ∷ members) numbers =
+  reported_syncs j [] numbers = refl
+  reported_syncs j (a ∷ members) numbers =
       let first : a.number ≡ j = numbers 0 (omega arith) ∙ none j in
       let rest : map sync_in (map (tells s.keys) members) ≡ syncs_of (j + 1) (in_groups members) =
-      told_syncs (j + 1) members (λ i l.
-      let e : (alone_at members i).number ≡ j + suc i = numbers (suc i) (omega (arith, l)) in omega (arith, e)) in
+      reported_syncs (j + 1) members (λ i l.
+      let e : (state_at members i).number ≡ j + suc i = numbers (suc i) (omega (arith, l)) in omega (arith, e)) in
       λ k. record { sender = first k; vector = a.known } ∷ rest k where
         none : (n : ℕ) → n + 0 ≡ n
         none n = omega arith
 
-  told_truly : (members : List Alone)
-      → ((i : ℕ) → i < length members → (alone_at members i).number < length s.keys.members.names)
-      → AreTrueMembers s.keys (logs_around s.members) members
-      → All (IsTrueSync s.keys (logs_around s.members)) (map (tells s.keys) members)
-  told_truly [] numbers truly k d l = absurd (omega (arith, l))
-  told_truly (a ∷ members) numbers truly zero d l = record {
+  reported_consistently : (members : List MemberState)
+      → ((i : ℕ) → i < length members → (state_at members i).number < length s.keys.members.names)
+      → AreConsistentMembers s.keys (logs_around s.members) members
+      → All (IsConsistentSync s.keys (logs_around s.members)) (map (tells s.keys) members)
+  reported_consistently [] numbers consistent k d l = absurd (omega (arith, l))
+  reported_consistently (a ∷ members) numbers consistent zero d l = record {
     sender = numbers 0 (omega arith);
-    vector = record { width = (truly 0 (omega arith)).sound.width; no_more = (truly 0 (omega arith)).sound.known };
+    vector = record {
+      width = (consistent 0 (omega arith)).sound.width;
+      no_more =
+          (consistent 0 (omega arith)).sound.known;
+    };
     octets = refl;
   }
-  told_truly (a ∷ members) numbers truly (suc k) d l =
-      told_truly members (λ i h. numbers (suc i) (omega (arith, h))) (λ i h. truly (suc i) (omega (arith, h))) k d
+  reported_consistently (a ∷ members) numbers consistent (suc k) d l =
+      reported_consistently members (λ i h. numbers (suc i) (omega (arith, h)))
+      (λ i h. consistent (suc i) (omega (arith, h))) k d
       (omega (arith, l))
 
   pub sound_only : IsSoundGroup (only_members s.members)
@@ -133,8 +139,8 @@ module _ (s : GroupState) (is : IsTrueState s) where
 
   -- ---- where memory was wanting
 
-  still_processes : (mid : List Alone) → ArePartlySettled (only_members s.members) (in_groups mid) → (j : ℕ)
-      → (in_group (alone_at mid j)).processes ≡ (in_group (alone_at s.members j)).processes
+  still_processes : (mid : List MemberState) → ArePartlySettled (only_members s.members) (in_groups mid) → (j : ℕ)
+      → (in_group (state_at mid j)).processes ≡ (in_group (state_at s.members j)).processes
   still_processes mid p j = elim (cases_lt j (length (in_groups s.members))) [
     | inl inside ↦
         ap (λ (x : Member). x.processes) (sym (member_at mid j))
@@ -147,15 +153,15 @@ module _ (s : GroupState) (is : IsTrueState s) where
         ∙ sym (get_or_past (in_groups s.members) j no_member past) ∙ member_at s.members j)
   ]
 
-  still_within : (mid : List Alone) (steps : ℕ) → s.steps ≤ steps → length mid ≡ length s.members
-      → MembersAreNumbered mid → AreTrueMembers s.keys (logs_around s.members) mid → AllCountsStay s.members mid
+  still_within : (mid : List MemberState) (steps : ℕ) → s.steps ≤ steps → length mid ≡ length s.members
+      → MembersAreNumbered mid → AreConsistentMembers s.keys (logs_around s.members) mid → AllCountsStay s.members mid
       → ArePartlySettled (only_members s.members) (in_groups mid)
       → IsWithinSteps s.steps (world_of (record s { members = mid; steps = steps }))
-  still_within mid steps more len numbers truly counts p =
+  still_within mid steps more len numbers consistent counts p =
       let same : logs_around mid ≡ logs_around s.members =
-      logs_are s.keys (logs_around s.members) mid (len ∙ many s is) numbers truly in
+      logs_are s.keys (logs_around s.members) mid (len ∙ many s is) numbers consistent in
       record {
-        moment = is.within.moment;
+        time = is.within.time;
         sent = is.within.sent;
         published = subst (λ (ls : Logs). length (published ls) ≤ s.steps) (sym same) is.within.published;
         segments =
@@ -163,13 +169,13 @@ module _ (s : GroupState) (is : IsTrueState s) where
             (sym same) is.within.segments;
         members = λ j. subst (IsMemberWithin s.steps) (sym (member_at mid j)) (record {
           draws =
-              let a : (alone_at s.members j).machine.draws ≤ s.steps + 1 = (member_within s is j).draws in
-              let e : (alone_at mid j).machine.draws ≡ (alone_at s.members j).machine.draws =
+              let a : (state_at s.members j).machine.draws ≤ s.steps + 1 = (member_within s is j).draws in
+              let e : (state_at mid j).machine.draws ≡ (state_at s.members j).machine.draws =
               ap (λ (k : Keeper). k.draws) (counts j).machine in
               omega (arith, a, e);
           tried = λ t.
-              let a : tries_of (alone_at s.members j).attempts t ≤ s.steps * 16 = (member_within s is j).tried t in
-              let e : tries_of (alone_at mid j).attempts t ≡ tries_of (alone_at s.members j).attempts t =
+              let a : tries_of (state_at s.members j).attempts t ≤ s.steps * 16 = (member_within s is j).tried t in
+              let e : tries_of (state_at mid j).attempts t ≡ tries_of (state_at s.members j).attempts t =
               ap (λ (xs : List (Part × ℕ)). tries_of xs t) (counts j).attempts in
               omega (arith, a, e);
           blocks =
@@ -182,21 +188,21 @@ module _ (s : GroupState) (is : IsTrueState s) where
 
   module _ (few : s.steps < 100000) where
     -- A settle that wanted memory leaves the world sound.
-    pub failed_state : (mid : List Alone) → length mid ≡ length s.members → MembersAreNumbered mid
-        → AreTrueMembers s.keys (logs_around s.members) mid → AllCountsStay s.members mid
+    pub failed_state : (mid : List MemberState) → length mid ≡ length s.members → MembersAreNumbered mid
+        → AreConsistentMembers s.keys (logs_around s.members) mid → AllCountsStay s.members mid
         → ArePartlySettled (only_members s.members) (in_groups mid)
-        → IsTrueState (record s { members = mid; steps = s.steps + 1 })
-    failed_state mid len numbers truly counts p =
-        changed_state s is mid s.sent s.moment s.tally (s.steps + 1) len numbers truly is.sent (omega arith)
+        → IsConsistentState (record s { members = mid; steps = s.steps + 1 })
+    failed_state mid len numbers consistent counts p =
+        changed_state s is mid s.sent s.time s.tally (s.steps + 1) len numbers consistent is.sent (omega arith)
         (omega (arith, few))
         (more_within s.steps (s.steps + 1) (world_of (record s { members = mid; steps = s.steps + 1 })) (omega arith)
-        (still_within mid (s.steps + 1) (omega arith) len numbers truly counts p))
+        (still_within mid (s.steps + 1) (omega arith) len numbers consistent counts p))
 
-    pub partly : (mid : List Alone) → length mid ≡ length s.members → MembersAreNumbered mid
-        → AreTrueMembers s.keys (logs_around s.members) mid → AllCountsStay s.members mid
+    pub partly : (mid : List MemberState) → length mid ≡ length s.members → MembersAreNumbered mid
+        → AreConsistentMembers s.keys (logs_around s.members) mid → AllCountsStay s.members mid
         → ArePartlySettled (only_members s.members) (in_groups mid)
         → HaveSettledPart s (record s { members = mid; steps = s.steps + 1 })
-    partly mid len numbers truly counts p = record {
+    partly mid len numbers consistent counts p = record {
       same = refl;
       members = record {
         len = p.len;
@@ -220,7 +226,7 @@ module _ (s : GroupState) (is : IsTrueState s) where
             };
       };
       begun = is;
-      truly = failed_state mid len numbers truly counts p;
+      consistent = failed_state mid len numbers consistent counts p;
     }
 
     -- Nothing has been settled yet.
@@ -229,15 +235,16 @@ module _ (s : GroupState) (is : IsTrueState s) where
       same = refl;
       members = partly_none s.keys (world_of s) is.are (sound_state s is) s.members refl is.members;
       begun = is;
-      truly = counted_state s is few;
+      consistent = counted_state s is few;
     }
 
     -- ---- where it succeeds
 
-    module _ (mid : List Alone)
+    module _ (mid : List MemberState)
         (mid_is : in_groups mid ≡ map (settled_member (only_members s.members)) (in_groups s.members))
-        (sent : List SentPacket) (told : List MemberSync)
-        (sent_is : sent ≡ s.sent ++ map told_of told) (told_is : map told_of told ≡ map (tells s.keys) s.members)
+        (sent : List SentPacket) (reported : List MemberSync)
+        (sent_is : sent ≡ s.sent ++ map reported_of reported)
+        (reported_is : map reported_of reported ≡ map (tells s.keys) s.members)
         (count less parts octets : ℕ) (count_is : count ≡ length mid) (less_is : less ≡ count - 1)
         (parts_is : parts ≡ settle_gains (only_members s.members))
         (octets_is : octets
@@ -251,20 +258,20 @@ module _ (s : GroupState) (is : IsTrueState s) where
 
       syncs : map sync_in sent ≡ map sync_in s.sent ++ syncs_of 0 (in_groups s.members)
       syncs =
-          ap (map sync_in) sent_is ∙ map-append sync_in s.sent (map told_of told)
-          ∙ ap (λ (ps : List SentPacket). map sync_in s.sent ++ map sync_in ps) told_is
+          ap (map sync_in) sent_is ∙ map-append sync_in s.sent (map reported_of reported)
+          ∙ ap (λ (ps : List SentPacket). map sync_in s.sent ++ map sync_in ps) reported_is
           ∙ ap (λ (ss : List SyncInterest). map sync_in s.sent ++ ss)
-          (told_syncs 0 s.members (λ i l. is.numbers i l ∙ first i)) where
+          (reported_syncs 0 s.members (λ i l. is.numbers i l ∙ first i)) where
             first : (n : ℕ) → n ≡ 0 + n
             first n = omega arith
 
-      all_true : All (IsTrueSync s.keys (logs_around s.members)) sent
-      all_true =
-          subst (All (IsTrueSync s.keys (logs_around s.members)))
-          (sym (sent_is ∙ ap (λ (ps : List SentPacket). s.sent ++ ps) told_is))
-          (All-append (IsTrueSync s.keys (logs_around s.members)) s.sent (map (tells s.keys) s.members) is.sent
-          (told_truly s.members (λ i l.
-          let n : (alone_at s.members i).number ≡ i = is.numbers i l in
+      all_consistent : All (IsConsistentSync s.keys (logs_around s.members)) sent
+      all_consistent =
+          subst (All (IsConsistentSync s.keys (logs_around s.members)))
+          (sym (sent_is ∙ ap (λ (ps : List SentPacket). s.sent ++ ps) reported_is))
+          (All-append (IsConsistentSync s.keys (logs_around s.members)) s.sent (map (tells s.keys) s.members) is.sent
+          (reported_consistently s.members (λ i l.
+          let n : (state_at s.members i).number ≡ i = is.numbers i l in
           let w = is.are.width in let k = many s is in omega (arith, n, l, w, k)) is.members))
 
       pub settle_world : world_of (record s { members = mid; sent = sent; tally = settled; steps = s.steps + 1 })
@@ -302,10 +309,10 @@ module _ (s : GroupState) (is : IsTrueState s) where
           (gathering_joins (keyed s.keys) (world_of s) (sound_state s is))
 
       pub settle_state : length mid ≡ length s.members → MembersAreNumbered mid
-          → AreTrueMembers s.keys (logs_around s.members) mid
-          → IsTrueState (record s { members = mid; sent = sent; tally = settled; steps = s.steps + 1 })
-      settle_state len numbers truly =
-          changed_state s is mid sent s.moment settled (s.steps + 1) len numbers truly all_true (omega arith)
+          → AreConsistentMembers s.keys (logs_around s.members) mid
+          → IsConsistentState (record s { members = mid; sent = sent; tally = settled; steps = s.steps + 1 })
+      settle_state len numbers consistent =
+          changed_state s is mid sent s.time settled (s.steps + 1) len numbers consistent all_consistent (omega arith)
           (omega (arith, few)) settle_within
 
       pub settle_fits : (count * less < 2 ^ 64)

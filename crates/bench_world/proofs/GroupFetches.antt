@@ -13,36 +13,37 @@ use Rattle.sorted_lists.specs.Range.{numbers_from}
 use Rattle.repo_plan.specs.Parts.{part_cmp}
 use Rattle.repo_plan.specs.Plan.{unclaimed, attempts_of}
 use Rattle.sorted_lists.proofs.Sets.{In, from_map}
-use Rattle.repo_plan.proofs.Scans.{behind_none}
+use Rattle.repo_plan.proofs.Scans.{after_none}
 use Rattle.group_model.specs.Member.{Member}
 use Rattle.group_model.specs.Events.{Event}
-use Rattle.group_model.specs.World.{World, Outside, no_member, member, logs, someone_holds}
+use Rattle.group_model.specs.World.{World, Environment, no_member, member, logs, someone_holds}
 use Rattle.group_model.specs.Steps.{others_of, planned_parts, attempt, fetched_parts, attempts_for, attempts_made}
 use Rattle.group_model.specs.Steps.{fetches, after_fetch, after_event}
 use Rattle.repo_member.specs.Groups.{GroupKeys}
 use Rattle.repo_holdings.specs.HoldingsState.{HoldingsState, held_plan}
 use Rattle.repo_holdings.specs.Taking.{Fetched}
-use Rattle.repo_member.specs.Alone.{Alone, alone_holdings, alone_plan, alone_takes}
+use Rattle.repo_member.specs.MemberState.{MemberState, member_holdings, member_plan, member_takes}
 use Rattle.repo_member.specs.InGroup.{in_group, AreLogs, asked_for, that_came, AreTries}
-use Rattle.repo_member.specs.InEvents.{IsMemberOf, IsTrueIn, IsOutcomeIn}
-use Rattle.repo_member.specs.TrueMembers.{IsTrueMember}
-use Rattle.repo_member.specs.TrueChanges.{IsTrueArrival}
-use Rattle.repo_member.proofs.PublicLaws.{open_parts_alike, fetch_is_event, true_stores, true_is_alone, takes_true}
+use Rattle.repo_member.specs.InEvents.{IsMemberOf, IsConsistentIn, IsOutcomeIn}
+use Rattle.repo_member.specs.ConsistentMembers.{IsConsistentMember}
+use Rattle.repo_member.specs.ConsistentChanges.{IsConsistentArrival}
+use Rattle.repo_member.proofs.PublicLaws.{open_parts_alike, fetch_is_event, consistent_stores}
+use Rattle.repo_member.proofs.PublicLaws.{consistent_is_member_state, takes_consistent}
 use Rattle.bench_world.specs.Lending.{lent, lends, attempt_comes}
 use Rattle.bench_world.specs.Gathering.{next_parts}
 use Rattle.bench_world.specs.Fetching.{attempt_at, fetched_one, fetched_all}
-use Rattle.bench_world.specs.Serving.{outside}
+use Rattle.bench_world.specs.Serving.{environment}
 use Rattle.bench_world.specs.Truth.{stores}
-use Rattle.bench_world.specs.Worlds.{nobody, alone_at, others_than, in_groups, AreTrueMembers, MembersAreNumbered}
-use Rattle.bench_world.proofs.PhaseOutcomes.{lends_true}
+use Rattle.bench_world.specs.Worlds.{nobody, state_at, others_than, in_groups, AreConsistentMembers, MembersAreNumbered}
+use Rattle.bench_world.proofs.PhaseOutcomes.{lends_consistent}
 use Rattle.bench_world.proofs.MemberGathering.{lends_held}
 use Rattle.bench_world.proofs.AllGathering.{member_of}
 use Rattle.bench_world.proofs.NextParts.{all_from_in, next_unclaimed}
 use Rattle.bench_world.proofs.Phases.{from_packet}
-use Rattle.bench_world.proofs.TrueOthers.{others_true}
+use Rattle.bench_world.proofs.ConsistentOthers.{others_consistent}
 use Rattle.bench_world.proofs.TakenOut.{put_in, put_back}
 
-module _ (passes : Part → ℕ → Bool) (others : List Alone) (tries : ℕ) (held : HoldingsState) where
+module _ (passes : Part → ℕ → Bool) (others : List MemberState) (tries : ℕ) (held : HoldingsState) where
   pub asked_same : (ts : List Part) → asked_for (fetched_all passes others tries held ts) ≡ ts
   asked_same [] = refl
   asked_same (t ∷ ts) = ap (λ (us : List Part). t ∷ us) (asked_same ts)
@@ -104,7 +105,7 @@ module _ (passes : Part → ℕ → Bool) (others : List Alone) (tries : ℕ) (h
 -- ---- all but one member
 
 -- Someone holds a part among all but one as where that one is nobody.
-pub removed : (members : List Alone) (j : ℕ) (t : Part)
+pub removed : (members : List MemberState) (j : ℕ) (t : Part)
     → someone_holds (in_groups (others_than j members)) t ≡ someone_holds (set (in_groups members) j no_member) t
 removed [] zero t = refl
 removed [] (suc j) t = refl
@@ -123,47 +124,52 @@ tried_sum f (x ∷ xs) all =
     one ∙ (λ i. head i + rest i) ∙ sym two
 
 -- What comes of the parts that a member asks these for.
-abbrev pub fetched_of : (ℕ → ℕ → ℕ → ℕ → ℕ → ℕ → Bool) → (j tries loss : ℕ) → List Alone → Alone → List Fetched
+abbrev pub fetched_of : (ℕ → ℕ → ℕ → ℕ → ℕ → ℕ → Bool) → (j tries loss : ℕ) → List MemberState → MemberState
+    → List Fetched
 fetched_of passes j tries loss lent a =
-    fetched_all (attempt_comes passes j (Some loss)) lent tries (alone_holdings a) (next_parts None (alone_holdings a))
+    fetched_all (attempt_comes passes j (Some loss)) lent tries (member_holdings a)
+    (next_parts None (member_holdings a))
 
 -- Where the member of a number takes what came of the others, all are as after the event; else they are as before.
 pub record HasFetchedAt (passes : ℕ → ℕ → ℕ → ℕ → ℕ → ℕ → Bool) (draw : ℕ → ℕ → ℕ) (g : GroupKeys) (w : World)
-    (members : List Alone) (j tries loss : ℕ) (lent new : List Alone) (old left : Alone) : Type 0 where
-  pub after : left ≡ alone_takes (fetched_of passes j tries loss lent old) old
-      → in_groups new ≡ (after_fetch (outside g draw passes) w j tries loss).members
-  pub truly : left ≡ alone_takes (fetched_of passes j tries loss lent old) old → AreTrueMembers g (logs w) new
-  pub numbers : left ≡ alone_takes (fetched_of passes j tries loss lent old) old → MembersAreNumbered new
-  pub planned : length (next_parts None (alone_holdings old)) ≡ length (planned_parts w j)
-  pub came : that_came (fetched_of passes j tries loss lent old) ≡ fetched_parts (outside g draw passes) w j tries loss
+    (members : List MemberState) (j tries loss : ℕ) (lent new : List MemberState) (old left : MemberState) : Type
+    0 where
+  pub after : left ≡ member_takes (fetched_of passes j tries loss lent old) old
+      → in_groups new ≡ (after_fetch (environment g draw passes) w j tries loss).members
+  pub consistent : left ≡ member_takes (fetched_of passes j tries loss lent old) old
+      → AreConsistentMembers g (logs w) new
+  pub numbers : left ≡ member_takes (fetched_of passes j tries loss lent old) old → MembersAreNumbered new
+  pub planned : length (next_parts None (member_holdings old)) ≡ length (planned_parts w j)
+  pub came : that_came (fetched_of passes j tries loss lent old)
+      ≡ fetched_parts (environment g draw passes) w j tries loss
   pub attempts : sum (map (λ (x : Fetched). x.attempts) (fetched_of passes j tries loss lent old))
-      ≡ attempts_made (outside g draw passes) w j tries loss
+      ≡ attempts_made (environment g draw passes) w j tries loss
   pub len : length new ≡ length members
   pub same : left ≡ old → new ≡ members
 
 module _ (passes : ℕ → ℕ → ℕ → ℕ → ℕ → ℕ → Bool) (draw : ℕ → ℕ → ℕ) (g : GroupKeys) (w : World)
-    (are : AreLogs g (logs w)) (members : List Alone) (begun : in_groups members ≡ w.members)
-    (numbers : MembersAreNumbered members) (truly : AreTrueMembers g (logs w) members)
+    (are : AreLogs g (logs w)) (members : List MemberState) (begun : in_groups members ≡ w.members)
+    (numbers : MembersAreNumbered members) (consistent : AreConsistentMembers g (logs w) members)
     (j : ℕ) (there : j < length members) (tries loss : ℕ) where
-  abbrev pub out : Outside
-  out = outside g draw passes
+  abbrev pub out : Environment
+  out = environment g draw passes
 
   abbrev pub way : Part → ℕ → Bool
   way = attempt_comes passes j (Some loss)
 
-  abbrev pub others : List Alone
+  abbrev pub others : List MemberState
   others = others_than j members
 
-  abbrev pub here : Alone
-  here = alone_at members j
+  abbrev pub here : MemberState
+  here = state_at members j
 
   abbrev pub holdings : HoldingsState
-  holdings = alone_holdings (alone_at members j)
+  holdings = member_holdings (state_at members j)
 
   abbrev pub fetched : List Fetched
   fetched =
       fetched_all (attempt_comes passes j (Some loss)) (others_than j members) tries
-      (alone_holdings (alone_at members j)) (next_parts None (alone_holdings (alone_at members j)))
+      (member_holdings (state_at members j)) (next_parts None (member_holdings (state_at members j)))
 
   member_is : member w j ≡ in_group here
   member_is = ap (λ (ms : List Member). get_or ms j no_member) (sym begun) ∙ member_of members j there
@@ -177,8 +183,8 @@ module _ (passes : ℕ → ℕ → ℕ → ℕ → ℕ → ℕ → Bool) (draw :
     same = member_is;
   }
 
-  is_true : IsTrueIn g w here
-  is_true = record { published = are; stores = true_stores g (logs w) here (truly j there) }
+  is_true : IsConsistentIn g w here
+  is_true = record { published = are; stores = consistent_stores g (logs w) here (consistent j there) }
 
   lends_same : (t : Part) → lends others t ≡ someone_holds (others_of w j) t
   lends_same t =
@@ -196,7 +202,7 @@ module _ (passes : ℕ → ℕ → ℕ → ℕ → ℕ → ℕ → Bool) (draw :
 
   planned_same : next_parts None holdings ≡ planned_parts w j
   planned_same =
-      ap (take 4096) (behind_none (unclaimed (alone_plan here)) ∙ sym (open_parts_alike w j g here is_member is_true))
+      ap (take 4096) (after_none (unclaimed (member_plan here)) ∙ sym (open_parts_alike w j g here is_member is_true))
 
   planned_are : length (next_parts None holdings) ≡ length (planned_parts w j)
   planned_are = ap length planned_same
@@ -226,96 +232,100 @@ module _ (passes : ℕ → ℕ → ℕ → ℕ → ℕ → ℕ → Bool) (draw :
       ∙ ap (sum_by (attempts_for out w j tries loss)) outcome.asked
 
   -- The member afterwards is what the event makes of it.
-  fetched_in : member (after_event out w (Event.Fetch j tries loss)) j ≡ in_group (alone_takes fetched here)
+  fetched_in : member (after_event out w (Event.Fetch j tries loss)) j ≡ in_group (member_takes fetched here)
   fetched_in =
-      fetch_is_event out w j tries loss fetched here is_member (true_is_alone g (logs w) here (truly j there)).in_order
+      fetch_is_event out w j tries loss fetched here is_member
+      (consistent_is_member_state g (logs w) here (consistent j there)).in_order
       outcome
 
-  fetched_member : in_group (alone_takes fetched here) ≡ fetches out w j tries loss (member w j)
+  fetched_member : in_group (member_takes fetched here) ≡ fetches out w j tries loss (member w j)
   fetched_member =
       sym fetched_in ∙ get_or-set_same w.members j (fetches out w j tries loss (member w j)) no_member is_member.there
 
-  fetched_truly : IsTrueMember g (logs w) (alone_takes fetched here)
-  fetched_truly =
-      takes_true g (logs w) fetched here are
-      (all_from_in (λ (x : Fetched). IfSome x.packet (IsTrueArrival g (logs w) here x.part)) fetched
-      (λ x i. one x i x.packet refl)) (truly j there) where
+  fetched_consistently : IsConsistentMember g (logs w) (member_takes fetched here)
+  fetched_consistently =
+      takes_consistent g (logs w) fetched here are
+      (all_from_in (λ (x : Fetched). IfSome x.packet (IsConsistentArrival g (logs w) here x.part)) fetched
+      (λ x i. one x i x.packet refl)) (consistent j there) where
         one : (x : Fetched) → In x fetched → (o : Option (List ℕ)) → x.packet ≡ o
-            → IfSome o (IsTrueArrival g (logs w) here x.part)
+            → IfSome o (IsConsistentArrival g (logs w) here x.part)
         one x i None e = tt
         one x i (Some octets) e =
             let r = from_map (fetched_one way others tries holdings) (next_parts None holdings) x i in
-            subst (λ (t : Part). IsTrueArrival g (logs w) here t octets) (sym (ap (λ (y : Fetched). y.part) r.2))
+            subst (λ (t : Part). IsConsistentArrival g (logs w) here t octets) (sym (ap (λ (y : Fetched). y.part) r.2))
             (record {
               unclaimed = next_unclaimed holdings None r.0 r.1;
-              packet = lends_true g (logs w) others (others_true g (logs w) members others j truly refl) r.0 octets
+              packet = lends_consistent g (logs w) others
+                  (others_consistent g (logs w) members others j consistent refl) r.0 octets
                   (from_packet (is_some (attempt_at way others tries holdings r.0)) (lent others r.0) octets
                   (sym (ap (λ (y : Fetched). y.packet) r.2) ∙ e));
             })
 
-  module _ (new : List Alone) (new_is : new ≡ set members j (alone_takes fetched here)) where
+  module _ (new : List MemberState) (new_is : new ≡ set members j (member_takes fetched here)) where
     members_are : in_groups new ≡ (after_fetch out w j tries loss).members
     members_are =
         ap in_groups new_is
-        ∙ map-set in_group members j (alone_takes fetched here)
+        ∙ map-set in_group members j (member_takes fetched here)
         ∙ (λ i. set (begun i) j (fetched_member i))
 
     new_len : length new ≡ length members
     new_len = ap length new_is ∙ length-set members j _
 
-    taker_number : (xs : List Fetched) (a : Alone) → (alone_takes xs a).number ≡ a.number
+    taker_number : (xs : List Fetched) (a : MemberState) → (member_takes xs a).number ≡ a.number
     taker_number [] a = refl
     taker_number (x ∷ xs) a = taker_number xs _
 
-    at_here : alone_at new j ≡ alone_takes fetched here
-    at_here = ap (λ (ms : List Alone). alone_at ms j) new_is ∙ get_or-set_same members j _ nobody there
+    at_here : state_at new j ≡ member_takes fetched here
+    at_here = ap (λ (ms : List MemberState). state_at ms j) new_is ∙ get_or-set_same members j _ nobody there
 
-    elsewhere : (i : ℕ) → (i ≡ j → ⊥) → alone_at new i ≡ alone_at members i
-    elsewhere i other = ap (λ (ms : List Alone). alone_at ms i) new_is ∙ get_or-set_other members j i _ nobody other
+    elsewhere : (i : ℕ) → (i ≡ j → ⊥) → state_at new i ≡ state_at members i
+    elsewhere i other = ap (λ (ms : List MemberState). state_at ms i) new_is
+        ∙ get_or-set_other members j i _ nobody other
 
-    fetched_all_truly : AreTrueMembers g (logs w) new
-    fetched_all_truly i l = elim (cases_eq i j) [
+    fetched_all_consistently : AreConsistentMembers g (logs w) new
+    fetched_all_consistently i l = elim (cases_eq i j) [
       | inl same ↦
-          subst (λ (k : ℕ). IsTrueMember g (logs w) (alone_at new k)) (sym same)
-          (subst (IsTrueMember g (logs w)) (sym at_here) fetched_truly)
-      | inr other ↦ subst (IsTrueMember g (logs w)) (sym (elsewhere i other)) (truly i (omega (arith, l, new_len)))
+          subst (λ (k : ℕ). IsConsistentMember g (logs w) (state_at new k)) (sym same)
+          (subst (IsConsistentMember g (logs w)) (sym at_here) fetched_consistently)
+      | inr other ↦ subst (IsConsistentMember g (logs w)) (sym (elsewhere i other))
+          (consistent i (omega (arith, l, new_len)))
     ]
 
     fetched_numbers : MembersAreNumbered new
     fetched_numbers i l = elim (cases_eq i j) [
       | inl same ↦
-          ap (λ (k : ℕ). (alone_at new k).number) same
-          ∙ ap (λ (a : Alone). a.number) at_here
+          ap (λ (k : ℕ). (state_at new k).number) same
+          ∙ ap (λ (a : MemberState). a.number) at_here
           ∙ taker_number fetched here
           ∙ numbers j there
           ∙ sym same
-      | inr other ↦ ap (λ (a : Alone). a.number) (elsewhere i other) ∙ numbers i (omega (arith, l, new_len))
+      | inr other ↦ ap (λ (a : MemberState). a.number) (elsewhere i other) ∙ numbers i (omega (arith, l, new_len))
     ]
 
   -- ---- it is taken out of all, fetches of the others, and is put back
 
-  module _ (mid lent new : List Alone) (old left : Alone) (old_is : old ≡ get_or members j old)
+  module _ (mid lent new : List MemberState) (old left : MemberState) (old_is : old ≡ get_or members j old)
       (taken : mid ≡ remove members j) (lent_is : lent ≡ mid) (put : new ≡ insert mid j left) where
     old_at : old ≡ here
     old_at = old_is ∙ get_or_default members j old nobody there
 
     came_is : fetched_of passes j tries loss lent old ≡ fetched
     came_is =
-        (λ i. fetched_all way ((lent_is ∙ taken) i) tries (alone_holdings (old_at i))
-        (next_parts None (alone_holdings (old_at i))))
+        (λ i. fetched_all way ((lent_is ∙ taken) i) tries (member_holdings (old_at i))
+        (next_parts None (member_holdings (old_at i))))
 
-    put_new : left ≡ alone_takes (fetched_of passes j tries loss lent old) old
-        → new ≡ set members j (alone_takes fetched here)
+    put_new : left ≡ member_takes (fetched_of passes j tries loss lent old) old
+        → new ≡ set members j (member_takes fetched here)
     put_new takes =
         put_in members mid new j left there taken put
-        ∙ ap (set members j) (takes ∙ (λ i. alone_takes (came_is i) (old_at i)))
+        ∙ ap (set members j) (takes ∙ (λ i. member_takes (came_is i) (old_at i)))
 
     pub fetched_at : HasFetchedAt passes draw g w members j tries loss lent new old left
     fetched_at = record {
       after = λ takes. members_are new (put_new takes);
-      truly = λ takes. fetched_all_truly new (put_new takes);
+      consistent = λ takes. fetched_all_consistently new (put_new takes);
       numbers = λ takes. fetched_numbers new (put_new takes);
-      planned = ap (λ (a : Alone). length (next_parts None (alone_holdings a))) old_at ∙ planned_are;
+      planned = ap (λ (a : MemberState). length (next_parts None (member_holdings a))) old_at ∙ planned_are;
       came = ap that_came came_is ∙ came_are;
       attempts = ap (λ (xs : List Fetched). sum (map (λ (x : Fetched). x.attempts) xs)) came_is ∙ attempts_are;
       len = ap length (put_in members mid new j left there taken put) ∙ length-set members j left;

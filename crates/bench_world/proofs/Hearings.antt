@@ -16,30 +16,31 @@ use Rattle.svs_sync.specs.Suppression.{mode_of}
 use Rattle.group_model.specs.Publications.{Logs}
 use Rattle.group_model.specs.Member.{Member}
 use Rattle.group_model.specs.Events.{SyncInterest, Event}
-use Rattle.group_model.specs.World.{Outside, World, member}
-use Rattle.group_model.specs.Steps.{tells_too_much, after_deliver, after_hear, hear_outcome, mode_at, drawn}
+use Rattle.group_model.specs.World.{Environment, World, member}
+use Rattle.group_model.specs.Steps.{reports_too_much, after_deliver, after_hear, hear_outcome, mode_at, drawn}
 use Rattle.group_model.specs.Refusals.{Refusal, has_sent, unless, if_unsent}
 use Rattle.group_model.specs.Changes as group
-use Rattle.group_model.specs.Sound.{IsTrueVector}
+use Rattle.group_model.specs.Sound.{IsConsistentVector}
 use Rattle.repo_member.specs.declared.refusals.HearRefusal.{HearRefusal}
 use Rattle.repo_member.specs.declared.refusals.HearRefusal.TheVariants as hear
 use Rattle.repo_member.specs.Groups.{GroupKeys}
-use Rattle.repo_member.specs.Alone.{Alone, alone_hears}
+use Rattle.repo_member.specs.MemberState.{MemberState, member_hears}
 use Rattle.repo_member.specs.InGroup.{in_group}
-use Rattle.repo_member.specs.TrueMembers.{IsTrueMember}
-use Rattle.repo_member.proofs.PublicLaws.{hears_true}
-use Rattle.bench_world.specs.declared.event.EventFault.{EventFault}
-use Rattle.bench_world.specs.declared.event.EventFault.TheVariants as fault
-use Rattle.bench_world.specs.Worlds.{GroupState, IsTrueState, IsTrueSync, in_groups, logs_around, sync_in, world_of}
+use Rattle.repo_member.specs.ConsistentMembers.{IsConsistentMember}
+use Rattle.repo_member.proofs.PublicLaws.{hears_consistent}
+use Rattle.bench_world.specs.declared.event.EventError.{EventError}
+use Rattle.bench_world.specs.declared.event.EventError.TheVariants as fault
+use Rattle.bench_world.specs.Worlds.{GroupState, IsConsistentState, IsConsistentSync, in_groups, logs_around, sync_in}
+use Rattle.bench_world.specs.Worlds.{world_of}
 use Rattle.bench_world.specs.Worlds.{drawing}
 use Rattle.bench_world.specs.Readings.{read_as}
-use Rattle.bench_world.specs.Hearing.{told_sync}
+use Rattle.bench_world.specs.Hearing.{reported_sync}
 use Rattle.bench_world.specs.Steps.{IsFaultOf}
-use Rattle.bench_world.specs.EventValues.{Told, mode_told, heard_as, hear_told}
-use Rattle.bench_world.proofs.States.{truly, number_is, member_is, member_set, stepped_at}
+use Rattle.bench_world.specs.EventValues.{Reported, mode_reported, heard_as, hear_reported}
+use Rattle.bench_world.proofs.States.{consistent, number_is, member_is, member_set, stepped_at}
 
 abbrev made : ℕ × List ℕ → SyncInterest
-made told = record { sender = told.0; vector = told.1 }
+made reported = record { sender = reported.0; vector = reported.1 }
 
 -- ---- what was sent
 
@@ -65,104 +66,113 @@ sent_alike s sender v = go s.sent where
   go (p ∷ ps) = let head = same_test sender v p in let tail = go ps in λ i. head i || tail i
 
 sent_vector : (g : GroupKeys) (logs : Logs) (sender : ℕ) (v : List ℕ) (ps : List SentPacket)
-    → was_sent sender v ps ≡ true → All (IsTrueSync g logs) ps → IsTrueVector logs v
+    → was_sent sender v ps ≡ true → All (IsConsistentSync g logs) ps → IsConsistentVector logs v
 sent_vector g logs sender v [] h all = absurd (true≢false (sym h))
 sent_vector g logs sender v (p ∷ ps) h all =
     elim (or_cases ((sender == p.sender) && bytes_eq v p.vector) (was_sent sender v ps) h) [
       | inl here ↦
           let both = and_parts (sender == p.sender) (bytes_eq v p.vector) here in
-          subst (IsTrueVector logs) (sym ((bytes_eq-Decides v p.vector).0 both.1))
-          (All-head (IsTrueSync g logs) p ps all).vector
-      | inr later ↦ sent_vector g logs sender v ps later (All-tail (IsTrueSync g logs) p ps all)
+          subst (IsConsistentVector logs) (sym ((bytes_eq-Decides v p.vector).0 both.1))
+          (All-head (IsConsistentSync g logs) p ps all).vector
+      | inr later ↦ sent_vector g logs sender v ps later (All-tail (IsConsistentSync g logs) p ps all)
     ]
 
 -- ---- the world
 
--- What is told of octets by the verdict on them.
-abbrev pub hears_told : Outside → World → ℕ → Result (ℕ × List ℕ) SyncRefusal → Told
-hears_told out w m r = hear_told m r (hear_outcome out w m (read_as r))
+-- What is reported of octets by the verdict on them.
+abbrev pub hears_reported : Environment → World → ℕ → Result (ℕ × List ℕ) SyncRefusal → Reported
+hears_reported out w m r = hear_reported m r (hear_outcome out w m (read_as r))
 
-module _ (s : GroupState) (is : IsTrueState s) (m : ℕ) (there : m < length s.members) (old : Alone)
+module _ (s : GroupState) (is : IsConsistentState s) (m : ℕ) (there : m < length s.members) (old : MemberState)
     (old_is : old ≡ get_or s.members m old) (r : Result (ℕ × List ℕ) SyncRefusal) where
   too_much : (sync : SyncInterest)
-      → tells_too_much (world_of s) m sync ≡ nat_lt (length old.log) (slice_index sync.vector m)
+      → reports_too_much (world_of s) m sync ≡ nat_lt (length old.log) (slice_index sync.vector m)
   too_much sync =
       ap (λ (x : Member). nat_lt (length x.log) (slice_index sync.vector m)) (member_is s is m there old old_is)
 
   -- ---- octets that are refused
 
   module _ (draws : ℕ → ℕ → ℕ) (x : HearRefusal)
-      (x_is : (x ≡ hear.NoMemory) ⊎ (told_sync (length old.log) m r ≡ Err x)) where
-    -- They change nothing, are not foreign, and their refusal is told.
-    refused_by : (r : Result (ℕ × List ℕ) SyncRefusal) → told_sync (length old.log) m r ≡ Err x
+      (x_is : (x ≡ hear.NoMemory) ⊎ (reported_sync (length old.log) m r ≡ Err x)) where
+    -- They change nothing, are not foreign, and their refusal is reported.
+    refused_by : (r : Result (ℕ × List ℕ) SyncRefusal) → reported_sync (length old.log) m r ≡ Err x
         → (if_unsent (world_of s) m (read_as r) ≡ None)
         × (after_hear (drawing draws) (world_of s) m (read_as r) ≡ world_of s)
-        × (hears_told (drawing draws) (world_of s) m r ≡ Told.HearRefused m x)
-    refused_by (Err refusal) e = (refl, refl, (let same : hear.Sync refusal ≡ x = cc in ap (Told.HearRefused m) same))
-    refused_by (Ok told) e = go (nat_lt (length old.log) (slice_index told.1 m)) refl e where
-      much : (b : Bool) → nat_lt (length old.log) (slice_index told.1 m) ≡ b
-          → tells_too_much (world_of s) m (made told) ≡ b
-      much b p = too_much (made told) ∙ p
+        × (hears_reported (drawing draws) (world_of s) m r ≡ Reported.HearRefused m x)
+    refused_by (Err refusal) e = (
+      refl,
+      refl,
+      (let same : hear.Sync refusal
+          ≡ x = cc in ap (Reported.HearRefused m) same),
+    )
+    refused_by (Ok reported) e = go (nat_lt (length old.log) (slice_index reported.1 m)) refl e where
+      much : (b : Bool) → nat_lt (length old.log) (slice_index reported.1 m) ≡ b
+          → reports_too_much (world_of s) m (made reported) ≡ b
+      much b p = too_much (made reported) ∙ p
 
-      go : (b : Bool) → nat_lt (length old.log) (slice_index told.1 m) ≡ b
-          → cond b (Err (hear.OwnNumberAhead (length old.log) (slice_index told.1 m))) (Ok (made told)) ≡ Err x
-          → (if_unsent (world_of s) m (Some (made told)) ≡ None)
-          × (after_hear (drawing draws) (world_of s) m (Some (made told)) ≡ world_of s)
-          × (hears_told (drawing draws) (world_of s) m (Ok told) ≡ Told.HearRefused m x)
+      go : (b : Bool) → nat_lt (length old.log) (slice_index reported.1 m) ≡ b
+          → cond b (Err (hear.OwnNumberAhead (length old.log) (slice_index reported.1 m))) (Ok (made reported)) ≡ Err x
+          → (if_unsent (world_of s) m (Some (made reported)) ≡ None)
+          × (after_hear (drawing draws) (world_of s) m (Some (made reported)) ≡ world_of s)
+          × (hears_reported (drawing draws) (world_of s) m (Ok reported) ≡ Reported.HearRefused m x)
       go true p h =
-          let same : hear.OwnNumberAhead (length old.log) (slice_index told.1 m) ≡ x = cc in (
-            ap (λ (b : Bool). cond b None (unless (has_sent (world_of s) (made told)) Refusal.Foreign)) (much true p),
-            ap (λ (b : Bool). cond b (world_of s) (after_deliver (drawing draws) (world_of s) m told.1)) (much true p),
+          let same : hear.OwnNumberAhead (length old.log) (slice_index reported.1 m) ≡ x = cc in (
+            ap (λ (b : Bool). cond b None (unless (has_sent (world_of s) (made reported)) Refusal.Foreign))
+                (much true p),
+            ap (λ (b : Bool). cond b (world_of s) (after_deliver (drawing draws) (world_of s) m reported.1))
+                (much true p),
             ap (λ (b : Bool). heard_as m (cond b
-                (Err (length (member (world_of s) m).log, slice_index told.1 m))
-                (Ok (mode_at (after_deliver (drawing draws) (world_of s) m told.1) m)))) (much true p)
-                ∙ ap (λ (y : Member). Told.HearRefused m (hear.OwnNumberAhead (length y.log) (slice_index told.1 m)))
+                (Err (length (member (world_of s) m).log, slice_index reported.1 m))
+                (Ok (mode_at (after_deliver (drawing draws) (world_of s) m reported.1) m)))) (much true p)
+                ∙ ap (λ (y : Member). Reported.HearRefused m
+                (hear.OwnNumberAhead (length y.log) (slice_index reported.1 m)))
                 (member_is s is m there old old_is)
-                ∙ ap (Told.HearRefused m) same,
+                ∙ ap (Reported.HearRefused m) same,
           )
       go false p h = absurd cc
 
     pub refused_so : (x ≡ hear.NoMemory → ⊥)
         → (if_unsent (world_of s) m (read_as r) ≡ None)
         × (after_hear (drawing draws) (world_of s) m (read_as r) ≡ world_of s)
-        × (hears_told (drawing draws) (world_of s) m r ≡ Told.HearRefused m x)
+        × (hears_reported (drawing draws) (world_of s) m r ≡ Reported.HearRefused m x)
     refused_so other = elim x_is [ inl memory ↦ absurd (other memory) | inr e ↦ refused_by r e ]
 
   -- ---- octets that are taken
 
   module _ (sender : ℕ) (v : List ℕ)
-      (e : told_sync (length old.log) m r ≡ Ok (record { sender = sender; vector = v })) where
+      (e : reported_sync (length old.log) m r ≡ Ok (record { sender = sender; vector = v })) where
     read : (r ≡ Ok (sender, v)) × (nat_lt (length old.log) (slice_index v m) ≡ false)
     read = by r e where
       by : (r : Result (ℕ × List ℕ) SyncRefusal)
-          → told_sync (length old.log) m r ≡ Ok (record { sender = sender; vector = v })
+          → reported_sync (length old.log) m r ≡ Ok (record { sender = sender; vector = v })
           → (r ≡ Ok (sender, v)) × (nat_lt (length old.log) (slice_index v m) ≡ false)
       by (Err refusal) h = absurd cc
-      by (Ok told) h = go (nat_lt (length old.log) (slice_index told.1 m)) refl h where
-        go : (b : Bool) → nat_lt (length old.log) (slice_index told.1 m) ≡ b
-            → cond b (Err (hear.OwnNumberAhead (length old.log) (slice_index told.1 m))) (Ok (made told))
+      by (Ok reported) h = go (nat_lt (length old.log) (slice_index reported.1 m)) refl h where
+        go : (b : Bool) → nat_lt (length old.log) (slice_index reported.1 m) ≡ b
+            → cond b (Err (hear.OwnNumberAhead (length old.log) (slice_index reported.1 m))) (Ok (made reported))
             ≡ Ok (record { sender = sender; vector = v })
-            → (let r : Result (ℕ × List ℕ) SyncRefusal = Ok told in r ≡ Ok (sender, v))
+            → (let r : Result (ℕ × List ℕ) SyncRefusal = Ok reported in r ≡ Ok (sender, v))
             × (nat_lt (length old.log) (slice_index v m) ≡ false)
         go true p h = absurd cc
         go false p h =
-            let same : made told ≡ record { sender = sender; vector = v } = cc in (
+            let same : made reported ≡ record { sender = sender; vector = v } = cc in (
               (λ i. Ok ((same i).sender, (same i).vector)),
               ap (λ (y : SyncInterest). nat_lt (length old.log) (slice_index y.vector m)) (sym same) ∙ p,
             )
 
-    few_told : tells_too_much (world_of s) m (record { sender = sender; vector = v }) ≡ false
-    few_told = too_much (record { sender = sender; vector = v }) ∙ read.1
+    few_reported : reports_too_much (world_of s) m (record { sender = sender; vector = v }) ≡ false
+    few_reported = too_much (record { sender = sender; vector = v }) ∙ read.1
 
     unsent : if_unsent (world_of s) m (read_as r)
         ≡ unless (has_sent (world_of s) (record { sender = sender; vector = v })) Refusal.Foreign
     unsent =
         ap (λ y. if_unsent (world_of s) m (read_as y)) read.0
         ∙ ap (λ (b : Bool).
-        cond b None (unless (has_sent (world_of s) (record { sender = sender; vector = v })) Refusal.Foreign)) few_told
+        cond b None (unless (has_sent (world_of s) (record { sender = sender; vector = v })) Refusal.Foreign))
+        few_reported
 
     -- They are foreign where the signer didn't send the vector.
-    pub foreign_so : (x : EventFault)
+    pub foreign_so : (x : EventError)
         → (x ≡ fault.NoMemory) ⊎ ((x ≡ fault.Foreign) × (was_sent sender v s.sent ≡ false))
         → IsFaultOf (if_unsent (world_of s) m (read_as r)) x
     foreign_so x h = elim h [
@@ -177,7 +187,7 @@ module _ (s : GroupState) (is : IsTrueState s) (m : ℕ) (there : m < length s.m
       pub sent_taken : if_unsent (world_of s) m (read_as r) ≡ None
       sent_taken = unsent ∙ ap (λ (b : Bool). unless b Refusal.Foreign) (sym (sent_alike s sender v) ∙ has)
 
-      module _ (draws : ℕ → ℕ → ℕ) (b : Alone) (draw : ℕ) (b_is : b ≡ alone_hears v s.moment draw old)
+      module _ (draws : ℕ → ℕ → ℕ) (b : MemberState) (draw : ℕ) (b_is : b ≡ member_hears v s.time draw old)
           (draw_is : draw ≡ draws m old.machine.draws) where
         delivered : world_of (record s {
           members = set s.members m b;
@@ -188,17 +198,17 @@ module _ (s : GroupState) (is : IsTrueState s) (m : ℕ) (there : m < length s.m
         delivered =
             let changed : in_groups (set s.members m b)
             ≡ set (in_groups s.members) m
-            (group.learns (drawn (drawing draws) (world_of s) m) s.moment v (member (world_of s) m)) =
+            (group.learns (drawn (drawing draws) (world_of s) m) s.time v (member (world_of s) m)) =
             map-set in_group s.members m b
             ∙ ap (set (in_groups s.members) m) (ap in_group b_is
-            ∙ ap (λ (n : ℕ). group.learns n s.moment v (in_group old)) draw_is
-            ∙ ap (λ (y : Member). group.learns (draws m y.machine.draws) s.moment v y)
+            ∙ ap (λ (n : ℕ). group.learns n s.time v (in_group old)) draw_is
+            ∙ ap (λ (y : Member). group.learns (draws m y.machine.draws) s.time v y)
             (sym (member_is s is m there old old_is))) in
             ap (λ (ms : List Member).
             let w : World = record {
               members = ms;
               sent = map sync_in s.sent;
-              moment = s.moment;
+              time = s.time;
               issued = s.issued;
               tally = record s.tally { delivered = s.tally.delivered + 1 };
             } in
@@ -213,29 +223,30 @@ module _ (s : GroupState) (is : IsTrueState s) (m : ℕ) (there : m < length s.m
         heard_world =
             delivered
             ∙ sym (ap (λ y. after_hear (drawing draws) (world_of s) m (read_as y)) read.0
-            ∙ ap (λ (c : Bool). cond c (world_of s) (after_deliver (drawing draws) (world_of s) m v)) few_told)
+            ∙ ap (λ (c : Bool). cond c (world_of s) (after_deliver (drawing draws) (world_of s) m v)) few_reported)
 
         pub heard_state : s.steps < 100000
-            → IsTrueState (record s {
+            → IsConsistentState (record s {
               members = set s.members m b;
               tally = record s.tally { delivered = s.tally.delivered + 1 };
               steps = s.steps + 1;
             })
         heard_state few =
             stepped_at s is few (drawing draws) (λ t. omega arith) (Event.Hear m (read_as r)) tt m there b
-            (ap (λ (a : Alone). a.number) b_is ∙ number_is s is m there old old_is)
-            (subst (IsTrueMember s.keys (logs_around s.members)) (sym b_is)
-            (hears_true s.keys (logs_around s.members) v s.moment draw old
-            (sent_vector s.keys (logs_around s.members) sender v s.sent has is.sent) (truly s is m there old old_is)))
-            s.sent s.moment (record s.tally { delivered = s.tally.delivered + 1 }) is.sent heard_world
+            (ap (λ (a : MemberState). a.number) b_is ∙ number_is s is m there old old_is)
+            (subst (IsConsistentMember s.keys (logs_around s.members)) (sym b_is)
+            (hears_consistent s.keys (logs_around s.members) v s.time draw old
+            (sent_vector s.keys (logs_around s.members) sender v s.sent has is.sent)
+            (consistent s is m there old old_is)))
+            s.sent s.time (record s.tally { delivered = s.tally.delivered + 1 }) is.sent heard_world
 
-        pub heard_told : (mode : Mode) → mode ≡ mode_of b.machine.heard
-            → mode_told m mode ≡ hears_told (drawing draws) (world_of s) m r
-        heard_told mode mode_is =
-            ap (mode_told m)
+        pub heard_reported : (mode : Mode) → mode ≡ mode_of b.machine.heard
+            → mode_reported m mode ≡ hears_reported (drawing draws) (world_of s) m r
+        heard_reported mode mode_is =
+            ap (mode_reported m)
             (mode_is ∙ ap (λ (y : Member). mode_of y.machine.heard) (sym (member_set s.members m b there))
             ∙ ap (λ (w : World). mode_at w m) delivered)
-            ∙ sym (ap (hears_told (drawing draws) (world_of s) m) read.0
+            ∙ sym (ap (hears_reported (drawing draws) (world_of s) m) read.0
             ∙ ap (λ (c : Bool). heard_as m (cond c
             (Err (length (member (world_of s) m).log, slice_index v m))
-            (Ok (mode_at (after_deliver (drawing draws) (world_of s) m v) m)))) few_told)
+            (Ok (mode_at (after_deliver (drawing draws) (world_of s) m v) m)))) few_reported)

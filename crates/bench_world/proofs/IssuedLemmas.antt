@@ -14,8 +14,8 @@ use Rattle.indexmap.specs.IndexSet.{insert_key}
 use Rattle.repo_command.specs.declared.command.Command.{Command}
 use Rattle.group_model.specs.World.{World}
 use Rattle.group_model.specs.Refusals.{Refusal, unless, if_unissued}
-use Rattle.bench_world.specs.declared.event.EventFault.{EventFault}
-use Rattle.bench_world.specs.declared.event.EventFault.TheVariants as fault
+use Rattle.bench_world.specs.declared.event.EventError.{EventError}
+use Rattle.bench_world.specs.declared.event.EventError.TheVariants as fault
 use Rattle.bench_world.specs.declared.issued.IssuedCommand.{IssuedCommand}
 use Rattle.bench_world.specs.Commanding.{is_that, may_order}
 use Rattle.bench_world.specs.contracts.issued.IssuedCommandEq.TheImpl.Laws.{laws-law}
@@ -75,8 +75,8 @@ module _ (ks : List IssuedCommand) (new : IssuedCommand) where
   same_before [] within = refl
   same_before (k ∷ rest) within =
       let here = kept k (All-head (λ k. k < length ks) k rest within) in
-      let behind = same_before rest (All-tail (λ k. k < length ks) k rest within) in
-      λ i. issued_of (here i) ∷ behind i
+      let after = same_before rest (All-tail (λ k. k < length ks) k rest within) in
+      λ i. issued_of (here i) ∷ after i
 
   module _ (made old : List ℕ) (k : ℕ) (pushed : made ≡ old ++ k ∷ []) (inside : k < length more)
       (stands : get_or more k no_command ≡ new) (within : All (λ j. j < length ks) old) where
@@ -141,11 +141,11 @@ may_foreign : (w : World) (m : ℕ) (r : Result (ℕ × Command) ℕ) → may_or
 may_foreign w m (Ok order) e = ap (λ (b : Bool). unless b Refusal.Foreign) e
 may_foreign w m (Err code) e = absurd (true≢false e)
 
--- What keeps an order from being carried out is want of memory, or that it is foreign.
-pub order_fault : (w : World) (m : ℕ) (r : Result (ℕ × Command) ℕ) (told : EventFault)
-    → (told ≡ fault.NoMemory) ⊎ ((told ≡ fault.Foreign) × (may_order w.issued m r ≡ false))
-    → IsFaultOf (if_unissued w m r) told
-order_fault w m r told (inl memory) = subst (IsFaultOf (if_unissued w m r)) (sym memory) tt
-order_fault w m r told (inr (foreign, e)) =
+-- What keeps an order from being carried out is out of memory, or that it is foreign.
+pub order_fault : (w : World) (m : ℕ) (r : Result (ℕ × Command) ℕ) (reported : EventError)
+    → (reported ≡ fault.NoMemory) ⊎ ((reported ≡ fault.Foreign) × (may_order w.issued m r ≡ false))
+    → IsFaultOf (if_unissued w m r) reported
+order_fault w m r reported (inl memory) = subst (IsFaultOf (if_unissued w m r)) (sym memory) tt
+order_fault w m r reported (inr (foreign, e)) =
     subst (IsFaultOf (if_unissued w m r)) (sym foreign)
     (subst (λ (why : Option Refusal). IsFaultOf why fault.Foreign) (sym (may_foreign w m r e)) refl)

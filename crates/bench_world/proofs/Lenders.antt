@@ -7,13 +7,13 @@ use Rattle.sorted_lists.proofs.Sets.{value_key}
 use Rattle.repo_plan.specs.Parts.{part_cmp}
 use Rattle.repo_plan.specs.Plan.{holds}
 use Rattle.repo_plan.specs.Leaps.{some_holds}
-use Rattle.repo_member.specs.Alone.{Alone, alone_plan}
+use Rattle.repo_member.specs.MemberState.{MemberState, member_plan}
 use Rattle.bench_world.specs.Lending.{or_else, lent, lends}
 
-abbrev pub one_holds : List Alone → Part → Bool
-one_holds others t = some_holds (λ a u. holds (alone_plan a) u) others t
+abbrev pub one_holds : List MemberState → Part → Bool
+one_holds others t = some_holds (λ a u. holds (member_plan a) u) others t
 
-lends_held : (others : List Alone) (t : Part) → lends others t ≡ one_holds others t
+lends_held : (others : List MemberState) (t : Part) → lends others t ≡ one_holds others t
 lends_held [] t = refl
 lends_held (a ∷ others) t =
     go (value_of part_cmp a.store t) (value_key part_cmp a.store t) (lends_held others t) where
@@ -23,5 +23,5 @@ lends_held (a ∷ others) t =
       go None e h = h ∙ ap (λ (b : Bool). b || one_holds others t) e
       go (Some octets) e h = ap (λ (b : Bool). b || one_holds others t) e
 
-pub lent_alike : (others : List Alone) (ts : List Part) → filter (one_holds others) ts ≡ filter (lends others) ts
+pub lent_alike : (others : List MemberState) (ts : List Part) → filter (one_holds others) ts ≡ filter (lends others) ts
 lent_alike others ts = sym (λ i. filter (λ t. lends_held others t i) ts)

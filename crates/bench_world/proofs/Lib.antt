@@ -11,7 +11,7 @@ pub mod KnownByAll
 pub mod Phases
 pub mod Rounds
 pub mod MemberGathering
-pub mod TrueOthers
+pub mod ConsistentOthers
 pub mod AllGathering
 pub mod Learnt
 pub mod GroupFetches

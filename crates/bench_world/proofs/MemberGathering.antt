@@ -22,11 +22,11 @@ use Rattle.group_model.proofs.Lists.{in_at}
 use Rattle.group_model.proofs.Members.{known_published}
 use Rattle.group_model.proofs.Plans.{wanted_parts}
 use Rattle.group_model.proofs.PublicLaws.{gathering_settles}
-use Rattle.group_model.proofs.Settles.{comes_from, someone, told_by}
+use Rattle.group_model.proofs.Settles.{comes_from, someone, reported_by}
 use Rattle.repo_member.specs.Groups.{GroupKeys}
-use Rattle.repo_member.specs.Alone.{Alone, alone_plan}
+use Rattle.repo_member.specs.MemberState.{MemberState, member_plan}
 use Rattle.repo_member.specs.InGroup.{in_group, AreLogs}
-use Rattle.repo_member.proofs.PublicLaws.{contains-value, plans_alike, true_stores}
+use Rattle.repo_member.proofs.PublicLaws.{contains-value, plans_alike, consistent_stores}
 use Rattle.bench_world.specs.Lending.{or_else, lent, lends}
 use Rattle.bench_world.specs.Truth.{stores}
 use Rattle.bench_world.specs.Gathering.{GainsParts, NothingLeft}
@@ -41,7 +41,7 @@ some_or None y = refl
 some_or (Some o) y = refl
 
 -- Members lend what one of them holds.
-pub lends_held : (members : List Alone) (t : Part) → lends members t ≡ someone_holds (in_groups members) t
+pub lends_held : (members : List MemberState) (t : Part) → lends members t ≡ someone_holds (in_groups members) t
 lends_held [] t = refl
 lends_held (a ∷ members) t =
     some_or (value_of part_cmp a.store t) (lent members t)
@@ -79,7 +79,7 @@ module _ (w : World) (group : IsSoundGroup w) (j : ℕ) (there : j < length w.me
     comes_new t h fresh =
         let held = sound.held t h in
         let comes : comes_to w (member w j) t ≡ true = comes_from w (member w j) t (record {
-          told = subst (λ (v : List ℕ). t.seq ≤ get_or v t.publisher 0) known_is held.known.to_known;
+          reported = subst (λ (v : List ℕ). t.seq ≤ get_or v t.publisher 0) known_is held.known.to_known;
           not_hidden = not_hidden t h;
           someones = someone_has t h;
           record_too = someone_has (record_of t) held.with_record;
@@ -104,7 +104,7 @@ module _ (w : World) (group : IsSoundGroup w) (j : ℕ) (there : j < length w.me
       width = sound.width ∙ sym (group.members j there).width;
       known_more =
           λ p. subst (λ (v : List ℕ). get_or (member w j).known p 0 ≤ get_or v p 0) (sym known_is)
-          (told_by w group j there j p there);
+          (reported_by w group j there j p there);
       known_less = λ p. ap_le p;
       kept = gathering.kept;
       came = λ t h. elim (cases_Bool (member_holds (member w j) t)) [
@@ -129,7 +129,7 @@ module _ (w : World) (group : IsSoundGroup w) (j : ℕ) (there : j < length w.me
     claims = inl refl;
     width = refl;
     known_more = λ p. omega arith;
-    known_less = λ p. told_by w group j there j p there;
+    known_less = λ p. reported_by w group j there j p there;
     kept = λ t h. h;
     came = λ t h. held_too (new_parts w (member w j)) (member w j) t h;
   }
@@ -137,13 +137,13 @@ module _ (w : World) (group : IsSoundGroup w) (j : ℕ) (there : j < length w.me
 -- ---- a member that gathers
 
 -- Nothing of a member changes but what it stores.
-pub only_stored : (g : GroupKeys) (logs : Logs) (others : List Alone) (old new : Alone)
+pub only_stored : (g : GroupKeys) (logs : Logs) (others : List MemberState) (old new : MemberState)
     → GainsParts member_words g logs others old new → new ≡ record old { store = new.store }
 only_stored g logs others old new gains =
-    ap (λ (x : Alone). let y : Alone = record x { store = new.store } in y) gains.rest
+    ap (λ (x : MemberState). let y : MemberState = record x { store = new.store } in y) gains.rest
 
 module _ (g : GroupKeys) (w : World) (group : IsSoundGroup w) (are : AreLogs g (logs w)) (j : ℕ)
-    (there : j < length w.members) (others : List Alone) (old new : Alone)
+    (there : j < length w.members) (others : List MemberState) (old new : MemberState)
     (learnt : in_group old ≡ learnt_member w (member w j))
     (someones : (t : Part) → (stores old t || lends others t) ≡ someone_holds w.members t) (number : new.number ≡ j)
     (gains : GainsParts member_words g (logs w) others old new) where
@@ -166,21 +166,21 @@ module _ (g : GroupKeys) (w : World) (group : IsSoundGroup w) (are : AreLogs g (
   }
 
   sound : IsSoundMember (logs w) j (in_group new)
-  sound = subst (λ (k : ℕ). IsSoundMember (logs w) k (in_group new)) number gains.truly.sound
+  sound = subst (λ (k : ℕ). IsSoundMember (logs w) k (in_group new)) number gains.consistent.sound
 
   module _ (left : NothingLeft member_words others new) where
-    unclaimed : (t : Part) → is_wanted (alone_plan new) t ≡ true → is_unclaimed (alone_plan new) t ≡ true
-    unclaimed t wanted = and_from (is_wanted (alone_plan new) t) (not (is_claimed (alone_plan new) t)) wanted
-        (not_from_false (is_claimed (alone_plan new) t)
+    unclaimed : (t : Part) → is_wanted (member_plan new) t ≡ true → is_unclaimed (member_plan new) t ≡ true
+    unclaimed t wanted = and_from (is_wanted (member_plan new) t) (not (is_claimed (member_plan new) t)) wanted
+        (not_from_false (is_claimed (member_plan new) t)
         (ap (λ (x : Member). list_any (is_claim_of t) x.claims) same ∙ none_claimed t))
 
     -- What it wants nobody holds.
     gathered : HasGathered w (in_group new)
     gathered t wanted = elim (cases_Bool (someone_holds w.members t)) [
       | inl someone_ ↦
-          let want : is_wanted (alone_plan new) t ≡ true =
+          let want : is_wanted (member_plan new) t ≡ true =
           subst (λ (p : PlanState). is_wanted p t ≡ true)
-          (sym (plans_alike g (logs w) new are (true_stores g (logs w) new gains.truly))) wanted in
+          (sym (plans_alike g (logs w) new are (consistent_stores g (logs w) new gains.consistent))) wanted in
           let none : lends others t ≡ false = left t (unclaimed t want) in
           elim (or_cases (stores old t) (lends others t) (someones t ∙ someone_)) [
             | inl was ↦

@@ -11,7 +11,7 @@ use Rattle.sorted_lists.proofs.Sets.{In}
 use Rattle.repo_plan.specs.Parts.{part_cmp, pair_of}
 use Rattle.repo_plan.specs.Plan.{is_wanted, is_unclaimed, wanted, unclaimed, known_parts}
 use Rattle.repo_plan.proofs.Known.{contains-unclaimed}
-use Rattle.repo_plan.proofs.Scans.{behind_none}
+use Rattle.repo_plan.proofs.Scans.{after_none}
 use Rattle.repo_holdings.specs.Taking.{Fetched}
 use Rattle.group_model.specs.Member.{Member, with_each_tried}
 use Rattle.group_model.specs.World.{World, logs, someone_holds}
@@ -19,12 +19,12 @@ use Rattle.group_model.proofs.Lists.{same_filter}
 use Rattle.repo_mirror.specs.Asked.{is_kept}
 use Rattle.repo_mirror.specs.Mirrors.{mirror_holds, IsWantedByMirror}
 use Rattle.repo_member.specs.Groups.{GroupKeys}
-use Rattle.repo_member.specs.Alone.{Alone}
+use Rattle.repo_member.specs.MemberState.{MemberState}
 use Rattle.repo_member.specs.InGroup.{AreLogs, that_came}
 use Rattle.repo_mirror.specs.MirrorState.{MirrorState, mirror_holdings, fetch_plan}
 use Rattle.repo_mirror.specs.Passing.{is_fetched_kept}
-use Rattle.repo_mirror.specs.TrueMirrors.{mirror_in_group, IsTrueMirror}
-use Rattle.repo_mirror.proofs.PublicLaws.{mirrors_plan_alike, mirrors_want_alike, mirrors_take_true}
+use Rattle.repo_mirror.specs.ConsistentMirrors.{mirror_in_group, IsConsistentMirror}
+use Rattle.repo_mirror.proofs.PublicLaws.{mirrors_plan_alike, mirrors_want_alike, mirrors_take_consistent}
 use Rattle.bench_world.specs.Lending.{attempt_comes}
 use Rattle.bench_world.specs.Gathering.{next_parts}
 use Rattle.bench_world.specs.Fetching.{attempt_at, fetched_one}
@@ -32,15 +32,15 @@ use Rattle.bench_world.specs.MirrorSteps.{mirror_fetched, mirror_fetches}
 use Rattle.bench_world.specs.MirrorFetching.{mirror_wants, mirror_asks, mirror_attempt, mirror_gets, mirror_attempts}
 use Rattle.bench_world.specs.MirrorFetching.{mirror_counts, HasFetched}
 use Rattle.bench_world.specs.MirrorsHold.{for_mirror}
-use Rattle.bench_world.specs.Worlds.{in_groups, AreTrueMembers}
+use Rattle.bench_world.specs.Worlds.{in_groups, AreConsistentMembers}
 use Rattle.bench_world.proofs.MemberGathering.{lends_held}
 use Rattle.bench_world.proofs.GroupFetches.{asked_same, came_some, came_same, tried_same, tried_sum}
 use Rattle.bench_world.proofs.MirrorCounts.{counts}
 use Rattle.bench_world.proofs.MirrorFetches.{tries_each, kept_parts, kept_tries, fetched_comes, fetched_come}
 
 module _ (passes : ℕ → ℕ → ℕ → ℕ → ℕ → ℕ → Bool) (g : GroupKeys) (w : World) (are : AreLogs g (logs w))
-    (members : List Alone) (begun : in_groups members ≡ w.members) (m : MirrorState)
-    (truly : IsTrueMirror g (logs w) m) (i tries loss : ℕ) where
+    (members : List MemberState) (begun : in_groups members ≡ w.members) (m : MirrorState)
+    (consistent : IsConsistentMirror g (logs w) m) (i tries loss : ℕ) where
   abbrev way : Part → ℕ → Bool
   way = attempt_comes passes (16 + i) (Some loss)
 
@@ -53,10 +53,10 @@ module _ (passes : ℕ → ℕ → ℕ → ℕ → ℕ → ℕ → Bool) (g : Gr
   all_are : unclaimed (fetch_plan m) ≡ mirror_wants w m
   all_are =
       filter_agree (is_unclaimed (fetch_plan m)) (is_wanted (fetch_plan m)) unclaimed_is (known_parts (fetch_plan m))
-      ∙ ap wanted (mirrors_plan_alike g (logs w) m are truly)
+      ∙ ap wanted (mirrors_plan_alike g (logs w) m are consistent)
 
   pub asks_are : next_parts None (mirror_holdings m) ≡ mirror_asks w m
-  asks_are = ap (take 4096) (behind_none (unclaimed (fetch_plan m)) ∙ all_are)
+  asks_are = ap (take 4096) (after_none (unclaimed (fetch_plan m)) ∙ all_are)
 
   wants_are : (t : Part) → contains part_cmp (mirror_wants w m) t ≡ is_wanted (fetch_plan m) t
   wants_are t =
@@ -95,13 +95,13 @@ module _ (passes : ℕ → ℕ → ℕ → ℕ → ℕ → ℕ → Bool) (g : Gr
 
   -- ---- what it holds then, and which attempts count
 
-  module _ (all : AreTrueMembers g (logs w) members) where
+  module _ (all : AreConsistentMembers g (logs w) members) where
     counts_are : (t : Part) → In t (next_parts None (mirror_holdings m))
         → is_fetched_kept m.pattern (fetched_one way members tries (mirror_holdings m) t)
         ≡ (is_kept m.pattern (logs w) (pair_of t) || not (is_some (mirror_attempt passes w i tries loss m t)))
     counts_are t asked =
-        counts g (logs w) m (fetched_one way members tries (mirror_holdings m) t) are truly
-        (for_mirror g (logs w) m (fetched_one way members tries (mirror_holdings m) t) are truly
+        counts g (logs w) m (fetched_one way members tries (mirror_holdings m) t) are consistent
+        (for_mirror g (logs w) m (fetched_one way members tries (mirror_holdings m) t) are consistent
         (fetched_comes way members tries (mirror_holdings m) g (logs w) all None t asked))
         ∙ ap (λ (b : Bool). is_kept m.pattern (logs w) (pair_of t) || not b)
         (came_some way members tries (mirror_holdings m) t ∙ ap is_some (attempt_is t))
@@ -127,10 +127,10 @@ module _ (passes : ℕ → ℕ → ℕ → ℕ → ℕ → ℕ → Bool) (g : Gr
       pattern = refl;
       known = refl;
       wants = λ t. subst (λ (b : Bool). (b ≡ true) ↔ IsWantedByMirror m.pattern (logs w) (mirror_in_group m) t)
-          (sym (wants_are t)) (mirrors_want_alike g (logs w) m t are truly);
+          (sym (wants_are t)) (mirrors_want_alike g (logs w) m t are consistent);
       held = λ t.
-          (mirrors_take_true g (logs w) m (mirror_fetched passes members i tries loss m) are truly (λ k d l.
-          for_mirror g (logs w) m (slice_index_or (mirror_fetched passes members i tries loss m) k d) are truly
+          (mirrors_take_consistent g (logs w) m (mirror_fetched passes members i tries loss m) are consistent (λ k d l.
+          for_mirror g (logs w) m (slice_index_or (mirror_fetched passes members i tries loss m) k d) are consistent
           (fetched_come way members tries (mirror_holdings m) g (logs w) all None k d l))).held t
           ∙ ap (λ (ts : List Part). contains part_cmp ts t || mirror_holds (mirror_in_group m) t) gets_are;
       tried = tried_are;

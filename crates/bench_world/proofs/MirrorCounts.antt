@@ -17,17 +17,17 @@ use Rattle.repo_member.specs.Groups.{GroupKeys}
 use Rattle.repo_member.specs.InGroup.{AreLogs, asked_for, that_came}
 use Rattle.repo_mirror.specs.MirrorState.{MirrorState}
 use Rattle.repo_mirror.specs.Passing.{is_packet_kept, is_fetched_kept, mirror_takes}
-use Rattle.repo_mirror.specs.TrueMirrors.{mirror_in_group, IsTrueMirror, CameForMirror, TakesTruly}
-use Rattle.repo_mirror.proofs.PublicLaws.{mirrors_want_alike, mirrors_take_true}
+use Rattle.repo_mirror.specs.ConsistentMirrors.{mirror_in_group, IsConsistentMirror, CameForMirror, TakesConsistently}
+use Rattle.repo_mirror.proofs.PublicLaws.{mirrors_want_alike, mirrors_take_consistent}
 use Rattle.bench_world.proofs.Timers.{all_one}
 
 module _ (g : GroupKeys) (logs : Logs) (m : MirrorState) (x : Fetched) (are : AreLogs g logs)
-    (truly : IsTrueMirror g logs m) (come : CameForMirror g logs m x) where
+    (consistent : IsConsistentMirror g logs m) (come : CameForMirror g logs m x) where
   wanted : IsWantedByMirror m.pattern logs (mirror_in_group m) x.part
-  wanted = (mirrors_want_alike g logs m x.part are truly).0 come.part_wanted
+  wanted = (mirrors_want_alike g logs m x.part are consistent).0 come.part_wanted
 
-  takes : TakesTruly g logs (x ∷ []) m
-  takes = mirrors_take_true g logs m (x ∷ []) are truly (all_one (CameForMirror g logs m) x come)
+  takes : TakesConsistently g logs (x ∷ []) m
+  takes = mirrors_take_consistent g logs m (x ∷ []) are consistent (all_one (CameForMirror g logs m) x come)
 
   -- Where it came it is held.
   held_now : is_some x.packet ≡ true → mirror_holds (mirror_in_group (mirror_takes (x ∷ []) m)) x.part ≡ true

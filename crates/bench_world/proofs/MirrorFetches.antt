@@ -20,16 +20,16 @@ use Rattle.group_model.specs.Member.{tries_of, with_each_tried, with_tries}
 use Rattle.group_model.proofs.Lists.{from_filter}
 use Rattle.group_model.proofs.Tries.{each_tried_at}
 use Rattle.repo_member.specs.Groups.{GroupKeys}
-use Rattle.repo_member.specs.Alone.{Alone}
+use Rattle.repo_member.specs.MemberState.{MemberState}
 use Rattle.repo_member.specs.Outcomes.{AreFetchedOf}
-use Rattle.repo_member.specs.InGroup.{AreTries, asked_for, true_packet}
+use Rattle.repo_member.specs.InGroup.{AreTries, asked_for, published_packet}
 use Rattle.bench_world.specs.declared.holder.Filtering.{Filtering}
 use Rattle.bench_world.specs.Lending.{lent, lends}
 use Rattle.bench_world.specs.Gathering.{next_parts}
 use Rattle.bench_world.specs.Fetching.{attempt_at, fetched_one, fetched_all}
 use Rattle.bench_world.specs.Holders.{CameForHolder}
-use Rattle.bench_world.specs.Worlds.{AreTrueMembers}
-use Rattle.bench_world.proofs.PhaseOutcomes.{lends_true}
+use Rattle.bench_world.specs.Worlds.{AreConsistentMembers}
+use Rattle.bench_world.proofs.PhaseOutcomes.{lends_consistent}
 use Rattle.bench_world.proofs.NextParts.{all_from_in, next_unclaimed, next_rise}
 
 -- ---- jobs
@@ -74,7 +74,7 @@ tries_each more (x ∷ xs) ns are =
     ap (λ (n : ℕ). with_all_tries xs (with_tries x.part n ns)) one
     ∙ tries_each more xs (with_tries x.part (more x.part) ns) (λ k d l. are (suc k) d (omega (arith, l)))
 
-module _ (passes : Part → ℕ → Bool) (others : List Alone) (tries : ℕ) (h : HoldingsState) where
+module _ (passes : Part → ℕ → Bool) (others : List MemberState) (tries : ℕ) (h : HoldingsState) where
   abbrev one : Part → Fetched
   one t = fetched_one passes others tries h t
 
@@ -125,7 +125,7 @@ module _ (passes : Part → ℕ → Bool) (others : List Alone) (tries : ℕ) (h
   -- ---- packets
 
   -- What comes of the parts that are asked for comes truly.
-  module _ (g : GroupKeys) (logs : Logs) (all : AreTrueMembers g logs others) (after : Option Part) where
+  module _ (g : GroupKeys) (logs : Logs) (all : AreConsistentMembers g logs others) (after : Option Part) where
     pub fetched_comes : (t : Part) → In t (next_parts after h)
         → CameForHolder g logs h (fetched_one passes others tries h t)
     fetched_comes t i = record {
@@ -133,9 +133,9 @@ module _ (passes : Part → ℕ → Bool) (others : List Alone) (tries : ℕ) (h
       packet = lent_if (is_some (attempt_at passes others tries h t)) (lent others t) refl;
     } where
       lent_if : (b : Bool) (o : Option (List ℕ)) → lent others t ≡ o
-          → IfSome (cond b o None) (λ octets. true_packet g logs t ≡ Some octets)
+          → IfSome (cond b o None) (λ octets. published_packet g logs t ≡ Some octets)
       lent_if true None e = tt
-      lent_if true (Some octets) e = lends_true g logs others all t octets e
+      lent_if true (Some octets) e = lends_consistent g logs others all t octets e
       lent_if false o e = tt
 
     pub fetched_come : All (CameForHolder g logs h) (fetched_all passes others tries h (next_parts after h))

@@ -4,9 +4,9 @@ use Rattle.std.specs.List.{remove, insert}
 use Rattle.std.proofs.lemmas.List.{get_or_default}
 use Rattle.group_model.specs.Steps.{settled_vector}
 use Rattle.repo_member.specs.Groups.{GroupKeys}
-use Rattle.repo_member.specs.Alone.{Alone}
+use Rattle.repo_member.specs.MemberState.{MemberState}
 use Rattle.repo_mirror.specs.MirrorState.{MirrorState, mirror_holdings}
-use Rattle.repo_mirror.specs.TrueMirrors.{IsTrueMirror}
+use Rattle.repo_mirror.specs.ConsistentMirrors.{IsConsistentMirror}
 use Rattle.bench_world.specs.Conditions.{CanGatherFor}
 use Rattle.bench_world.specs.Gathering.{one_each, Counts, GainsParts, NothingLeft}
 use Rattle.bench_world.specs.MirrorSettles.{HasSettled, IsPartlySettledMirror, held_by}
@@ -14,46 +14,47 @@ use Rattle.bench_world.specs.MirrorSteps.{no_mirror, mirror_at, mirror_learns}
 use Rattle.bench_world.specs.MirrorWords.{state_words}
 use Rattle.bench_world.specs.Truth.{TriedFew}
 use Rattle.bench_world.specs.Worlds.{logs_around, only_members}
-use Rattle.bench_world.proofs.MirrorSettling.{settled_truly, learnt_truly, partly_gathered, has_settled, has_gained}
+use Rattle.bench_world.proofs.MirrorSettling.{settled_consistently, learnt_consistently, partly_gathered, has_settled}
+use Rattle.bench_world.proofs.MirrorSettling.{has_gained}
 use Rattle.bench_world.proofs.TakenOut.{put_at, put_changed}
 
 -- The mirror of a number that had learnt has gathered, the others are as they were, and where nothing was left, it has
 -- settled.
-pub record HasGatheredAt (g : GroupKeys) (lenders : List Alone) (ms new : List MirrorState) (i : ℕ)
+pub record HasGatheredAt (g : GroupKeys) (lenders : List MemberState) (ms new : List MirrorState) (i : ℕ)
     (learnt left : MirrorState) : Type 0 where
   pub others : new ≡ set ms i (mirror_at new i)
-  pub truly : IsTrueMirror g (logs_around lenders) (mirror_at new i)
+  pub consistent : IsConsistentMirror g (logs_around lenders) (mirror_at new i)
   pub partly : IsPartlySettledMirror (only_members lenders) (mirror_at ms i) (mirror_at new i)
   pub settled : NothingLeft state_words lenders left
       → HasSettled (only_members lenders) (mirror_at ms i) (mirror_at new i)
   pub held : (n : ℕ) → Counts state_words one_each n learnt left
       → n + held_by (mirror_at ms i) ≡ held_by (mirror_at new i)
 
-module _ (g : GroupKeys) (workers i : ℕ) (lenders : List Alone) (told : List ℕ) (ms : List MirrorState)
-    (can : CanGatherFor g workers i lenders told ms) (old : MirrorState) (old_is : old ≡ get_or ms i old) where
+module _ (g : GroupKeys) (workers i : ℕ) (lenders : List MemberState) (reported : List ℕ) (ms : List MirrorState)
+    (can : CanGatherFor g workers i lenders reported ms) (old : MirrorState) (old_is : old ≡ get_or ms i old) where
   old_at : old ≡ mirror_at ms i
   old_at = old_is ∙ get_or_default ms i old no_mirror can.there
 
   -- It has a number for each member.
-  pub as_wide : length told ≡ length old.known
+  pub as_wide : length reported ≡ length old.known
   as_wide =
       ap length can.known
-      ∙ (settled_truly g (only_members lenders) can.logs.are can.sound lenders refl can.others).width
-      ∙ sym can.truly.vector.width
+      ∙ (settled_consistently g (only_members lenders) can.logs.are can.sound lenders refl can.others).width
+      ∙ sym can.consistent.vector.width
       ∙ sym (ap (λ (m : MirrorState). length m.known) old_at)
 
-  module _ (learnt : MirrorState) (learnt_is : learnt ≡ mirror_learns told old) where
+  module _ (learnt : MirrorState) (learnt_is : learnt ≡ mirror_learns reported old) where
     learnt_at : learnt ≡ mirror_learns (settled_vector (only_members lenders)) (mirror_at ms i)
     learnt_at =
         learnt_is
-        ∙ ap (mirror_learns told) old_at
+        ∙ ap (mirror_learns reported) old_at
         ∙ ap (λ (v : List ℕ). mirror_learns v (mirror_at ms i)) can.known
 
-    pub truly_learnt : IsTrueMirror g (logs_around lenders) learnt
-    truly_learnt =
-        subst (IsTrueMirror g (logs_around lenders)) (sym learnt_at)
-        (learnt_truly g (only_members lenders) can.logs.are can.sound lenders refl can.others (mirror_at ms i)
-        can.truly)
+    pub consistently_learnt : IsConsistentMirror g (logs_around lenders) learnt
+    consistently_learnt =
+        subst (IsConsistentMirror g (logs_around lenders)) (sym learnt_at)
+        (learnt_consistently g (only_members lenders) can.logs.are can.sound lenders refl can.others (mirror_at ms i)
+        can.consistent)
 
     pub few_learnt : TriedFew (mirror_holdings learnt)
     few_learnt = subst (λ (m : MirrorState). TriedFew (mirror_holdings m)) (sym learnt_at) can.tried
@@ -65,17 +66,17 @@ module _ (g : GroupKeys) (workers i : ℕ) (lenders : List Alone) (told : List �
         let here : mirror_at new i ≡ left = put_at no_mirror ms mid new i left can.there mid_is put in
         record {
           others = put_changed no_mirror ms mid new i left can.there mid_is put;
-          truly = subst (IsTrueMirror g (logs_around lenders)) (sym here) gains.truly;
+          consistent = subst (IsConsistentMirror g (logs_around lenders)) (sym here) gains.consistent;
           partly =
               subst (IsPartlySettledMirror (only_members lenders) (mirror_at ms i)) (sym here)
               (partly_gathered g (only_members lenders) can.logs.are can.sound lenders refl can.others
-              (mirror_at ms i) can.truly learnt left learnt_at gains);
+              (mirror_at ms i) can.consistent learnt left learnt_at gains);
           settled = λ none.
               subst (HasSettled (only_members lenders) (mirror_at ms i)) (sym here)
               (has_settled g (only_members lenders) can.logs.are can.sound lenders refl can.others (mirror_at ms i)
-              can.truly learnt left learnt_at gains none);
+              can.consistent learnt left learnt_at gains none);
           held = λ n came.
               has_gained g (only_members lenders) can.logs.are can.sound lenders refl can.others (mirror_at ms i)
-              can.truly learnt left learnt_at gains n came
+              can.consistent learnt left learnt_at gains n came
               ∙ ap held_by (sym here);
         }

@@ -14,18 +14,18 @@ use Rattle.group_model.specs.Publications.{Logs}
 use Rattle.group_model.specs.Member.{Member}
 use Rattle.group_model.specs.World.{World, logs, someone_holds}
 use Rattle.group_model.specs.Steps.{settled_vector}
-use Rattle.group_model.specs.Sound.{IsSoundGroup, IsTrueVector}
+use Rattle.group_model.specs.Sound.{IsSoundGroup, IsConsistentVector}
 use Rattle.group_model.specs.Laws.{NothingHidden}
 use Rattle.repo_mirror.specs.Mirrors.{mirror_holds, IsWantedByMirror, IsSoundMirror}
 use Rattle.repo_mirror.specs.MirrorLaws.{IsGathering, GainsThose, HasComeToRest, KnowsAll, learns_all}
 use Rattle.repo_mirror.proofs.Settling.{exactly}
 use Rattle.repo_mirror.proofs.Joins.{learn_all, joins}
 use Rattle.repo_member.specs.Groups.{GroupKeys}
-use Rattle.repo_member.specs.Alone.{Alone}
+use Rattle.repo_member.specs.MemberState.{MemberState}
 use Rattle.repo_member.specs.InGroup.{AreLogs}
 use Rattle.repo_mirror.specs.MirrorState.{MirrorState, fetch_plan}
-use Rattle.repo_mirror.specs.TrueMirrors.{mirror_in_group, IsTrueMirror}
-use Rattle.repo_mirror.proofs.PublicLaws.{mirrors_want_alike, mirrors_list_alike, mirrors_learn_true}
+use Rattle.repo_mirror.specs.ConsistentMirrors.{mirror_in_group, IsConsistentMirror}
+use Rattle.repo_mirror.proofs.PublicLaws.{mirrors_want_alike, mirrors_list_alike, mirrors_learn_consistent}
 use Rattle.bench_world.specs.declared.holder.Filtering.{Filtering}
 use Rattle.bench_world.specs.Lending.{lends}
 use Rattle.bench_world.specs.Gathering.{one_each, Counts, GainsParts, NothingLeft}
@@ -34,20 +34,20 @@ use Rattle.bench_world.specs.MirrorWords.{mirror_held, mirror_rest, state_words,
 use Rattle.bench_world.specs.MirrorSettles.{HasSettled, ListsItsJoin, held_by, held_by_all, IsPartlySettledMirror}
 use Rattle.bench_world.specs.MirrorSettles.{ArePartlySettledMirrors, SettledSoFar}
 use Rattle.bench_world.specs.MirrorsHold.{held_is}
-use Rattle.bench_world.specs.Worlds.{in_groups, AreTrueMembers}
+use Rattle.bench_world.specs.Worlds.{in_groups, AreConsistentMembers}
 use Rattle.bench_world.proofs.MemberGathering.{lends_held}
 use Rattle.bench_world.proofs.KnownByAll.{nobody_knows}
-use Rattle.bench_world.proofs.Learnt.{long, all_is_settled, true_vector}
+use Rattle.bench_world.proofs.Learnt.{long, all_is_settled, consistent_vector}
 use Rattle.bench_world.proofs.SetSums.{ones}
 
 -- ---- one mirror
 
 -- A mirror with its filter gains what the mirror gains.
-pub gains_of : {X : Type 0} {f : _} (g : GroupKeys) (logs : Logs) (others : List Alone) (a b : Filtering X f)
+pub gains_of : {X : Type 0} {f : _} (g : GroupKeys) (logs : Logs) (others : List MemberState) (a b : Filtering X f)
     → GainsParts mirror_words g logs others a b → GainsParts state_words g logs others a.mirror b.mirror
 gains_of {X} {f} g logs others a b gains = record {
   rest = ap (λ (t : Filtering X f). t.mirror) gains.rest;
-  truly = gains.truly;
+  consistent = gains.consistent;
   kept = gains.kept;
   came = gains.came;
 }
@@ -66,41 +66,43 @@ module _ (w : World) where
 
 module _ (g : GroupKeys) (w : World) (are : AreLogs g (logs w)) (group : IsSoundGroup w) where
   -- A mirror that has settled lists its join.
-  pub lists_join : (old new : MirrorState) → IsTrueMirror g (logs w) old → IsTrueMirror g (logs w) new
+  pub lists_join : (old new : MirrorState) → IsConsistentMirror g (logs w) old → IsConsistentMirror g (logs w) new
       → HasSettled w old new → NothingHidden w → ListsItsJoin w new
-  lists_join old new truly after settled clear =
+  lists_join old new consistent after settled clear =
       mirrors_list_alike g (logs w) new are after
       ∙ joins new.pattern w (mirror_in_group new) group clear after.sound knows rest where
         knows : KnowsAll w (mirror_in_group new)
         knows p =
-            ap (λ (v : List ℕ). get_or v p 0) settled.known ∙ learn_all w (mirror_in_group old) group truly.vector p
+            ap (λ (v : List ℕ). get_or v p 0) settled.known
+            ∙ learn_all w (mirror_in_group old) group consistent.vector p
 
         rest : HasComeToRest new.pattern (logs w) w.members (mirror_in_group new)
         rest =
             subst (λ (pattern : Pattern). HasComeToRest pattern (logs w) w.members (mirror_in_group new))
             (sym settled.pattern) settled.rest
 
-  module _ (members : List Alone) (begun : in_groups members ≡ w.members) (all : AreTrueMembers g (logs w) members)
+  module _ (members : List MemberState) (begun : in_groups members ≡ w.members)
+      (all : AreConsistentMembers g (logs w) members)
     where
       -- ---- what is learnt
 
-      -- What all know together tells of no publication that there isn't.
-      pub settled_truly : IsTrueVector (logs w) (settled_vector w)
-      settled_truly = elim (cases_lt 0 (length members)) [
+      -- What all know together says of no publication that there isn't.
+      pub settled_consistently : IsConsistentVector (logs w) (settled_vector w)
+      settled_consistently = elim (cases_lt 0 (length members)) [
         | inl some ↦
-            true_vector g w are group members begun all (settled_vector w)
+            consistent_vector g w are group members begun all (settled_vector w)
             (sym (all_is_settled g w are group members begun all)) 0 some
         | inr none ↦
             let nothing : [] ≡ settled_vector w =
             sym (nobody_knows members none) ∙ all_is_settled g w are group members begun all in
             let many : length (logs w) ≡ length members = long g w are group members begun all in
-            subst (IsTrueVector (logs w)) nothing
+            subst (IsConsistentVector (logs w)) nothing
             (record { width = omega (arith, many, none); no_more = λ p. omega arith })
       ]
 
-      module _ (old : MirrorState) (truly : IsTrueMirror g (logs w) old) where
-        pub learnt_truly : IsTrueMirror g (logs w) (mirror_learns (settled_vector w) old)
-        learnt_truly = mirrors_learn_true g (logs w) old (settled_vector w) settled_truly truly
+      module _ (old : MirrorState) (consistent : IsConsistentMirror g (logs w) old) where
+        pub learnt_consistently : IsConsistentMirror g (logs w) (mirror_learns (settled_vector w) old)
+        learnt_consistently = mirrors_learn_consistent g (logs w) old (settled_vector w) settled_consistently consistent
 
         -- ---- what is gathered
 
@@ -141,7 +143,7 @@ module _ (g : GroupKeys) (w : World) (are : AreLogs g (logs w)) (group : IsSound
             known = known_is;
             sound =
                 subst (λ (pattern : Pattern). IsSoundMirror pattern (logs w) (mirror_in_group b)) pattern_is
-                gains.truly.sound;
+                gains.consistent.sound;
             kept = kept;
             came = came;
           }
@@ -150,7 +152,7 @@ module _ (g : GroupKeys) (w : World) (are : AreLogs g (logs w)) (group : IsSound
               (mirror_in_group b)
           gains_those =
               exactly old.pattern (logs w) w.members (learns_all w (mirror_in_group old)) (mirror_in_group b)
-              learnt_truly.sound gathering
+              learnt_consistently.sound gathering
 
           pub partly_gathered : IsPartlySettledMirror w old b
           partly_gathered = record {
@@ -178,7 +180,7 @@ module _ (g : GroupKeys) (w : World) (are : AreLogs g (logs w)) (group : IsSound
             rest = λ t wanted.
                 let unclaimed : is_unclaimed (fetch_plan b) t ≡ true =
                 and_from (is_wanted (fetch_plan b) t) (not (is_claimed (fetch_plan b) t))
-                ((mirrors_want_alike g (logs w) b t are gains.truly).1
+                ((mirrors_want_alike g (logs w) b t are gains.consistent).1
                 (subst (λ (pattern : Pattern). IsWantedByMirror pattern (logs w) (mirror_in_group b) t)
                 (sym pattern_is) wanted)) refl in
                 sym (lent_is t) ∙ none t unclaimed;
@@ -201,18 +203,18 @@ module _ (g : GroupKeys) (w : World) (are : AreLogs g (logs w)) (group : IsSound
 pub record HasOneMore (g : GroupKeys) (w : World) (begun : List MirrorState) (j : ℕ) (ms new : List MirrorState)
     : Type 0 where
   pub len : length new ≡ length begun
-  pub truly : (i : ℕ) → i < length new → IsTrueMirror g (logs w) (mirror_at new i)
+  pub consistent : (i : ℕ) → i < length new → IsConsistentMirror g (logs w) (mirror_at new i)
   pub partly : ArePartlySettledMirrors w begun new
   pub settled : HasSettled w (mirror_at ms j) (mirror_at new j) → SettledSoFar g w begun (j + 1) new
   pub held : (parts n : ℕ) → parts + held_by_all begun ≡ held_by_all ms
       → n + held_by (mirror_at ms j) ≡ held_by (mirror_at new j) → parts + n + held_by_all begun ≡ held_by_all new
 
 module _ (g : GroupKeys) (w : World) (begun : List MirrorState) where
-  pub settled_none : ((i : ℕ) → i < length begun → IsTrueMirror g (logs w) (mirror_at begun i))
+  pub settled_none : ((i : ℕ) → i < length begun → IsConsistentMirror g (logs w) (mirror_at begun i))
       → SettledSoFar g w begun 0 begun
-  settled_none truly = record {
+  settled_none consistent = record {
     len = refl;
-    truly = truly;
+    consistent = consistent;
     partly = λ i l. partly_same w (mirror_at begun i);
     done = λ i l. absurd (omega (arith, l));
     still = λ i l. refl;
@@ -220,7 +222,7 @@ module _ (g : GroupKeys) (w : World) (begun : List MirrorState) where
 
   module _ (j : ℕ) (ms : List MirrorState) (so_far : SettledSoFar g w begun j ms) (inside : j < length ms)
       (new : List MirrorState) (others : new ≡ set ms j (mirror_at new j))
-      (truly_new : IsTrueMirror g (logs w) (mirror_at new j))
+      (consistently_new : IsConsistentMirror g (logs w) (mirror_at new j))
       (partly_new : IsPartlySettledMirror w (mirror_at ms j) (mirror_at new j)) where
     other_at : (i : ℕ) → i ≢ j → mirror_at new i ≡ mirror_at ms i
     other_at i other =
@@ -236,11 +238,12 @@ module _ (g : GroupKeys) (w : World) (begun : List MirrorState) where
     more_len : length new ≡ length begun
     more_len = long_new ∙ so_far.len
 
-    more_truly : (i : ℕ) → i < length new → IsTrueMirror g (logs w) (mirror_at new i)
-    more_truly i l = elim (cases_eq i j) [
-      | inl same ↦ subst (λ (k : ℕ). IsTrueMirror g (logs w) (mirror_at new k)) (sym same) truly_new
+    more_consistently : (i : ℕ) → i < length new → IsConsistentMirror g (logs w) (mirror_at new i)
+    more_consistently i l = elim (cases_eq i j) [
+      | inl same ↦ subst (λ (k : ℕ). IsConsistentMirror g (logs w) (mirror_at new k)) (sym same) consistently_new
       | inr other ↦
-          subst (IsTrueMirror g (logs w)) (sym (other_at i other)) (so_far.truly i (omega (arith, l, long_new)))
+          subst (IsConsistentMirror g (logs w)) (sym (other_at i other))
+          (so_far.consistent i (omega (arith, l, long_new)))
     ]
 
     more_partly : ArePartlySettledMirrors w begun new
@@ -255,7 +258,7 @@ module _ (g : GroupKeys) (w : World) (begun : List MirrorState) where
     more_settled : HasSettled w (mirror_at ms j) (mirror_at new j) → SettledSoFar g w begun (j + 1) new
     more_settled one = record {
       len = more_len;
-      truly = more_truly;
+      consistent = more_consistently;
       partly = more_partly;
       done = λ i l. elim (cases_eq i j) [
         | inl same ↦
@@ -280,7 +283,7 @@ module _ (g : GroupKeys) (w : World) (begun : List MirrorState) where
     pub one_more : HasOneMore g w begun j ms new
     one_more = record {
       len = more_len;
-      truly = more_truly;
+      consistent = more_consistently;
       partly = more_partly;
       settled = more_settled;
       held = more_held;

@@ -9,46 +9,47 @@ use Rattle.repo_watch.specs.declared.pattern.Pattern.{Pattern}
 use Rattle.group_model.specs.Member.{tries_of}
 use Rattle.repo_mirror.specs.MirrorState.{MirrorState, mirror_opening, mirror_holdings}
 use Rattle.repo_mirror.specs.Passing.{is_fetched_kept}
-use Rattle.repo_mirror.specs.TrueMirrors.{IsTrueMirror}
-use Rattle.repo_mirror.proofs.PublicLaws.{mirrors_begin_true, mirrors_learn_true}
+use Rattle.repo_mirror.specs.ConsistentMirrors.{IsConsistentMirror}
+use Rattle.repo_mirror.proofs.PublicLaws.{mirrors_begin_consistent, mirrors_learn_consistent}
 use Rattle.bench_world.specs.MirrorSteps.{no_mirror, mirror_at, mirror_learns, mirror_fetched, mirror_fetches}
 use Rattle.bench_world.specs.Lending.{attempt_comes}
-use Rattle.bench_world.specs.MirrorsHold.{mirror_takes_truly}
+use Rattle.bench_world.specs.MirrorsHold.{mirror_takes_consistently}
 use Rattle.bench_world.specs.Truth.{TriedFew}
-use Rattle.bench_world.specs.Worlds.{GroupState, IsTrueState, MirrorTriedFew, logs_around, no_packet}
+use Rattle.bench_world.specs.Worlds.{GroupState, IsConsistentState, MirrorTriedFew, logs_around, no_packet}
 use Rattle.bench_world.proofs.Deliveries.{sync}
 use Rattle.bench_world.proofs.MirrorFetches.{tried_once, fetched_come}
 use Rattle.bench_world.proofs.Readers.{counted_state}
 use Rattle.bench_world.proofs.States.{many}
 use Rattle.bench_world.proofs.Timers.{all_one}
 
-module _ (s : GroupState) (is : IsTrueState s) where
+module _ (s : GroupState) (is : IsConsistentState s) where
   -- Other mirrors, which hold what was published.
-  pub with_mirrors : (ms : List MirrorState) → All (IsTrueMirror s.keys (logs_around s.members)) ms
-      → All (MirrorTriedFew s.steps) ms → length ms ≤ 4 → IsTrueState (record s { mirrors = ms })
-  with_mirrors ms truly tried few = record {
+  pub with_mirrors : (ms : List MirrorState) → All (IsConsistentMirror s.keys (logs_around s.members)) ms
+      → All (MirrorTriedFew s.steps) ms → length ms ≤ 4 → IsConsistentState (record s { mirrors = ms })
+  with_mirrors ms consistent tried few = record {
     are = is.are;
     numbers = is.numbers;
     members = is.members;
     sent = is.sent;
     within = is.within;
     steps = is.steps;
-    mirrors = truly;
+    mirrors = consistent;
     mirrors_tried = tried;
     mirrors_few = few;
   }
 
   pub added_mirror : (pattern : Pattern) (n : ℕ) → n ≡ length s.members → length s.mirrors < 4
       → (ms : List MirrorState) → ms ≡ s.mirrors ++ mirror_opening pattern n ∷ []
-      → IsTrueState (record s { mirrors = ms })
+      → IsConsistentState (record s { mirrors = ms })
   added_mirror pattern n n_is few ms ms_is =
       with_mirrors ms
-      (subst (All (IsTrueMirror s.keys (logs_around s.members))) (sym ms_is)
-      (All-append (IsTrueMirror s.keys (logs_around s.members)) s.mirrors (mirror_opening pattern n ∷ []) is.mirrors
-      (all_one (IsTrueMirror s.keys (logs_around s.members)) (mirror_opening pattern n)
-      (subst (λ (k : ℕ). IsTrueMirror s.keys (logs_around s.members) (mirror_opening pattern k))
+      (subst (All (IsConsistentMirror s.keys (logs_around s.members))) (sym ms_is)
+      (All-append (IsConsistentMirror s.keys (logs_around s.members)) s.mirrors (mirror_opening pattern n ∷ [])
+      is.mirrors
+      (all_one (IsConsistentMirror s.keys (logs_around s.members)) (mirror_opening pattern n)
+      (subst (λ (k : ℕ). IsConsistentMirror s.keys (logs_around s.members) (mirror_opening pattern k))
       (sym (n_is ∙ many s is))
-      (mirrors_begin_true s.keys (logs_around s.members) pattern)))))
+      (mirrors_begin_consistent s.keys (logs_around s.members) pattern)))))
       (subst (All (MirrorTriedFew s.steps)) (sym ms_is)
       (All-append (MirrorTriedFew s.steps) s.mirrors (mirror_opening pattern n ∷ []) is.mirrors_tried
       (all_one (MirrorTriedFew s.steps) (mirror_opening pattern n) (λ t. omega arith))))
@@ -60,8 +61,9 @@ module _ (s : GroupState) (is : IsTrueState s) where
     pub mirror_is : old ≡ mirror_at s.mirrors i
     mirror_is = old_is ∙ get_or_default s.mirrors i old no_mirror there
 
-    pub mirror_truly : IsTrueMirror s.keys (logs_around s.members) old
-    mirror_truly = subst (IsTrueMirror s.keys (logs_around s.members)) (sym old_is) (is.mirrors i old there)
+    pub mirror_consistently : IsConsistentMirror s.keys (logs_around s.members) old
+    mirror_consistently = subst (IsConsistentMirror s.keys (logs_around s.members)) (sym old_is)
+        (is.mirrors i old there)
 
     tried : MirrorTriedFew s.steps old
     tried = subst (MirrorTriedFew s.steps) (sym old_is) (is.mirrors_tried i old there)
@@ -71,17 +73,17 @@ module _ (s : GroupState) (is : IsTrueState s) where
         let few : tries_of old.attempts t ≤ s.steps * 16 = tried t in
         let most = is.steps in omega (arith, few, most)
 
-    -- The mirror was told what was sent.
-    pub told_mirror : (k : ℕ) → 1 ≤ k → k ≤ length s.sent → (ms : List MirrorState)
+    -- The mirror was given what was sent.
+    pub reported_mirror : (k : ℕ) → 1 ≤ k → k ≤ length s.sent → (ms : List MirrorState)
         → ms ≡ set s.mirrors i (mirror_learns (get_or s.sent (k - 1) no_packet).vector old)
-        → IsTrueState (record s { mirrors = ms })
-    told_mirror k one last ms ms_is =
+        → IsConsistentState (record s { mirrors = ms })
+    reported_mirror k one last ms ms_is =
         with_mirrors ms
-        (subst (All (IsTrueMirror s.keys (logs_around s.members))) (sym ms_is)
-        (All-set (IsTrueMirror s.keys (logs_around s.members)) s.mirrors i
+        (subst (All (IsConsistentMirror s.keys (logs_around s.members))) (sym ms_is)
+        (All-set (IsConsistentMirror s.keys (logs_around s.members)) s.mirrors i
         (mirror_learns (get_or s.sent (k - 1) no_packet).vector old)
-        (mirrors_learn_true s.keys (logs_around s.members) old (get_or s.sent (k - 1) no_packet).vector
-        (sync s is k one last).vector mirror_truly) is.mirrors))
+        (mirrors_learn_consistent s.keys (logs_around s.members) old (get_or s.sent (k - 1) no_packet).vector
+        (sync s is k one last).vector mirror_consistently) is.mirrors))
         (subst (All (MirrorTriedFew s.steps)) (sym ms_is)
         (All-set (MirrorTriedFew s.steps) s.mirrors i (mirror_learns (get_or s.sent (k - 1) no_packet).vector old) tried
         is.mirrors_tried))
@@ -91,15 +93,15 @@ module _ (s : GroupState) (is : IsTrueState s) where
         let most = is.mirrors_few in omega (arith, len, most))
 
     -- It has a number for each member.
-    pub as_many_told : (k : ℕ) → 1 ≤ k → k ≤ length s.sent → (told : List ℕ)
-        → told ≡ (get_or s.sent (k - 1) no_packet).vector → length told ≡ length old.known
-    as_many_told k one last told same =
-        ap length same ∙ (sync s is k one last).vector.width ∙ sym mirror_truly.vector.width
+    pub as_many_reported : (k : ℕ) → 1 ≤ k → k ≤ length s.sent → (reported : List ℕ)
+        → reported ≡ (get_or s.sent (k - 1) no_packet).vector → length reported ≡ length old.known
+    as_many_reported k one last reported same =
+        ap length same ∙ (sync s is k one last).vector.width ∙ sym mirror_consistently.vector.width
 
     -- The mirror has fetched, which is a step.
     pub fetched_mirror : s.steps < 100000 → (passes : ℕ → ℕ → ℕ → ℕ → ℕ → ℕ → Bool) (tries loss : ℕ) → tries ≤ 16
         → (ms : List MirrorState) → ms ≡ set s.mirrors i (mirror_fetches passes s.members i tries loss old)
-        → IsTrueState (record s { mirrors = ms; steps = s.steps + 1 })
+        → IsConsistentState (record s { mirrors = ms; steps = s.steps + 1 })
     fetched_mirror few passes tries loss most ms ms_is =
         let begun = counted_state s is few in
         let way : Part → ℕ → Bool = attempt_comes passes (16 + i) (Some loss) in
@@ -112,12 +114,13 @@ module _ (s : GroupState) (is : IsTrueState s) where
           within = begun.within;
           steps = begun.steps;
           mirrors =
-              subst (All (IsTrueMirror s.keys (logs_around s.members))) (sym ms_is)
-              (All-set (IsTrueMirror s.keys (logs_around s.members)) s.mirrors i new
-              (mirror_takes_truly s.keys (logs_around s.members) (mirror_fetched passes s.members i tries loss old) old
+              subst (All (IsConsistentMirror s.keys (logs_around s.members))) (sym ms_is)
+              (All-set (IsConsistentMirror s.keys (logs_around s.members)) s.mirrors i new
+              (mirror_takes_consistently s.keys (logs_around s.members)
+              (mirror_fetched passes s.members i tries loss old) old
               is.are
               (fetched_come way s.members tries (mirror_holdings old) s.keys (logs_around s.members) is.members None)
-              mirror_truly) is.mirrors);
+              mirror_consistently) is.mirrors);
           mirrors_tried =
               subst (All (MirrorTriedFew (s.steps + 1))) (sym ms_is)
               (All-set (MirrorTriedFew (s.steps + 1)) s.mirrors i new (λ t.

@@ -18,7 +18,7 @@ use Rattle.repo_plan.proofs.Known.{unclaimed_rises, contains-unclaimed}
 use Rattle.group_model.proofs.Lists.{from_filter, in_at, in_take}
 use Rattle.group_model.proofs.Tries.{rises_take, take_short}
 use Rattle.repo_holdings.specs.HoldingsState.{HoldingsState, held_plan}
-use Rattle.repo_member.specs.Alone.{Alone}
+use Rattle.repo_member.specs.MemberState.{MemberState}
 use Rattle.bench_world.specs.Lending.{lends}
 use Rattle.bench_world.specs.Gathering.{next_parts, next_lent}
 use Rattle.bench_world.proofs.SetSums.{filter_fewer}
@@ -93,7 +93,7 @@ module _ (h : HoldingsState) (after : Option Part) where
 
   -- ---- of a settle
 
-  module _ (others : List Alone) where
+  module _ (others : List MemberState) where
     abbrev lent_parts : List Part
     lent_parts = filter (lends others) later_parts
 

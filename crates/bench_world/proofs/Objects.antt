@@ -13,31 +13,33 @@ use Rattle.repo_object.specs.Objects.Post.{Offers, Withdraws}
 use Rattle.group_model.specs.Publications.{Logs, last_of, has_unwithdrawn}
 use Rattle.group_model.specs.Member.{Member}
 use Rattle.group_model.specs.Events.{SyncInterest, Event}
-use Rattle.group_model.specs.World.{Outside, World, no_member, member, logs_of}
+use Rattle.group_model.specs.World.{Environment, World, no_member, member, logs_of}
 use Rattle.group_model.specs.Steps.{drawn, after_publish, after_event}
 use Rattle.group_model.specs.Changes as group
 use Rattle.group_model.specs.Limits.{IsInRange, IsWithinSteps}
 use Rattle.group_model.specs.Refusals.{Refusal, unless, if_spent, refusal}
-use Rattle.group_model.specs.Sound.{IsTrueVector}
+use Rattle.group_model.specs.Sound.{IsConsistentVector}
 use Rattle.repo_member.specs.declared.refusals.PublishRefusal.{PublishRefusal}
 use Rattle.repo_member.specs.declared.refusals.PublishRefusal.TheVariants.{NumbersSpent, NoMemory}
 use Rattle.repo_member.specs.declared.refusals.WithdrawRefusal.{WithdrawRefusal}
 use Rattle.repo_member.specs.declared.refusals.WithdrawRefusal.TheVariants as withdrawing
-use Rattle.repo_member.specs.Alone.{Alone, next_seq, alone_publishes}
+use Rattle.repo_member.specs.MemberState.{MemberState, next_seq, member_publishes}
 use Rattle.repo_member.specs.InGroup.{in_group, AreLogs, GrowInto}
-use Rattle.repo_member.specs.TrueMembers.{IsTrueMember}
+use Rattle.repo_member.specs.ConsistentMembers.{IsConsistentMember}
 use Rattle.repo_member.specs.Verdicts.{sync_of}
-use Rattle.repo_member.proofs.PublicLaws.{publishes_alike, true_stores, logs_grow, publishes_true, others_publish}
+use Rattle.repo_member.proofs.PublicLaws.{publishes_alike, consistent_stores, logs_grow, publishes_consistent}
+use Rattle.repo_member.proofs.PublicLaws.{others_publish}
 use Rattle.repo_member.proofs.PublicLaws.{logs_have_grown}
-use Rattle.repo_mirror.specs.TrueMirrors.{IsTrueMirror}
-use Rattle.repo_mirror.proofs.PublicLaws.{mirrors_grow_true}
-use Rattle.bench_world.specs.declared.event.EventFault.TheVariants as fault
+use Rattle.repo_mirror.specs.ConsistentMirrors.{IsConsistentMirror}
+use Rattle.repo_mirror.proofs.PublicLaws.{mirrors_grow_consistent}
+use Rattle.bench_world.specs.declared.event.EventError.TheVariants as fault
 use Rattle.bench_world.specs.Steps.{IsFaultOf}
 use Rattle.bench_world.specs.Withdrawing.{withdraw_fault}
-use Rattle.bench_world.specs.Worlds.{GroupState, IsTrueState, IsTrueSync, nobody, alone_at, in_groups, logs_around}
+use Rattle.bench_world.specs.Worlds.{GroupState, IsConsistentState, IsConsistentSync, nobody, state_at, in_groups}
+use Rattle.bench_world.specs.Worlds.{logs_around}
 use Rattle.bench_world.specs.Worlds.{sync_in, world_of, drawing}
 use Rattle.bench_world.proofs.States.{mirrors_still}
-use Rattle.bench_world.proofs.States.{truly, number_is, member_is, among, among_logs, set_numbers, within_more}
+use Rattle.bench_world.proofs.States.{consistent, number_is, member_is, among, among_logs, set_numbers, within_more}
 use Rattle.bench_world.proofs.Timers.{all_one}
 
 -- ---- the event of a publication
@@ -46,7 +48,7 @@ abbrev event_of : ℕ → Post → Event
 event_of m (Offers object) = Event.Publish m object
 event_of m (Withdraws seq) = Event.Withdraw m seq
 
-event_is : (out : Outside) (w : World) (m : ℕ) (post : Post)
+event_is : (out : Environment) (w : World) (m : ℕ) (post : Post)
     → after_event out w (event_of m post) ≡ after_publish out w m post
 event_is out w m (Offers object) = refl
 event_is out w m (Withdraws seq) = refl
@@ -57,12 +59,12 @@ in_range m n (Withdraws seq) is = tt
 
 -- ---- one member
 
-module _ (s : GroupState) (is : IsTrueState s) (m : ℕ) (there : m < length s.members) (old : Alone)
+module _ (s : GroupState) (is : IsConsistentState s) (m : ℕ) (there : m < length s.members) (old : MemberState)
     (old_is : old ≡ get_or s.members m old) where
   log_at : get_or (logs_around s.members) m [] ≡ old.log
   log_at =
       ap (λ (k : ℕ). get_or (logs_around s.members) k []) (sym (number_is s is m there old old_is))
-      ∙ (truly s is m there old old_is).log
+      ∙ (consistent s is m there old old_is).log
 
   pub log_is : length (member (world_of s) m).log ≡ length old.log
   log_is = ap (λ (x : Member). length x.log) (member_is s is m there old old_is)
@@ -165,8 +167,8 @@ module _ (s : GroupState) (is : IsTrueState s) (m : ℕ) (there : m < length s.m
   pub seq_is : (seq : ℕ) → seq ≡ next_seq old → seq ≡ length (member (world_of s) m).log + 1
   seq_is seq e = let l = log_is in omega (arith, e, l)
 
-  module _ (b : Alone) (draw : ℕ → ℕ → ℕ) (n : ℕ) (n_is : n ≡ draw m old.machine.draws) (post : Post)
-      (b_is : b ≡ alone_publishes s.keys post s.moment n old) where
+  module _ (b : MemberState) (draw : ℕ → ℕ → ℕ) (n : ℕ) (n_is : n ≡ draw m old.machine.draws) (post : Post)
+      (b_is : b ≡ member_publishes s.keys post s.time n old) where
     -- What was added is the sync Interest of what the member knows now.
     pub sent_is : (sent reserved : List SentPacket) (vector : List ℕ) (seq : ℕ) (sync : List ℕ) → reserved ≡ s.sent
         → vector ≡ old.known → seq ≡ next_seq old → sync ≡ sync_of s.keys old.number b.known
@@ -175,20 +177,20 @@ module _ (s : GroupState) (is : IsTrueState s) (m : ℕ) (there : m < length s.m
     sent_is sent reserved vector seq sync reserved_is vector_is seq_is_ sync_is e =
         let known : set vector m seq ≡ b.known =
         (λ i. set (vector_is i) (sym (number_is s is m there old old_is) i) (seq_is_ i))
-        ∙ sym (ap (λ (a : Alone). a.known) b_is) in
-        let told : sync ≡ sync_of s.keys m b.known =
+        ∙ sym (ap (λ (a : MemberState). a.known) b_is) in
+        let reported : sync ≡ sync_of s.keys m b.known =
         sync_is ∙ ap (λ (k : ℕ). sync_of s.keys k b.known) (number_is s is m there old old_is) in
-        e ∙ (λ i. reserved_is i ++ sent_packet m (known i) (told i) ∷ [])
+        e ∙ (λ i. reserved_is i ++ sent_packet m (known i) (reported i) ∷ [])
 
     -- The member is what the group makes of it.
     published_member : in_group b
-        ≡ group.publishes (drawn (drawing draw) (world_of s) m) s.moment m post (member (world_of s) m)
+        ≡ group.publishes (drawn (drawing draw) (world_of s) m) s.time m post (member (world_of s) m)
     published_member =
         ap in_group b_is
-        ∙ publishes_alike s.keys post s.moment n old
-        (true_stores s.keys (logs_around s.members) old (truly s is m there old old_is)).in_order
-        ∙ (λ i. group.publishes (n_is i) s.moment (number_is s is m there old old_is i) post (in_group old))
-        ∙ ap (λ (x : Member). group.publishes (draw m x.machine.draws) s.moment m post x)
+        ∙ publishes_alike s.keys post s.time n old
+        (consistent_stores s.keys (logs_around s.members) old (consistent s is m there old old_is)).in_order
+        ∙ (λ i. group.publishes (n_is i) s.time (number_is s is m there old old_is i) post (in_group old))
+        ∙ ap (λ (x : Member). group.publishes (draw m x.machine.draws) s.time m post x)
         (sym (member_is s is m there old old_is))
 
     abbrev packet : SentPacket
@@ -202,7 +204,7 @@ module _ (s : GroupState) (is : IsTrueState s) (m : ℕ) (there : m < length s.m
         ≡ after_publish (drawing draw) (world_of s) m post
     published_world =
         let x : Member =
-        group.publishes (drawn (drawing draw) (world_of s) m) s.moment m post (member (world_of s) m) in
+        group.publishes (drawn (drawing draw) (world_of s) m) s.time m post (member (world_of s) m) in
         let changed : in_groups (set s.members m b) ≡ set (in_groups s.members) m x =
         map-set in_group s.members m b ∙ ap (set (in_groups s.members) m) published_member in
         let known : b.known ≡ (get_or (set (in_groups s.members) m x) m no_member).known =
@@ -216,7 +218,7 @@ module _ (s : GroupState) (is : IsTrueState s) (m : ℕ) (there : m < length s.m
         ∙ ap
         (λ (v : List ℕ). map sync_in s.sent ++ (let p : SyncInterest = record { sender = m; vector = v } in p) ∷ [])
         known in
-        λ i. record { members = changed i; sent = syncs i; moment = s.moment; issued = s.issued; tally = s.tally }
+        λ i. record { members = changed i; sent = syncs i; time = s.time; issued = s.issued; tally = s.tally }
 
     pub world_sent : (sent : List SentPacket) → sent ≡ s.sent ++ sent_packet m b.known (sync_of s.keys m b.known) ∷ []
         → world_of (record s { members = set s.members m b; sent = sent; steps = s.steps + 1 })
@@ -243,7 +245,7 @@ module _ (s : GroupState) (is : IsTrueState s) (m : ℕ) (there : m < length s.m
       logs_after =
           ap logs_of (map-set in_group s.members m b)
           ∙ map-set (λ (x : Member). x.log) (in_groups s.members) m (in_group b)
-          ∙ ap (set (logs_around s.members) m) (ap (λ (a : Alone). a.log) b_is)
+          ∙ ap (set (logs_around s.members) m) (ap (λ (a : MemberState). a.log) b_is)
 
       are_after : AreLogs s.keys later
       are_after =
@@ -261,38 +263,40 @@ module _ (s : GroupState) (is : IsTrueState s) (m : ℕ) (there : m < length s.m
           (ap (λ (l : List Post). set (logs_around s.members) m (l ++ post ∷ [])) log_at)
           (logs_have_grown (logs_around s.members) m post (among_logs s is m there old old_is))
 
-      now_true : IsTrueMember s.keys later b
-      now_true =
-          subst (IsTrueMember s.keys later) (sym b_is)
-          (subst (λ (k : ℕ). IsTrueMember s.keys (set (logs_around s.members) k (old.log ++ post ∷ []))
-          (alone_publishes s.keys post s.moment n old)) (number_is s is m there old old_is)
-          (publishes_true s.keys post s.moment n (logs_around s.members) old (truly s is m there old old_is)))
+      now_consistent : IsConsistentMember s.keys later b
+      now_consistent =
+          subst (IsConsistentMember s.keys later) (sym b_is)
+          (subst (λ (k : ℕ). IsConsistentMember s.keys (set (logs_around s.members) k (old.log ++ post ∷ []))
+          (member_publishes s.keys post s.time n old)) (number_is s is m there old old_is)
+          (publishes_consistent s.keys post s.time n (logs_around s.members) old (consistent s is m there old old_is)))
 
-      others_true : (j : ℕ) → j < length s.members → (j ≡ m → ⊥) → IsTrueMember s.keys later (alone_at s.members j)
-      others_true j l other =
-          let number : (alone_at s.members j).number ≡ j = is.numbers j l in
-          let away : last_of later (alone_at s.members j).number
-          ≡ last_of (logs_around s.members) (alone_at s.members j).number =
+      others_consistent : (j : ℕ) → j < length s.members → (j ≡ m → ⊥)
+          → IsConsistentMember s.keys later (state_at s.members j)
+      others_consistent j l other =
+          let number : (state_at s.members j).number ≡ j = is.numbers j l in
+          let away : last_of later (state_at s.members j).number
+          ≡ last_of (logs_around s.members) (state_at s.members j).number =
           ap (λ (log : List Post). length log)
-          (get_or-set_other (logs_around s.members) m (alone_at s.members j).number (old.log ++ post ∷ []) []
+          (get_or-set_other (logs_around s.members) m (state_at s.members j).number (old.log ++ post ∷ []) []
           (λ e. other (sym number ∙ e))) in
-          others_publish s.keys (logs_around s.members) later (alone_at s.members j) grown as_many away (is.members j l)
+          others_publish s.keys (logs_around s.members) later (state_at s.members j) grown as_many away (is.members j l)
 
-      all_true : (j : ℕ) → j < length (set s.members m b) → IsTrueMember s.keys later (alone_at (set s.members m b) j)
-      all_true j l = elim (cases_eq j m) [
+      all_consistent : (j : ℕ) → j < length (set s.members m b)
+          → IsConsistentMember s.keys later (state_at (set s.members m b) j)
+      all_consistent j l = elim (cases_eq j m) [
         | inl same ↦
-            subst (IsTrueMember s.keys later)
-            (sym (ap (alone_at (set s.members m b)) same ∙ get_or-set_same s.members m b nobody there)) now_true
+            subst (IsConsistentMember s.keys later)
+            (sym (ap (state_at (set s.members m b)) same ∙ get_or-set_same s.members m b nobody there)) now_consistent
         | inr other ↦
-            subst (IsTrueMember s.keys later) (sym (get_or-set_other s.members m j b nobody other))
-            (others_true j
+            subst (IsConsistentMember s.keys later) (sym (get_or-set_other s.members m j b nobody other))
+            (others_consistent j
             (let k : length (set s.members m b) ≡ length s.members = length-set s.members m b in omega (arith, l, k))
             other)
       ]
 
-      -- A vector that tells of no more than there was tells of no more than there is.
-      still_true : (v : List ℕ) → IsTrueVector (logs_around s.members) v → IsTrueVector later v
-      still_true v t = record { width = t.width ∙ sym as_many; no_more = λ p. more p (t.no_more p) } where
+      -- A vector that reports no more than there was reports no more than there is.
+      still_consistent : (v : List ℕ) → IsConsistentVector (logs_around s.members) v → IsConsistentVector later v
+      still_consistent v t = record { width = t.width ∙ sym as_many; no_more = λ p. more p (t.no_more p) } where
         more : (p : ℕ) → get_or v p 0 ≤ last_of (logs_around s.members) p → get_or v p 0 ≤ last_of later p
         more p h = elim (cases_eq p m) [
           | inl same ↦
@@ -313,32 +317,33 @@ module _ (s : GroupState) (is : IsTrueState s) (m : ℕ) (there : m < length s.m
               omega (arith, h, away)
         ]
 
-      still_sent : All (IsTrueSync s.keys later) s.sent
+      still_sent : All (IsConsistentSync s.keys later) s.sent
       still_sent k d l = record {
         sender = (is.sent k d l).sender;
-        vector = still_true (get_or s.sent k d).vector (is.sent k d l).vector;
+        vector = still_consistent (get_or s.sent k d).vector (is.sent k d l).vector;
         octets = (is.sent k d l).octets;
       }
 
       -- A member's publication leaves the world sound.
       pub state_sent : (sent : List SentPacket) → sent ≡ s.sent ++ sent_packet m b.known (sync_of s.keys m b.known) ∷ []
-          → IsTrueState (record s { members = set s.members m b; sent = sent; steps = s.steps + 1 })
+          → IsConsistentState (record s { members = set s.members m b; sent = sent; steps = s.steps + 1 })
       state_sent sent e = record {
         are = subst (AreLogs s.keys) (sym logs_after) are_after;
         numbers =
-            set_numbers s.members m there b (ap (λ (a : Alone). a.number) b_is ∙ number_is s is m there old old_is)
+            set_numbers s.members m there b (ap (λ (a : MemberState). a.number) b_is
+            ∙ number_is s is m there old old_is)
             is.numbers;
         members =
             subst (λ (ls : Logs).
-            (j : ℕ) → j < length (set s.members m b) → IsTrueMember s.keys ls (alone_at (set s.members m b) j))
-            (sym logs_after) all_true;
+            (j : ℕ) → j < length (set s.members m b) → IsConsistentMember s.keys ls (state_at (set s.members m b) j))
+            (sym logs_after) all_consistent;
         sent =
-            subst (λ (ls : Logs). All (IsTrueSync s.keys ls) sent) (sym logs_after)
-            (subst (All (IsTrueSync s.keys later)) (sym e)
-            (All-append (IsTrueSync s.keys later) s.sent (packet ∷ []) still_sent
-            (all_one (IsTrueSync s.keys later) packet (record {
+            subst (λ (ls : Logs). All (IsConsistentSync s.keys ls) sent) (sym logs_after)
+            (subst (All (IsConsistentSync s.keys later)) (sym e)
+            (All-append (IsConsistentSync s.keys later) s.sent (packet ∷ []) still_sent
+            (all_one (IsConsistentSync s.keys later) packet (record {
               sender = let w = is.are.width in let l = among_logs s is m there old old_is in omega (arith, w, l);
-              vector = record { width = now_true.sound.width; no_more = now_true.sound.known };
+              vector = record { width = now_consistent.sound.width; no_more = now_consistent.sound.known };
               octets = refl;
             }))));
         within =
@@ -348,8 +353,8 @@ module _ (s : GroupState) (is : IsTrueState s) (m : ℕ) (there : m < length s.m
             (in_range m (next_seq old) post is_post));
         steps = omega (arith, few);
         mirrors =
-            subst (λ (ls : Logs). All (IsTrueMirror s.keys ls) s.mirrors) (sym logs_after)
-            (λ k d l. mirrors_grow_true s.keys (logs_around s.members) later (get_or s.mirrors k d) grown as_many
+            subst (λ (ls : Logs). All (IsConsistentMirror s.keys ls) s.mirrors) (sym logs_after)
+            (λ k d l. mirrors_grow_consistent s.keys (logs_around s.members) later (get_or s.mirrors k d) grown as_many
             (is.mirrors k d l));
         mirrors_tried = mirrors_still s is (s.steps + 1) (omega arith);
         mirrors_few = is.mirrors_few;

@@ -14,11 +14,12 @@ use Rattle.group_model.specs.Limits.{IsWithinSteps}
 use Rattle.group_model.proofs.PublicLaws.{within_opening}
 use Rattle.repo_holdings.proofs.ContentLemmas.{numbers_last}
 use Rattle.repo_member.specs.Groups.{GroupKeys, IsGroup}
-use Rattle.repo_member.specs.Alone.{Alone}
+use Rattle.repo_member.specs.MemberState.{MemberState}
 use Rattle.repo_member.specs.InGroup.{in_group, AreLogs}
-use Rattle.repo_member.specs.TrueMembers.{IsTrueMember}
-use Rattle.repo_member.proofs.PublicLaws.{logs_begin, begins_true}
-use Rattle.bench_world.specs.Worlds.{IsTrueState, nobody, alone_at, in_groups, logs_around, world_of, sync_in, drawing}
+use Rattle.repo_member.specs.ConsistentMembers.{IsConsistentMember}
+use Rattle.repo_member.proofs.PublicLaws.{logs_begin, begins_consistent}
+use Rattle.bench_world.specs.Worlds.{IsConsistentState, nobody, state_at, in_groups, logs_around, world_of, sync_in}
+use Rattle.bench_world.specs.Worlds.{drawing}
 use Rattle.bench_world.specs.Worlds.{begun_one, begun_all}
 
 -- ---- numbers
@@ -48,7 +49,7 @@ no_logs f (x ∷ xs) h = let head = h x in let tail = no_logs f xs h in λ i. he
 
 module _ (g : GroupKeys) (is : IsGroup g) (draw : ℕ → ℕ → ℕ) where
   begun_at : (j : ℕ) → j < length g.members.names
-      → alone_at (begun_all (length g.members.names) draw) j ≡ begun_one (length g.members.names) draw j
+      → state_at (begun_all (length g.members.names) draw) j ≡ begun_one (length g.members.names) draw j
   begun_at j l =
       let long : length (numbers_from 0 (length g.members.names)) ≡ length g.members.names =
       length-numbers 0 (length g.members.names) in
@@ -76,12 +77,13 @@ module _ (g : GroupKeys) (is : IsGroup g) (draw : ℕ → ℕ → ℕ) where
       (λ x. refl)
       ∙ ap (λ (k : ℕ). replicate k (let l : List Post = [] in l)) (length-numbers 0 (length g.members.names))
 
-  pub opening_is : (ms : List Alone) (sent : List SentPacket) → ms ≡ begun_all (length g.members.names) draw → sent ≡ []
+  pub opening_is : (ms : List MemberState) (sent : List SentPacket) → ms ≡ begun_all (length g.members.names) draw
+      → sent ≡ []
       → world_of (record {
         keys = g;
         members = ms;
         sent = sent;
-        moment = 0;
+        time = 0;
         issued = [];
         tally = record { delivered = 0; attempts = 0; parts = 0; octets = 0 };
         steps = 0;
@@ -99,7 +101,7 @@ module _ (g : GroupKeys) (is : IsGroup g) (draw : ℕ → ℕ → ℕ) where
       λ i. record {
         members = members i;
         sent = syncs i;
-        moment = 0;
+        time = 0;
         issued = [];
         tally = record { delivered = 0; attempts = 0; parts = 0; octets = 0 };
       }
@@ -107,11 +109,11 @@ module _ (g : GroupKeys) (is : IsGroup g) (draw : ℕ → ℕ → ℕ) where
   abbrev no_tally : Tally
   no_tally = record { delivered = 0; attempts = 0; parts = 0; octets = 0 }
 
-  begun_state : IsTrueState (record {
+  begun_state : IsConsistentState (record {
     keys = g;
     members = begun_all (length g.members.names) draw;
     sent = [];
-    moment = 0;
+    time = 0;
     issued = [];
     tally = no_tally;
     steps = 0;
@@ -120,12 +122,14 @@ module _ (g : GroupKeys) (is : IsGroup g) (draw : ℕ → ℕ → ℕ) where
   begun_state = record {
     are = subst (AreLogs g) (sym logs_begun) (logs_begin g is);
     numbers = λ j l.
-        let m : j < length g.members.names = omega (arith, l, many) in ap (λ (a : Alone). a.number) (begun_at j m);
+        let m : j < length g.members.names = omega (arith, l, many) in ap (λ (a : MemberState). a.number)
+        (begun_at j m);
     members = λ j l.
         let m : j < length g.members.names = omega (arith, l, many) in
-        subst (λ (ls : Logs). IsTrueMember g ls (alone_at (begun_all (length g.members.names) draw) j)) (sym logs_begun)
-        (subst (IsTrueMember g (replicate (length g.members.names) [])) (sym (begun_at j m))
-        (begins_true g (length g.members.names) j 0 (draw j 0) m));
+        subst (λ (ls : Logs). IsConsistentMember g ls (state_at (begun_all (length g.members.names) draw) j))
+        (sym logs_begun)
+        (subst (IsConsistentMember g (replicate (length g.members.names) [])) (sym (begun_at j m))
+        (begins_consistent g (length g.members.names) j 0 (draw j 0) m));
     sent = λ k d l. absurd (omega (arith, l));
     within =
         subst (IsWithinSteps 0) (sym (opening_is (begun_all (length g.members.names) draw) [] refl refl))
@@ -136,33 +140,33 @@ module _ (g : GroupKeys) (is : IsGroup g) (draw : ℕ → ℕ → ℕ) where
     mirrors_few = omega arith;
   }
 
-  pub opening_state : (ms : List Alone) (sent : List SentPacket) → ms ≡ begun_all (length g.members.names) draw
-      → sent ≡ [] → IsTrueState (record {
+  pub opening_state : (ms : List MemberState) (sent : List SentPacket) → ms ≡ begun_all (length g.members.names) draw
+      → sent ≡ [] → IsConsistentState (record {
         keys = g;
         members = ms;
         sent = sent;
-        moment = 0;
+        time = 0;
         issued = [];
         tally = record { delivered = 0; attempts = 0; parts = 0; octets = 0 };
         steps = 0;
         mirrors = [];
       })
   opening_state ms sent ms_are sent_is =
-      subst (λ (as_ : List Alone). IsTrueState (record {
+      subst (λ (as_ : List MemberState). IsConsistentState (record {
         keys = g;
         members = as_;
         sent = sent;
-        moment = 0;
+        time = 0;
         issued = [];
         tally = record { delivered = 0; attempts = 0; parts = 0; octets = 0 };
         steps = 0;
         mirrors = [];
       })) (sym ms_are)
-      (subst (λ (ps : List SentPacket). IsTrueState (record {
+      (subst (λ (ps : List SentPacket). IsConsistentState (record {
         keys = g;
         members = begun_all (length g.members.names) draw;
         sent = ps;
-        moment = 0;
+        time = 0;
         issued = [];
         tally = record { delivered = 0; attempts = 0; parts = 0; octets = 0 };
         steps = 0;

@@ -21,14 +21,14 @@ use Rattle.group_model.specs.Member.{Member, catalogued_under, member_hides_all}
 use Rattle.group_model.specs.Replies.{Reply}
 use Rattle.group_model.specs.World.{Issued, World, no_member, member, with_member, logs}
 use Rattle.group_model.specs.Steps.{can_start, after_command, after_order, after_issue, command_answer, order_answer}
-use Rattle.repo_member.specs.Alone.{Alone}
+use Rattle.repo_member.specs.MemberState.{MemberState}
 use Rattle.repo_member.specs.Commanded as commanded
 use Rattle.repo_member.specs.InGroup.{in_group}
-use Rattle.repo_member.specs.TrueMembers.{IsTrueMember}
-use Rattle.repo_member.proofs.PublicLaws.{order_is_event, order_is_answered, issue_is_answered, obeys_true}
+use Rattle.repo_member.specs.ConsistentMembers.{IsConsistentMember}
+use Rattle.repo_member.proofs.PublicLaws.{order_is_event, order_is_answered, issue_is_answered, obeys_consistent}
 use Rattle.repo_member.proofs.PublicLaws.{made_orders_are_taken}
-use Rattle.bench_world.specs.Worlds.{GroupState, IsTrueState, in_groups, logs_around, world_of, drawing}
-use Rattle.bench_world.proofs.States.{many, truly, number_is, among, in_world, true_in, stepped_at}
+use Rattle.bench_world.specs.Worlds.{GroupState, IsConsistentState, in_groups, logs_around, world_of, drawing}
+use Rattle.bench_world.proofs.States.{many, consistent, number_is, among, in_world, consistent_in, stepped_at}
 
 -- ---- one member changes, if any does
 
@@ -64,60 +64,62 @@ module _ (w : World) (j : ℕ) (there : j < length w.members) where
 same_answer : (a b : Answer) → Reply.Commanded a ≡ Reply.Commanded b → a ≡ b
 same_answer a b h = cc
 
-module _ (s : GroupState) (is : IsTrueState s) (m : ℕ) (there : m < length s.members) (old : Alone)
+module _ (s : GroupState) (is : IsConsistentState s) (m : ℕ) (there : m < length s.members) (old : MemberState)
     (old_is : old ≡ get_or s.members m old) (r : Result (ℕ × Command) ℕ) where
-  pub order_answered : commanded.alone_order_answer r old ≡ order_answer (world_of s) m r
+  pub order_answered : commanded.member_order_answer r old ≡ order_answer (world_of s) m r
   order_answered =
-      sym (same_answer (order_answer (world_of s) m r) (commanded.alone_order_answer r old)
+      sym (same_answer (order_answer (world_of s) m r) (commanded.member_order_answer r old)
       (order_is_answered (drawing (λ _ _. 0)) (world_of s) m r s.keys old (in_world s is m there old old_is)
-      (true_in s is m there old old_is)))
+      (consistent_in s is m there old old_is)))
 
-  module _ (b : Alone) (b_is : b ≡ commanded.alone_after_order r old) where
+  module _ (b : MemberState) (b_is : b ≡ commanded.member_after_order r old) where
     pub obeyed_world : world_of (record s { members = set s.members m b; steps = s.steps + 1 })
         ≡ after_order (world_of s) m r
     obeyed_world =
         let now : in_group b ≡ member (after_order (world_of s) m r) m =
         ap in_group b_is
         ∙ sym (order_is_event (drawing (λ _ _. 0)) (world_of s) m r s.keys old (in_world s is m there old old_is)
-        (true_in s is m there old old_is)) in
+        (consistent_in s is m there old old_is)) in
         ap (λ (ms : List Member). let w : World = record (world_of s) { members = ms } in w)
         (map-set in_group s.members m b ∙ ap (set (in_groups s.members) m) now)
         ∙ sym (only_one (world_of s) m (among s is m there old old_is) r)
 
-    same_number : (r : Result (ℕ × Command) ℕ) → (commanded.alone_after_order r old).number ≡ old.number
+    same_number : (r : Result (ℕ × Command) ℕ) → (commanded.member_after_order r old).number ≡ old.number
     same_number (Err code) = refl
     same_number (Ok order) = by order.1 where
-      by : (c : Command) → (commanded.alone_obeys c old).number ≡ old.number
+      by : (c : Command) → (commanded.member_obeys c old).number ≡ old.number
       by (Insert name first last) = go (next_number old.insertions) where
-        go : (o : Option ℕ) → (commanded.alone_starts name first last old o).number ≡ old.number
+        go : (o : Option ℕ) → (commanded.member_state_starts name first last old o).number ≡ old.number
         go None = refl
         go (Some number) = refl
       by (Check process) = refl
       by (Delete name) = refl
 
-    still_true : (r : Result (ℕ × Command) ℕ)
-        → IsTrueMember s.keys (logs_around s.members) (commanded.alone_after_order r old)
-    still_true (Err code) = truly s is m there old old_is
-    still_true (Ok order) = obeys_true s.keys (logs_around s.members) order.1 old is.are (truly s is m there old old_is)
+    still_consistent : (r : Result (ℕ × Command) ℕ)
+        → IsConsistentMember s.keys (logs_around s.members) (commanded.member_after_order r old)
+    still_consistent (Err code) = consistent s is m there old old_is
+    still_consistent (Ok order) = obeys_consistent s.keys (logs_around s.members) order.1 old is.are
+        (consistent s is m there old old_is)
 
     pub obeyed_state : s.steps < 100000 → IsInRange (Event.Order m r)
-        → IsTrueState (record s { members = set s.members m b; steps = s.steps + 1 })
+        → IsConsistentState (record s { members = set s.members m b; steps = s.steps + 1 })
     obeyed_state few range =
         stepped_at s is few (drawing (λ _ _. 0)) (λ t. omega arith) (Event.Order m r) range m there b
-        (ap (λ (a : Alone). a.number) b_is ∙ same_number r ∙ number_is s is m there old old_is)
-        (subst (IsTrueMember s.keys (logs_around s.members)) (sym b_is) (still_true r))
-        s.sent s.moment s.tally is.sent obeyed_world
+        (ap (λ (a : MemberState). a.number) b_is ∙ same_number r ∙ number_is s is m there old old_is)
+        (subst (IsConsistentMember s.keys (logs_around s.members)) (sym b_is) (still_consistent r))
+        s.sent s.time s.tally is.sent obeyed_world
 
 -- ---- a command is made and carried out
 
-pub issued_state : (s : GroupState) (made : List Issued) → IsTrueState s → IsTrueState (record s { issued = made })
+pub issued_state : (s : GroupState) (made : List Issued) → IsConsistentState s
+    → IsConsistentState (record s { issued = made })
 issued_state s made is = record {
   are = is.are;
   numbers = is.numbers;
   members = is.members;
   sent = is.sent;
   within = record {
-    moment = is.within.moment;
+    time = is.within.time;
     sent = is.within.sent;
     published = is.within.published;
     segments = is.within.segments;
@@ -130,7 +132,7 @@ issued_state s made is = record {
   mirrors_few = is.mirrors_few;
 }
 
-module _ (s : GroupState) (is : IsTrueState s) (m : ℕ) (there : m < length s.members) (old : Alone)
+module _ (s : GroupState) (is : IsConsistentState s) (m : ℕ) (there : m < length s.members) (old : MemberState)
     (old_is : old ≡ get_or s.members m old) (client : ℕ) (command : Command) where
   abbrev one_made : Issued
   one_made = record { member = m; client = client; command = command }
@@ -139,7 +141,7 @@ module _ (s : GroupState) (is : IsTrueState s) (m : ℕ) (there : m < length s.m
   issue_answered =
       sym (same_answer (command_answer (world_of s) m command) (commanded.answer_to command old)
       (issue_is_answered (drawing (λ _ _. 0)) (world_of s) m client command s.keys old
-      (in_world s is m there old old_is) (true_in s is m there old old_is)))
+      (in_world s is m there old old_is) (consistent_in s is m there old old_is)))
 
   -- What a client of the group makes is that client's command.
   pub taken_is : client < length s.keys.clients.names → CommandIsSpelled command → is_command command ≡ true
@@ -152,8 +154,8 @@ module _ (s : GroupState) (is : IsTrueState s) (m : ℕ) (there : m < length s.m
       ∙ ap (commanded.order_of s.keys m) e
       ∙ made_orders_are_taken s.keys m client command is.are.group inside known spelled within
 
-  module _ (made : List Issued) (made_is : made ≡ s.issued ++ one_made ∷ []) (b : Alone)
-      (b_is : b ≡ commanded.alone_obeys command old) where
+  module _ (made : List Issued) (made_is : made ≡ s.issued ++ one_made ∷ []) (b : MemberState)
+      (b_is : b ≡ commanded.member_obeys command old) where
     pub issue_world : world_of (record s { members = set s.members m b; issued = made; steps = s.steps + 1 })
         ≡ after_issue (world_of s) m client command
     issue_world =
@@ -164,7 +166,7 @@ module _ (s : GroupState) (is : IsTrueState s) (m : ℕ) (there : m < length s.m
         m there old old_is (Ok (client, command)) b b_is
 
     pub issue_state : s.steps < 100000 → IsShortInsertion command
-        → IsTrueState (record s { members = set s.members m b; issued = made; steps = s.steps + 1 })
+        → IsConsistentState (record s { members = set s.members m b; issued = made; steps = s.steps + 1 })
     issue_state few short =
         obeyed_state (record s { issued = made }) (issued_state s made is) m there old old_is (Ok (client, command)) b
         b_is few short

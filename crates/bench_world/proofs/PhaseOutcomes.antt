@@ -29,12 +29,12 @@ use Rattle.repo_member.specs.StoredParents.{digest_at}
 use Rattle.repo_holdings.specs.HoldingsState.{HoldingsState, held_plan}
 use Rattle.repo_holdings.specs.Taking.{Fetched}
 use Rattle.repo_holdings.specs.Wanting.{nothing_listed, want_at, job_at}
-use Rattle.repo_member.specs.Alone.{Alone}
-use Rattle.repo_member.specs.InGroup.{AreLogs, true_packet, asked_for, that_came}
+use Rattle.repo_member.specs.MemberState.{MemberState}
+use Rattle.repo_member.specs.InGroup.{AreLogs, published_packet, asked_for, that_came}
 use Rattle.repo_member.specs.Outcomes.{outcome_of, octets_in, IsCheckedFor, WereTried}
-use Rattle.repo_member.specs.TrueHolders.{IsTrueHolder}
+use Rattle.repo_member.specs.ConsistentHolders.{IsConsistentHolder}
 use Rattle.repo_member.proofs.PublicLaws.{packets_pass_for_holders}
-use Rattle.bench_world.specs.Worlds.{AreTrueMembers}
+use Rattle.bench_world.specs.Worlds.{AreConsistentMembers}
 use Rattle.bench_world.specs.Others.{place_among_others}
 use Rattle.bench_world.specs.Lending.{or_else, lent, lends, lent_at, lent_first, attempt_comes, if_comes, lent_answer}
 use Rattle.bench_world.specs.Gathering.{lent_one, lent_all}
@@ -45,20 +45,22 @@ use Rattle.bench_world.proofs.Attempts.{none_comes, some_comes}
 
 module _ (g : GroupKeys) (logs : Logs) where
   -- What is lent is the packet of its part.
-  pub lends_true : (others : List Alone) → AreTrueMembers g logs others → (t : Part) (octets : List ℕ)
-      → lent others t ≡ Some octets → true_packet g logs t ≡ Some octets
-  lends_true [] truly t octets e = absurd (none-some octets e)
-  lends_true (m ∷ ms) truly t octets e =
-      go (value_of part_cmp m.store t) refl (lends_true ms (λ j l. truly (suc j) (omega (arith, l))) t octets) where
+  pub lends_consistent : (others : List MemberState) → AreConsistentMembers g logs others → (t : Part) (octets : List ℕ)
+      → lent others t ≡ Some octets → published_packet g logs t ≡ Some octets
+  lends_consistent [] consistent t octets e = absurd (none-some octets e)
+  lends_consistent (m ∷ ms) consistent t octets e =
+      go (value_of part_cmp m.store t) refl (lends_consistent ms (λ j l. consistent (suc j) (omega (arith, l))) t
+      octets) where
         go : (o : Option (List ℕ)) → value_of part_cmp m.store t ≡ o
-            → (lent ms t ≡ Some octets → true_packet g logs t ≡ Some octets) → true_packet g logs t ≡ Some octets
+            → (lent ms t ≡ Some octets → published_packet g logs t ≡ Some octets) → published_packet g logs t
+            ≡ Some octets
         go None h rest = rest (sym (ap (λ (x : Option (List ℕ)). or_else x (lent ms t)) h) ∙ e)
         go (Some x) h rest =
-            (truly 0 (omega arith)).packets t octets
+            (consistent 0 (omega arith)).packets t octets
             (h ∙ sym (ap (λ (y : Option (List ℕ)). or_else y (lent ms t)) h) ∙ e)
 
   -- One of the members lends what one of them stores.
-  stored_lent : (others : List Alone) (k : ℕ) (t : Part) (octets : List ℕ)
+  stored_lent : (others : List MemberState) (k : ℕ) (t : Part) (octets : List ℕ)
       → lent_at (slice_get others k) t ≡ Some octets → is_some (lent others t) ≡ true
   stored_lent [] k t octets e = absurd (none-some octets e)
   stored_lent (m ∷ ms) zero t octets e = ap (λ (o : Option (List ℕ)). is_some (or_else o (lent ms t))) e
@@ -67,16 +69,18 @@ module _ (g : GroupKeys) (logs : Logs) where
     go None h = h
     go (Some x) h = refl
 
-  stored_true : (others : List Alone) (k : ℕ) (t : Part) (octets : List ℕ) → AreTrueMembers g logs others
-      → lent_at (slice_get others k) t ≡ Some octets → true_packet g logs t ≡ Some octets
-  stored_true [] k t octets truly e = absurd (none-some octets e)
-  stored_true (m ∷ ms) zero t octets truly e = (truly 0 (omega arith)).packets t octets e
-  stored_true (m ∷ ms) (suc k) t octets truly e = stored_true ms k t octets (λ j l. truly (suc j) (omega (arith, l))) e
+  stored_consistent : (others : List MemberState) (k : ℕ) (t : Part) (octets : List ℕ)
+      → AreConsistentMembers g logs others
+      → lent_at (slice_get others k) t ≡ Some octets → published_packet g logs t ≡ Some octets
+  stored_consistent [] k t octets consistent e = absurd (none-some octets e)
+  stored_consistent (m ∷ ms) zero t octets consistent e = (consistent 0 (omega arith)).packets t octets e
+  stored_consistent (m ∷ ms) (suc k) t octets consistent e = stored_consistent ms k t octets
+      (λ j l. consistent (suc j) (omega (arith, l))) e
 
   -- Whoever is asked first, what is lent is the same.
-  pub first_is_lent : (others : List Alone) (asker : ℕ) (t : Part) → AreTrueMembers g logs others
+  pub first_is_lent : (others : List MemberState) (asker : ℕ) (t : Part) → AreConsistentMembers g logs others
       → lent_first others asker t ≡ lent others t
-  first_is_lent others asker t truly =
+  first_is_lent others asker t consistent =
       go (lent_at (slice_get others (place_among_others asker t.publisher)) t) (lent others t) refl refl where
         go : (x y : Option (List ℕ)) → lent_at (slice_get others (place_among_others asker t.publisher)) t ≡ x
             → lent others t ≡ y → or_else x y ≡ y
@@ -85,8 +89,8 @@ module _ (g : GroupKeys) (logs : Logs) where
             absurd
             (true≢false (sym (stored_lent others (place_among_others asker t.publisher) t octets e) ∙ ap is_some f))
         go (Some octets) (Some other) e f =
-            sym (stored_true others (place_among_others asker t.publisher) t octets truly e)
-            ∙ lends_true others truly t other f
+            sym (stored_consistent others (place_among_others asker t.publisher) t octets consistent e)
+            ∙ lends_consistent others consistent t other f
 
 -- ---- what is checked
 
@@ -206,9 +210,10 @@ want_part g h t =
       go false true = refl
       go false false = refl
 
-module _ (passes : ℕ → ℕ → ℕ → ℕ → ℕ → ℕ → Bool) (g : GroupKeys) (logs : Logs) (h : HoldingsState) (others : List Alone)
-    (asker : ℕ) (loss : Option ℕ) (are : AreLogs g logs) (truly : IsTrueHolder g logs h)
-    (all : AreTrueMembers g logs others) where
+module _ (passes : ℕ → ℕ → ℕ → ℕ → ℕ → ℕ → Bool) (g : GroupKeys) (logs : Logs) (h : HoldingsState)
+    (others : List MemberState)
+    (asker : ℕ) (loss : Option ℕ) (are : AreLogs g logs) (consistent : IsConsistentHolder g logs h)
+    (all : AreConsistentMembers g logs others) where
   abbrev answer : WantedPart → ℕ → Option (List ℕ)
   answer = lent_answer passes others asker loss
 
@@ -254,7 +259,7 @@ module _ (passes : ℕ → ℕ → ℕ → ℕ → ℕ → ℕ → Bool) (g : Gr
           ≡ cond b (Some (checked_part (want t) g.members.ring octets)) None
       whole octets e true =
           passed_whole g (want t) octets (ring_verdict (want t) g.members.ring octets)
-          (packets_pass_for_holders g logs h t octets are truly w (lends_true g logs others all t octets e))
+          (packets_pass_for_holders g logs h t octets are consistent w (lends_consistent g logs others all t octets e))
       whole octets e false = refl
 
       go : (o : Option (List ℕ)) → lent others t ≡ o
@@ -342,7 +347,7 @@ module _ (passes : ℕ → ℕ → ℕ → ℕ → ℕ → ℕ → Bool) (g : Gr
 
 -- ---- the parts that came
 
-pub came_lent : (others : List Alone) (ts : List Part) → that_came (lent_all others ts) ≡ filter (lends others) ts
+pub came_lent : (others : List MemberState) (ts : List Part) → that_came (lent_all others ts) ≡ filter (lends others) ts
 came_lent others [] = refl
 came_lent others (t ∷ ts) = go (lends others t) (came_lent others ts) where
   go : (b : Bool) → that_came (lent_all others ts) ≡ filter (lends others) ts

@@ -23,19 +23,20 @@ use Rattle.repo_member.specs.Groups.{GroupKeys}
 use Rattle.repo_holdings.specs.HoldingsState.{HoldingsState, held_plan}
 use Rattle.repo_holdings.specs.Taking.{Fetched}
 use Rattle.repo_holdings.specs.Wanting.{job_at}
-use Rattle.repo_member.specs.Alone.{Alone}
-use Rattle.repo_member.specs.InGroup.{AreLogs, true_packet, that_came}
+use Rattle.repo_member.specs.MemberState.{MemberState}
+use Rattle.repo_member.specs.InGroup.{AreLogs, published_packet, that_came}
 use Rattle.repo_member.specs.Outcomes.{outcome_of, octets_in, AreJobsOf, IsOutcomeOf}
-use Rattle.repo_member.specs.TrueHolders.{IsTrueHolder}
+use Rattle.repo_member.specs.ConsistentHolders.{IsConsistentHolder}
 use Rattle.repo_member.proofs.PublicLaws.{holders_want_published, rising_jobs_are_planned, holder_jobs_are_outcomes}
-use Rattle.bench_world.specs.Worlds.{AreTrueMembers}
+use Rattle.bench_world.specs.Worlds.{AreConsistentMembers}
 use Rattle.bench_world.specs.Truth.{TriedFew}
 use Rattle.bench_world.specs.Sizes.{size_of}
 use Rattle.bench_world.specs.Lending.{lent, lends, attempt_comes, lent_answer}
 use Rattle.bench_world.specs.Gathering.{lent_one, lent_all}
 use Rattle.bench_world.specs.Fetching.{attempt_at, fetched_one, fetched_all}
 use Rattle.bench_world.proofs.NextParts.{AreAsked, all_from_in, from_slice_get}
-use Rattle.bench_world.proofs.PhaseOutcomes.{lends_true, were_tried, none_counted, first_lengths, counted, octets_sum}
+use Rattle.bench_world.proofs.PhaseOutcomes.{lends_consistent, were_tried, none_counted, first_lengths, counted}
+use Rattle.bench_world.proofs.PhaseOutcomes.{octets_sum}
 use Rattle.bench_world.proofs.PhaseOutcomes.{fetched_is, lent_is, came_lent, want_part}
 
 -- What came where something passed is that.
@@ -54,23 +55,24 @@ pub record FetchComes (g : GroupKeys) (logs : Logs) (h : HoldingsState) (came : 
   pub many : length counts ≡ length jobs
 
 -- What came of a phase of a settle, in which no attempt is counted.
-pub record GatherComes (g : GroupKeys) (logs : Logs) (h : HoldingsState) (others : List Alone) (ts : List Part)
+pub record GatherComes (g : GroupKeys) (logs : Logs) (h : HoldingsState) (others : List MemberState) (ts : List Part)
     (jobs : List Job) (values : List (Option CheckedPart)) (zeros : List ℕ) : Type 0 where
   pub outcome : IsOutcomeOf g h jobs values zeros
   pub is : outcome_of jobs values zeros ≡ lent_all others ts
   pub parts : count_by is_some values ≡ length ts
   pub octets : sum_by octets_in values ≡ sum_by (size_of g logs) ts
 
-module _ (passes : ℕ → ℕ → ℕ → ℕ → ℕ → ℕ → Bool) (g : GroupKeys) (logs : Logs) (h : HoldingsState) (others : List Alone)
-    (asker : ℕ) (loss : Option ℕ) (are : AreLogs g logs) (truly : IsTrueHolder g logs h)
-    (all : AreTrueMembers g logs others)
+module _ (passes : ℕ → ℕ → ℕ → ℕ → ℕ → ℕ → Bool) (g : GroupKeys) (logs : Logs) (h : HoldingsState)
+    (others : List MemberState)
+    (asker : ℕ) (loss : Option ℕ) (are : AreLogs g logs) (consistent : IsConsistentHolder g logs h)
+    (all : AreConsistentMembers g logs others)
     (tried : TriedFew h) (ts : List Part) (asks : AreAsked h ts) (jobs : List Job)
     (jobs_are : jobs ≡ map (job_at g.members.names g.name h) ts) (ring : List NamedKey)
     (ring_is : ring ≡ g.members.ring) where
   planned : AreJobsOf g h jobs
   planned =
       subst (AreJobsOf g h) (sym jobs_are)
-      (rising_jobs_are_planned g h ts are.group.members (sym (truly.vector.width ∙ are.width)) asks.rise
+      (rising_jobs_are_planned g h ts are.group.members (sym (consistent.vector.width ∙ are.width)) asks.rise
       (all_from_in (λ t. is_unclaimed (held_plan h) t ≡ true) ts asks.unclaimed))
 
   wanted : (t : Part) → In t ts → is_wanted (held_plan h) t ≡ true
@@ -112,9 +114,9 @@ module _ (passes : ℕ → ℕ → ℕ → ℕ → ℕ → ℕ → Bool) (g : Gr
   size_lent t octets i e =
       let there : contains part_cmp (all_parts logs) t ≡ true =
       contains_in exact_parts (all_parts logs) t
-      (in_all_parts logs t (holders_want_published g logs h t are truly (wanted t i))) in
-      ap (λ (b : Bool). cond b (length (unwrap_or (true_packet g logs t) [])) 0) there
-      ∙ ap (λ (o : Option (List ℕ)). length (unwrap_or o [])) (lends_true g logs others all t octets e)
+      (in_all_parts logs t (holders_want_published g logs h t are consistent (wanted t i))) in
+      ap (λ (b : Bool). cond b (length (unwrap_or (published_packet g logs t) [])) 0) there
+      ∙ ap (λ (o : Option (List ℕ)). length (unwrap_or o [])) (lends_consistent g logs others all t octets e)
 
   module _ (tries : ℕ) (few : tries ≤ 16) (asked : List Job)
       (asked_are : asked ≡ map (job_at g.members.names g.name h) ts) (parts values : List (Option CheckedPart))
@@ -155,7 +157,7 @@ module _ (passes : ℕ → ℕ → ℕ → ℕ → ℕ → ℕ → Bool) (g : Gr
         ≡ fetched_all (attempt_comes passes asker loss) others tries h ts
     fetch_is =
         ap (λ (js : List Job). outcome_of js values counts) jobs_are
-        ∙ fetched_is passes g logs h others asker loss are truly all tries ts wanted values counts
+        ∙ fetched_is passes g logs h others asker loss are consistent all tries ts wanted values counts
         first_planned
 
     fetch_parts : count_by is_some values
@@ -227,7 +229,7 @@ module _ (passes : ℕ → ℕ → ℕ → ℕ → ℕ → ℕ → Bool) (g : Gr
     gather_is =
         ap (outcome_of jobs values) zeros_are
         ∙ ap (λ (js : List Job). outcome_of js values (replicate (length js) 0)) jobs_are
-        ∙ lent_is passes g logs h others asker loss are truly all none ts wanted values ns
+        ∙ lent_is passes g logs h others asker loss are consistent all none ts wanted values ns
         (first_planned 1 (omega arith) asked asked_are parts values values_are ns ns refl first)
 
     gather_parts : count_by is_some values ≡ length ts

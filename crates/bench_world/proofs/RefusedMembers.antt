@@ -1,12 +1,12 @@
--- The member that a refused sync Interest tells of is one of the roster.
+-- The member that a refused sync Interest reports is one of the roster.
 use Rattle.std.proofs.Common.{ℕ, Bool, true, false, List, [], length}
 use Rattle.std.specs.Prelude.{Result, Ok, Err, IfErr, unwrap_or}
 use Rattle.ndn_tlv.specs.Listing.{◌>>=◌}
 use Rattle.ndn_name.specs.declared.fault.PacketFault.{PacketFault}
 use Rattle.ndn_name.specs.Names.{Component}
 use Rattle.ndn_sign.specs.Ring.{NamedKey}
-use Rattle.ndn_interest.specs.declared.signature_refusal.SignatureRefusal.{SignatureRefusal}
-use Rattle.ndn_interest.specs.declared.signature_refusal.SignatureRefusal.TheVariants as signature
+use Rattle.ndn_interest.specs.declared.signature_error.SignatureError.{SignatureError}
+use Rattle.ndn_interest.specs.declared.signature_error.SignatureError.TheVariants as signature
 use Rattle.ndn_interest.specs.Interest.{Interest, interest_of}
 use Rattle.ndn_interest.specs.Signer.{ensured, signer_of}
 use Rattle.svs_vector.specs.declared.vector_fault.VectorFault.{VectorFault}
@@ -30,13 +30,13 @@ module _ (roster : List (List Component)) where
   of_group true = tt
   of_group false = tt
 
-  of_signature : (x : SignatureRefusal) → Named (unsigned_as x)
+  of_signature : (x : SignatureError) → Named (unsigned_as x)
   of_signature signature.Unsigned = tt
   of_signature signature.ParamsDigest = tt
   of_signature signature.UnknownKey = tt
   of_signature signature.BadSignature = tt
 
-  of_signer : (r : Result ℕ SignatureRefusal) → IfErr (signed_or r) Named
+  of_signer : (r : Result ℕ SignatureError) → IfErr (signed_or r) Named
   of_signer (Ok signer) = tt
   of_signer (Err refusal) = of_signature refusal
 
@@ -48,14 +48,14 @@ module _ (roster : List (List Component)) where
   of_interest : (group : List Component) (ring : List NamedKey) (i : Interest)
       → IfErr (sync_interest_verdict group roster ring i) Named
   of_interest group ring i =
-      let told = vector_of roster (unwrap_or i.parameters []) in
+      let reported = vector_of roster (unwrap_or i.parameters []) in
       err_of_two Named (ensured (is_sync_name group i.name) WrongGroup)
-      (λ u. signed_or (signer_of ring i) >>= λ signer. vector_or told >>= λ v. Ok (signer, v))
+      (λ u. signed_or (signer_of ring i) >>= λ signer. vector_or reported >>= λ v. Ok (signer, v))
       (of_group (is_sync_name group i.name))
-      (λ u. err_of_two Named (signed_or (signer_of ring i)) (λ signer. vector_or told >>= λ v. Ok (signer, v))
+      (λ u. err_of_two Named (signed_or (signer_of ring i)) (λ signer. vector_or reported >>= λ v. Ok (signer, v))
       (of_signer (signer_of ring i))
-      (λ signer. err_of_two Named (vector_or told) (λ v. Ok (signer, v))
-      (of_numbers told
+      (λ signer. err_of_two Named (vector_or reported) (λ v. Ok (signer, v))
+      (of_numbers reported
       (of_vector roster (FaultNamesMember (length roster)) (λ at. tt) (λ m n there. there) (unwrap_or i.parameters [])))
       (λ v. tt)))
 

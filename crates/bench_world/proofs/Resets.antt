@@ -3,63 +3,63 @@ use Rattle.std.proofs.Common.{◌≡◌, ℕ, suc, ◌+◌, ◌≤◌, ◌<◌, 
 use Rattle.std.proofs.Common.{arith}
 use Rattle.group_model.specs.Member.{Member}
 use Rattle.group_model.specs.Events.{Event}
-use Rattle.group_model.specs.World.{World, Outside}
+use Rattle.group_model.specs.World.{World, Environment}
 use Rattle.group_model.specs.Laws.{NothingHidden, AllJoined}
 use Rattle.group_model.specs.Limits.{IsWithinSteps}
 use Rattle.group_model.specs.Steps.{after_gathering, after_settle, reset_each}
 use Rattle.group_model.proofs.PublicLaws.{settle_joins}
-use Rattle.repo_member.specs.Alone.{Alone, alone_resets}
+use Rattle.repo_member.specs.MemberState.{MemberState, member_resets}
 use Rattle.repo_member.specs.InGroup.{in_group}
-use Rattle.repo_member.specs.TrueMembers.{IsTrueMember}
-use Rattle.repo_member.proofs.PublicLaws.{resets_true}
-use Rattle.bench_world.specs.Serving.{outside, keyed}
-use Rattle.bench_world.specs.Worlds.{GroupState, IsTrueState, alone_at, in_groups, logs_around, world_of}
+use Rattle.repo_member.specs.ConsistentMembers.{IsConsistentMember}
+use Rattle.repo_member.proofs.PublicLaws.{resets_consistent}
+use Rattle.bench_world.specs.Serving.{environment, keyed}
+use Rattle.bench_world.specs.Worlds.{GroupState, IsConsistentState, state_at, in_groups, logs_around, world_of}
 use Rattle.bench_world.proofs.States.{member_within, changed_state, sound_state, within_more}
 use Rattle.bench_world.proofs.PacketSizes.{size_short}
 
-pub all_few : (s : GroupState) → IsTrueState s → (j : ℕ) → (alone_at s.members j).machine.draws < 2 ^ 62
+pub all_few : (s : GroupState) → IsConsistentState s → (j : ℕ) → (state_at s.members j).machine.draws < 2 ^ 62
 all_few s is j =
-    let a : (alone_at s.members j).machine.draws ≤ s.steps + 1 = (member_within s is j).draws in
+    let a : (state_at s.members j).machine.draws ≤ s.steps + 1 = (member_within s is j).draws in
     let few = is.steps in omega (arith, a, few)
 
-resets_from : (out : Outside) (moment k : ℕ) (ms new : List Alone) → length new ≡ length ms
+resets_from : (out : Environment) (time k : ℕ) (ms new : List MemberState) → length new ≡ length ms
     → ((j : ℕ) → j < length ms
-    → alone_at new j ≡ alone_resets moment (out.draw (k + j) (alone_at ms j).machine.draws) (alone_at ms j))
-    → in_groups new ≡ reset_each out moment k (in_groups ms)
-resets_from out moment k [] [] len each = refl
-resets_from out moment k [] (x ∷ xs) len each = absurd (omega (arith, len))
-resets_from out moment k (m ∷ ms) [] len each = absurd (omega (arith, len))
-resets_from out moment k (m ∷ ms) (n ∷ ns) len each =
+    → state_at new j ≡ member_resets time (out.draw (k + j) (state_at ms j).machine.draws) (state_at ms j))
+    → in_groups new ≡ reset_each out time k (in_groups ms)
+resets_from out time k [] [] len each = refl
+resets_from out time k [] (x ∷ xs) len each = absurd (omega (arith, len))
+resets_from out time k (m ∷ ms) [] len each = absurd (omega (arith, len))
+resets_from out time k (m ∷ ms) (n ∷ ns) len each =
     let none : k + 0 ≡ k = omega arith in
-    let head : in_group n ≡ in_group (alone_resets moment (out.draw k m.machine.draws) m) =
-    ap in_group (each 0 (omega arith) ∙ ap (λ (i : ℕ). alone_resets moment (out.draw i m.machine.draws) m) none) in
-    let tail : in_groups ns ≡ reset_each out moment (k + 1) (in_groups ms) =
-    resets_from out moment (k + 1) ms ns (omega (arith, len)) (λ j l.
+    let head : in_group n ≡ in_group (member_resets time (out.draw k m.machine.draws) m) =
+    ap in_group (each 0 (omega arith) ∙ ap (λ (i : ℕ). member_resets time (out.draw i m.machine.draws) m) none) in
+    let tail : in_groups ns ≡ reset_each out time (k + 1) (in_groups ms) =
+    resets_from out time (k + 1) ms ns (omega (arith, len)) (λ j l.
     let next : k + suc j ≡ k + 1 + j = omega arith in
     each (suc j) (omega (arith, l))
-    ∙ ap (λ (i : ℕ). alone_resets moment (out.draw i (alone_at ms j).machine.draws) (alone_at ms j)) next) in
+    ∙ ap (λ (i : ℕ). member_resets time (out.draw i (state_at ms j).machine.draws) (state_at ms j)) next) in
     λ i. head i ∷ tail i
 
-module _ (s : GroupState) (is : IsTrueState s) (few : s.steps < 100000) (draw : ℕ → ℕ → ℕ)
-    (passes : ℕ → ℕ → ℕ → ℕ → ℕ → ℕ → Bool) (mid : GroupState) (truly : IsTrueState mid)
+module _ (s : GroupState) (is : IsConsistentState s) (few : s.steps < 100000) (draw : ℕ → ℕ → ℕ)
+    (passes : ℕ → ℕ → ℕ → ℕ → ℕ → ℕ → Bool) (mid : GroupState) (consistent : IsConsistentState mid)
     (world_is : world_of mid ≡ after_gathering (keyed s.keys) (world_of s)) (steps_are : mid.steps ≡ s.steps + 1)
-    (new : List Alone) (len : length new ≡ length mid.members)
+    (new : List MemberState) (len : length new ≡ length mid.members)
     (each : (j : ℕ) → j < length mid.members
-    → alone_at new j
-    ≡ alone_resets mid.moment (draw j (alone_at mid.members j).machine.draws) (alone_at mid.members j)) where
-  abbrev out : Outside
-  out = outside s.keys draw passes
+    → state_at new j
+    ≡ member_resets mid.time (draw j (state_at mid.members j).machine.draws) (state_at mid.members j)) where
+  abbrev out : Environment
+  out = environment s.keys draw passes
 
   pub reset_world : world_of (record mid { members = new }) ≡ after_settle out (world_of s)
   reset_world =
-      let members : in_groups new ≡ reset_each out mid.moment 0 (in_groups mid.members) =
-      resets_from out mid.moment 0 mid.members new len (λ j l.
+      let members : in_groups new ≡ reset_each out mid.time 0 (in_groups mid.members) =
+      resets_from out mid.time 0 mid.members new len (λ j l.
       let none : j ≡ 0 + j = omega arith in
       each j l
-      ∙ ap (λ (i : ℕ). alone_resets mid.moment (draw i (alone_at mid.members j).machine.draws) (alone_at mid.members j))
+      ∙ ap (λ (i : ℕ). member_resets mid.time (draw i (state_at mid.members j).machine.draws) (state_at mid.members j))
       none) in
       ap (λ (ms : List Member). let w : World = record (world_of mid) { members = ms } in w) members
-      ∙ ap (λ (w : World). let x : World = record w { members = reset_each out w.moment 0 w.members } in x) world_is
+      ∙ ap (λ (w : World). let x : World = record w { members = reset_each out w.time 0 w.members } in x) world_is
 
   pub reset_joined : NothingHidden (world_of (record mid { members = new }))
       → AllJoined (world_of (record mid { members = new }))
@@ -67,15 +67,16 @@ module _ (s : GroupState) (is : IsTrueState s) (few : s.steps < 100000) (draw : 
       subst (λ (w : World). NothingHidden w → AllJoined w) (sym reset_world)
       (settle_joins out (world_of s) (sound_state s is))
 
-  pub reset_state : IsTrueState (record mid { members = new })
+  pub reset_state : IsConsistentState (record mid { members = new })
   reset_state =
       let within : IsWithinSteps (s.steps + 1) (after_settle out (world_of s)) =
       within_more s is few out (λ t. size_short s.keys (logs_around s.members) is.are t) Event.Settle tt in
-      changed_state mid truly new mid.sent mid.moment mid.tally mid.steps len
-      (λ j l. ap (λ (a : Alone). a.number) (each j (omega (arith, l, len))) ∙ truly.numbers j (omega (arith, l, len)))
-      (λ j l. subst (IsTrueMember mid.keys (logs_around mid.members)) (sym (each j (omega (arith, l, len))))
-      (resets_true mid.keys (logs_around mid.members) mid.moment (draw j (alone_at mid.members j).machine.draws)
-      (alone_at mid.members j) (truly.members j (omega (arith, l, len)))))
-      truly.sent (omega arith) truly.steps
+      changed_state mid consistent new mid.sent mid.time mid.tally mid.steps len
+      (λ j l. ap (λ (a : MemberState). a.number) (each j (omega (arith, l, len)))
+      ∙ consistent.numbers j (omega (arith, l, len)))
+      (λ j l. subst (IsConsistentMember mid.keys (logs_around mid.members)) (sym (each j (omega (arith, l, len))))
+      (resets_consistent mid.keys (logs_around mid.members) mid.time (draw j (state_at mid.members j).machine.draws)
+      (state_at mid.members j) (consistent.members j (omega (arith, l, len)))))
+      consistent.sent (omega arith) consistent.steps
       (subst (λ (k : ℕ). IsWithinSteps k (world_of (record mid { members = new }))) (sym steps_are)
       (subst (IsWithinSteps (s.steps + 1)) (sym reset_world) within))

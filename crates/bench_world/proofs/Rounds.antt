@@ -21,10 +21,10 @@ use Rattle.group_model.proofs.Parts.{all_parts_rise}
 use Rattle.group_model.proofs.Among.{in_all_parts}
 use Rattle.group_model.proofs.SortedSets.{same_members, shorter}
 use Rattle.repo_member.specs.Groups.{GroupKeys}
-use Rattle.repo_member.specs.Alone.{Alone}
-use Rattle.repo_member.specs.InGroup.{AreLogs, true_packet}
+use Rattle.repo_member.specs.MemberState.{MemberState}
+use Rattle.repo_member.specs.InGroup.{AreLogs, published_packet}
 use Rattle.repo_member.proofs.PublicLaws.{holders_want_published}
-use Rattle.bench_world.specs.Worlds.{AreTrueMembers}
+use Rattle.bench_world.specs.Worlds.{AreConsistentMembers}
 use Rattle.bench_world.specs.Sizes.{size_of}
 use Rattle.bench_world.specs.Truth.{TriedFew}
 use Rattle.bench_world.specs.Lending.{lent, lends}
@@ -35,7 +35,7 @@ use Rattle.bench_world.proofs.PacketSizes.{size_short}
 use Rattle.bench_world.proofs.SetSums.{sum_insert_keys, ones}
 use Rattle.bench_world.proofs.NextParts.{all_from_in, in_some, none_pass, AreAsked, lent_asked, lent_later, all_lent}
 use Rattle.bench_world.proofs.NextParts.{lent_none, place_later}
-use Rattle.bench_world.proofs.PhaseOutcomes.{lends_true, came_lent}
+use Rattle.bench_world.proofs.PhaseOutcomes.{lends_consistent, came_lent}
 
 module _ {H : Type 0} (words : HolderWords H) (holders : AreHolders words) where
   -- ---- parts that there are
@@ -43,33 +43,34 @@ module _ {H : Type 0} (words : HolderWords H) (holders : AreHolders words) where
   module _ (g : GroupKeys) (logs : Logs) (are : AreLogs g logs) where
     open_is : (s : H) → words.is_true g logs s → (t : Part) → is_unclaimed (held_plan (words.holdings s)) t ≡ true
         → In t (all_parts logs)
-    open_is s truly t u =
+    open_is s consistent t u =
         in_all_parts logs t
-        (holders_want_published g logs (words.holdings s) t are (holders.holder g logs s truly)
+        (holders_want_published g logs (words.holdings s) t are (holders.holder g logs s consistent)
         (and_parts (is_wanted (held_plan (words.holdings s)) t) _ u).0)
 
     few_stored : (s : H) → words.is_true g logs s → length (words.held s) ≤ length (all_parts logs)
-    few_stored s truly =
-        shorter exact_parts (words.held s) (all_parts logs) (holders.in_order g logs s truly) (all_parts_rise logs)
-        (λ t i. in_all_parts logs t (holders.published g logs s t truly (contains_in exact_parts (words.held s) t i)))
+    few_stored s consistent =
+        shorter exact_parts (words.held s) (all_parts logs) (holders.in_order g logs s consistent) (all_parts_rise logs)
+        (λ t i. in_all_parts logs t (holders.published g logs s t consistent
+        (contains_in exact_parts (words.held s) t i)))
 
     pub few_held : (s : H) → words.is_true g logs s → held_sum words one_each s ≤ length (all_parts logs)
-    few_held s truly =
+    few_held s consistent =
         let n : held_sum words one_each s ≡ length (words.held s) = ones (words.held s) in
-        let most : length (words.held s) ≤ length (all_parts logs) = few_stored s truly in
+        let most : length (words.held s) ≤ length (all_parts logs) = few_stored s consistent in
         omega (arith, n, most)
 
     pub few_octets : (s : H) → words.is_true g logs s
         → held_sum words (size_of g logs) s ≤ length (all_parts logs) * 8800
-    few_octets s truly =
+    few_octets s consistent =
         let sum : held_sum words (size_of g logs) s ≤ length (words.held s) * 8800 =
         sum_by-le (size_of g logs) 8800 (words.held s)
         (λ k d l. size_short g logs are (slice_index_or (words.held s) k d)) in
-        let most : length (words.held s) ≤ length (all_parts logs) = few_stored s truly in
+        let most : length (words.held s) ≤ length (all_parts logs) = few_stored s consistent in
         omega (arith, sum, most)
 
   -- What was tried few times is still.
-  pub tried_still : (g : GroupKeys) (logs : Logs) (others : List Alone) (a b : H)
+  pub tried_still : (g : GroupKeys) (logs : Logs) (others : List MemberState) (a b : H)
       → GainsParts words g logs others a b → TriedFew (words.holdings a) → TriedFew (words.holdings b)
   tried_still g logs others a b gains few t =
       let h : attempts_of (held_plan (words.holdings a)) t + 16 < 2097152 = few t in
@@ -79,11 +80,11 @@ module _ {H : Type 0} (words : HolderWords H) (holders : AreHolders words) where
       ap (λ (ns : List (Part × ℕ)). unwrap_or (value_of part_cmp ns t) 0) tried in
       omega (arith, h, e)
 
-  module _ (g : GroupKeys) (logs : Logs) (others : List Alone) (are : AreLogs g logs)
-      (all : AreTrueMembers g logs others) where
+  module _ (g : GroupKeys) (logs : Logs) (others : List MemberState) (are : AreLogs g logs)
+      (all : AreConsistentMembers g logs others) where
     -- ---- a phase
 
-    module _ (a : H) (truly : words.is_true g logs a) (ts : List Part)
+    module _ (a : H) (consistent : words.is_true g logs a) (ts : List Part)
         (all_open : (t : Part) → In t ts → is_unclaimed (held_plan (words.holdings a)) t ≡ true) where
       -- What is lent comes truly.
       come : All (CameForHolder g logs (words.holdings a)) (lent_all others ts)
@@ -92,22 +93,22 @@ module _ {H : Type 0} (words : HolderWords H) (holders : AreHolders words) where
           subst (CameForHolder g logs (words.holdings a)) (sym r.2)
           (record { unclaimed = all_open r.0 r.1; packet = one r.0 (lent others r.0) refl })) where
             one : (t : Part) (o : Option (List ℕ)) → lent others t ≡ o
-                → IfSome o (λ octets. true_packet g logs t ≡ Some octets)
+                → IfSome o (λ octets. published_packet g logs t ≡ Some octets)
             one t None e = tt
-            one t (Some octets) e = lends_true g logs others all t octets e
+            one t (Some octets) e = lends_consistent g logs others all t octets e
 
       no_tries : All (λ (x : Fetched). x.attempts ≡ 0) (lent_all others ts)
       no_tries = all_from_in (λ (x : Fetched). x.attempts ≡ 0) (lent_all others ts) (λ x i.
           let r : (t : Part) × (In t ts) × (x ≡ lent_one others t) = from_map (lent_one others) ts x i in
           ap (λ (y : Fetched). y.attempts) r.2)
 
-      taken_truly : words.is_true g logs (words.takes (lent_all others ts) a)
-      taken_truly = holders.takes_truly g logs (lent_all others ts) a are come truly
+      taken_consistently : words.is_true g logs (words.takes (lent_all others ts) a)
+      taken_consistently = holders.takes_consistently g logs (lent_all others ts) a are come consistent
 
       taken_has : (t : Part) → has words (words.takes (lent_all others ts) a) t
           ≡ (contains part_cmp (filter (lends others) ts) t || has words a t)
       taken_has t =
-          holders.takes_those g logs (lent_all others ts) a t are come truly
+          holders.takes_those g logs (lent_all others ts) a t are come consistent
           ∙ ap (λ (us : List Part). contains part_cmp us t || has words a t) (came_lent others ts)
 
       held_taken : words.held (words.takes (lent_all others ts) a)
@@ -115,14 +116,14 @@ module _ {H : Type 0} (words : HolderWords H) (holders : AreHolders words) where
       held_taken =
           same_members exact_parts (words.held (words.takes (lent_all others ts) a))
           (insert_keys (filter (lends others) ts) (words.held a))
-          (holders.in_order g logs (words.takes (lent_all others ts) a) taken_truly)
-          (rises_insert_keys (filter (lends others) ts) (words.held a) (holders.in_order g logs a truly))
+          (holders.in_order g logs (words.takes (lent_all others ts) a) taken_consistently)
+          (rises_insert_keys (filter (lends others) ts) (words.held a) (holders.in_order g logs a consistent))
           (λ t. taken_has t ∙ sym (contains-insert_keys (filter (lends others) ts) (words.held a) t))
 
       pub phase_gains : GainsParts words g logs others a (words.takes (lent_all others ts) a)
       phase_gains = record {
         rest = holders.rest_stays (lent_all others ts) a no_tries;
-        truly = taken_truly;
+        consistent = taken_consistently;
         kept = λ t h. taken_has t ∙ or_right (contains part_cmp (filter (lends others) ts) t) (has words a t) h;
         came = λ t h. elim
             (or_cases (contains part_cmp (filter (lends others) ts) t) (has words a t) (sym (taken_has t) ∙ h)) [
@@ -144,7 +145,7 @@ module _ {H : Type 0} (words : HolderWords H) (holders : AreHolders words) where
       phase_counts weight rise =
           sym (ap (sum_by weight) held_taken
           ∙ sum_insert_keys weight (filter (lends others) ts) (words.held a)
-          (rises_filter exact_parts.total (lends others) ts rise) (holders.in_order g logs a truly) not_held)
+          (rises_filter exact_parts.total (lends others) ts rise) (holders.in_order g logs a consistent) not_held)
 
       pub phase_nothing : length (filter (lends others) ts) ≡ 0 → words.takes (lent_all others ts) a ≡ a
       phase_nothing e =
@@ -160,13 +161,13 @@ module _ {H : Type 0} (words : HolderWords H) (holders : AreHolders words) where
     -- ---- rounds
 
     pub gains_none : (a : H) → words.is_true g logs a → GainsParts words g logs others a a
-    gains_none a truly = record { rest = refl; truly = truly; kept = λ t h. h; came = λ t h. inl h }
+    gains_none a consistent = record { rest = refl; consistent = consistent; kept = λ t h. h; came = λ t h. inl h }
 
     pub gains_both : (a b c : H) → GainsParts words g logs others a b → GainsParts words g logs others b c
         → GainsParts words g logs others a c
     gains_both a b c h k = record {
       rest = k.rest ∙ h.rest;
-      truly = k.truly;
+      consistent = k.consistent;
       kept = λ t s. k.kept t (h.kept t s);
       came = λ t s. elim (k.came t s) [ inl was ↦ h.came t was | inr new ↦ inr new ];
     }
@@ -176,8 +177,8 @@ module _ {H : Type 0} (words : HolderWords H) (holders : AreHolders words) where
     counts_both weight n m a b c h k = omega (arith, h, k)
 
     pub round_begins : (a : H) → words.is_true g logs a → RoundSoFar words g logs others None 0 a a
-    round_begins a truly =
-        record { gains = gains_none a truly; count = omega arith; still = λ e t u past. absurd (true≢false past) }
+    round_begins a consistent =
+        record { gains = gains_none a consistent; count = omega arith; still = λ e t u past. absurd (true≢false past) }
 
     module _ (after : Option Part) (kept : ℕ) (old mid : H) (so_far : RoundSoFar words g logs others after kept old mid)
         (new : H) (came : ℕ)
@@ -195,13 +196,13 @@ module _ {H : Type 0} (words : HolderWords H) (holders : AreHolders words) where
       phase : GainsParts words g logs others mid new
       phase =
           subst (GainsParts words g logs others mid) (sym new_is)
-          (phase_gains mid so_far.gains.truly asked asks.unclaimed)
+          (phase_gains mid so_far.gains.consistent asked asks.unclaimed)
 
       pub went_counts : (weight : Part → ℕ) (n : ℕ) → n ≡ sum_by weight asked → Counts words weight n mid new
       went_counts weight n e =
           ap (λ (k : ℕ). k + held_sum words weight mid) (e ∙ ap (sum_by weight) (sym all_come))
           ∙ subst (Counts words weight (sum_by weight (filter (lends others) asked)) mid) (sym new_is)
-          (phase_counts mid so_far.gains.truly asked asks.unclaimed weight asks.rise)
+          (phase_counts mid so_far.gains.consistent asked asks.unclaimed weight asks.rise)
 
       pub went_gains : GainsParts words g logs others old new
       went_gains = gains_both old mid new so_far.gains phase
@@ -215,7 +216,7 @@ module _ {H : Type 0} (words : HolderWords H) (holders : AreHolders words) where
       stays e =
           let came_all = ap length all_come in
           new_is
-          ∙ phase_nothing mid so_far.gains.truly asked asks.unclaimed (omega (arith, e, came_is, came_all))
+          ∙ phase_nothing mid so_far.gains.consistent asked asks.unclaimed (omega (arith, e, came_is, came_all))
 
       still_open : kept + came ≡ 0 → (t : Part) → is_unclaimed (held_plan (words.holdings new)) t ≡ true
           → is_unclaimed (held_plan (words.holdings mid)) t ≡ true
@@ -246,5 +247,5 @@ module _ {H : Type 0} (words : HolderWords H) (holders : AreHolders words) where
           let there : In place asked =
           in_contains exact_parts asked place (subst (IsPlaceIn asked) is at) in
           place_later after place (all_parts logs)
-          (open_is g logs are mid so_far.gains.truly place (asks.unclaimed place there))
+          (open_is g logs are mid so_far.gains.consistent place (asks.unclaimed place there))
           (lent_later (words.holdings mid) after others place there)

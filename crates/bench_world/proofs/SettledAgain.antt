@@ -159,7 +159,7 @@ module _ (w : World) (new : List Member) (group : IsSoundGroup w) (partly : AreP
         }) in
         true≢false
         (sym (gets stopped again j there_new t inside (record {
-          told = wanted.known.to_known;
+          reported = wanted.known.to_known;
           not_hidden = wanted.not_hidden;
           someones = someone_;
           record_too = record_too;
@@ -207,7 +207,7 @@ module _ (old new : GroupState) (part : HaveSettledPart old new) where
       ≡ members_settled (world_of old)
   all_settled =
       members_same (world_of old) (in_groups new.members) (sound_state old part.begun) part.members
-      (subst IsSoundGroup world_is (sound_state new part.truly))
+      (subst IsSoundGroup world_is (sound_state new part.consistent))
 
 pub gathers_again : GathersAgain
 gathers_again out old new part =
@@ -217,5 +217,5 @@ gathers_again out old new part =
 pub settles_again : SettlesAgain
 settles_again out old new part =
     have_same (after_settle out (world_of new)) (after_settle out (world_of old))
-    (ap (λ (w : World). reset_each out w.moment 0 (members_settled w)) (world_is old new part)
-    ∙ ap (reset_each out old.moment 0) (all_settled old new part))
+    (ap (λ (w : World). reset_each out w.time 0 (members_settled w)) (world_is old new part)
+    ∙ ap (reset_each out old.time 0) (all_settled old new part))

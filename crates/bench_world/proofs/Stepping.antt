@@ -1,21 +1,22 @@
 -- What events come to, by the clauses of the methods that carry them out.
 use Rattle.std.proofs.Common.{◌≡◌, ℕ, sym, subst}
 use Rattle.std.specs.Prelude.{Result, Ok, Err, IfOk}
-use Rattle.group_model.specs.World.{Outside}
+use Rattle.group_model.specs.World.{Environment}
 use Rattle.bench_world.specs.declared.event.Happened.{Happened}
-use Rattle.bench_world.specs.declared.event.EventFault.{EventFault}
-use Rattle.bench_world.specs.EventValues.{EventValue, Told, told_value}
+use Rattle.bench_world.specs.declared.event.EventError.{EventError}
+use Rattle.bench_world.specs.EventValues.{EventValue, Reported, reported_value}
 use Rattle.bench_world.specs.Runs.{IsStep}
 use Rattle.bench_world.specs.Steps.{NamesAll}
 use Rattle.bench_world.specs.Worlds.{GroupState}
 
 -- An event that is this one comes to what this one does.
-pub of_event : (out : Outside) (event e : EventValue) (old : GroupState) (r : Result Happened EventFault)
+pub of_event : (out : Environment) (event e : EventValue) (old : GroupState) (r : Result Happened EventError)
     (new : GroupState) → event ≡ e → IsStep out e old r new → IsStep out event old r new
 of_event out event e old r new is = subst (λ (x : EventValue). IsStep out x old r new) (sym is)
 
--- What is told names all members.
-pub all_named : (n : ℕ) (t : Told) (r : Result Happened EventFault) → IfOk r (λ happened. told_value happened ≡ t)
-    → NamesAll n t → IfOk r (λ happened. NamesAll n (told_value happened))
+-- What is reported names all members.
+pub all_named : (n : ℕ) (t : Reported) (r : Result Happened EventError)
+    → IfOk r (λ happened. reported_value happened ≡ t)
+    → NamesAll n t → IfOk r (λ happened. NamesAll n (reported_value happened))
 all_named n t (Ok happened) is all = subst (NamesAll n) (sym is) all
 all_named n t (Err fault) is all = tt

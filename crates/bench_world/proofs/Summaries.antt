@@ -20,14 +20,14 @@ use Rattle.group_model.specs.Steps.{all_totals, catalogue_totals}
 use Rattle.group_model.proofs.Parts.{IsIn, in_published}
 use Rattle.group_model.proofs.Lists.{from_filter, in_at}
 use Rattle.group_model.proofs.Tries.{filter_short}
-use Rattle.repo_member.specs.Alone.{Alone}
+use Rattle.repo_member.specs.MemberState.{MemberState}
 use Rattle.repo_member.specs.InGroup.{in_group}
-use Rattle.repo_member.specs.Listed.{alone_catalogue}
+use Rattle.repo_member.specs.Listed.{member_catalogue}
 use Rattle.repo_member.proofs.PublicLaws.{catalogues_alike}
-use Rattle.bench_world.specs.Sums.{totals_in, HasFewTotals}
-use Rattle.bench_world.specs.Worlds.{GroupState, IsTrueState, nobody, alone_at, in_groups, logs_around, world_of}
+use Rattle.bench_world.specs.MemberTotals.{totals_in, HasFewTotals}
+use Rattle.bench_world.specs.Worlds.{GroupState, IsConsistentState, nobody, state_at, in_groups, logs_around, world_of}
 use Rattle.bench_world.proofs.ClaimedPackets.{post_within}
-use Rattle.bench_world.proofs.States.{in_world, true_in}
+use Rattle.bench_world.proofs.States.{in_world, consistent_in}
 
 -- ---- how much entries come to
 
@@ -62,7 +62,7 @@ few_octets n (Offers object) is =
     omega (arith, few, sum)
 few_octets n (Withdraws seq) is = omega arith
 
-module _ (s : GroupState) (is : IsTrueState s) where
+module _ (s : GroupState) (is : IsConsistentState s) where
   post_of : (q : Publication) → In q (published (logs_around s.members)) → IsPost q.seq q.post
   post_of q i =
       let at : IsIn (logs_around s.members) q = in_published (logs_around s.members) q i in
@@ -91,14 +91,14 @@ module _ (s : GroupState) (is : IsTrueState s) where
         octets = omega (arith, steps, most, kept, same, octets);
       }
 
-  listed : (j : ℕ) → j < length s.members → catalogue_at (world_of s) j ≡ alone_catalogue (alone_at s.members j).store
+  listed : (j : ℕ) → j < length s.members → catalogue_at (world_of s) j ≡ member_catalogue (state_at s.members j).store
   listed j l =
-      let same : alone_at s.members j ≡ get_or s.members j (alone_at s.members j) =
-      get_or_default s.members j nobody (alone_at s.members j) l in
-      catalogues_alike (world_of s) j s.keys (alone_at s.members j) (in_world s is j l (alone_at s.members j) same)
-      (true_in s is j l (alone_at s.members j) same)
+      let same : state_at s.members j ≡ get_or s.members j (state_at s.members j) =
+      get_or_default s.members j nobody (state_at s.members j) l in
+      catalogues_alike (world_of s) j s.keys (state_at s.members j) (in_world s is j l (state_at s.members j) same)
+      (consistent_in s is j l (state_at s.members j) same)
 
-  pub few_totals_at : (j : ℕ) → j < length s.members → HasFewTotals (totals_in (alone_at s.members j))
+  pub few_totals_at : (j : ℕ) → j < length s.members → HasFewTotals (totals_in (state_at s.members j))
   few_totals_at j l =
       subst (λ (es : List Entry). HasFewTotals (catalogue_totals es)) (listed j l) (few_totals (member (world_of s) j))
 
@@ -126,6 +126,6 @@ module _ (s : GroupState) (is : IsTrueState s) where
 
   pub sums_are : (g : CatalogueTotals → ℕ) → map (λ a. g (totals_in a)) s.members ≡ map g (all_totals (world_of s))
   sums_are g = over s.members ∙ ap (map g) totals_are where
-    over : (as_ : List Alone) → map (λ a. g (totals_in a)) as_ ≡ map g (map totals_in as_)
+    over : (as_ : List MemberState) → map (λ a. g (totals_in a)) as_ ≡ map g (map totals_in as_)
     over [] = refl
     over (a ∷ as_) = ap (λ (ns : List ℕ). g (totals_in a) ∷ ns) (over as_)

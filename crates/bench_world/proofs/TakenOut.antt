@@ -6,8 +6,8 @@ use Rattle.std.specs.List.{remove, insert}
 use Rattle.std.proofs.lemmas.Bool.{cases_eq, cases_lt, eq-eqb, lt-ltb, eqb-true, false_from_ne_true, ltb-true}
 use Rattle.std.proofs.lemmas.List.{set-get_or, get_or-set_same}
 use Rattle.std.proofs.lemmas.List.Edits.{get_or-remove_below, get_or-remove_above}
-use Rattle.repo_member.specs.Alone.{Alone}
-use Rattle.bench_world.specs.Worlds.{nobody, alone_at}
+use Rattle.repo_member.specs.MemberState.{MemberState}
+use Rattle.bench_world.specs.Worlds.{nobody, state_at}
 use Rattle.bench_world.specs.Others.{place_among_others, other_at}
 use Rattle.bench_world.specs.Answering.{lender_of}
 
@@ -43,30 +43,30 @@ module _ {A : Type 0} where
     put_between y P was p =
         subst (λ (b : A). P (get_or ms j none) b) (sym put_at) (subst (λ (a : A). P a x) was p)
 
-module _ (ms others : List Alone) (j : ℕ) (there : j < length ms) (are : others ≡ remove ms j) where
+module _ (ms others : List MemberState) (j : ℕ) (there : j < length ms) (are : others ≡ remove ms j) where
   -- The others stand where they stood, or one place before.
-  pub others_at : (i : ℕ) → i ≢ j → alone_at others (place_among_others j i) ≡ alone_at ms i
-  others_at i apart = ap (λ (xs : List Alone). alone_at xs (place_among_others j i)) are ∙ elim (cases_lt i j) [
+  pub others_at : (i : ℕ) → i ≢ j → state_at others (place_among_others j i) ≡ state_at ms i
+  others_at i apart = ap (λ (xs : List MemberState). state_at xs (place_among_others j i)) are ∙ elim (cases_lt i j) [
     | inl below ↦
-        ap (λ (b : Bool). alone_at (remove ms j) (cond b i (i - 1))) (lt-ltb i j below)
+        ap (λ (b : Bool). state_at (remove ms j) (cond b i (i - 1))) (lt-ltb i j below)
         ∙ get_or-remove_below ms j nobody i below there
     | inr above ↦
         let not_below : nat_lt i j ≡ false =
         false_from_ne_true (nat_lt i j) (λ h. let l : i < j = ltb-true i j h in omega (arith, l, above)) in
         let next : (i - 1) + 1 ≡ i = omega (arith, above, apart) in
-        ap (λ (b : Bool). alone_at (remove ms j) (cond b i (i - 1))) not_below
-        ∙ get_or-remove_above ms j nobody (i - 1) (omega (arith, above, apart)) there ∙ ap (alone_at ms) next
+        ap (λ (b : Bool). state_at (remove ms j) (cond b i (i - 1))) not_below
+        ∙ get_or-remove_above ms j nobody (i - 1) (omega (arith, above, apart)) there ∙ ap (state_at ms) next
   ]
 
   -- Who is asked is the member of the number, the one that was taken out too.
-  pub lender_is : (i : ℕ) (x : Alone) → x ≡ alone_at ms j → lender_of x (other_at j others i) ≡ alone_at ms i
+  pub lender_is : (i : ℕ) (x : MemberState) → x ≡ state_at ms j → lender_of x (other_at j others i) ≡ state_at ms i
   lender_is i x x_is = elim (cases_eq i j) [
     | inl same ↦
-        ap (λ (b : Bool). lender_of x (cond b None (Some (alone_at others (place_among_others j i))))) (eq-eqb i j same)
+        ap (λ (b : Bool). lender_of x (cond b None (Some (state_at others (place_among_others j i))))) (eq-eqb i j same)
         ∙ x_is
-        ∙ ap (alone_at ms) (sym same)
+        ∙ ap (state_at ms) (sym same)
     | inr apart ↦
-        ap (λ (b : Bool). lender_of x (cond b None (Some (alone_at others (place_among_others j i)))))
+        ap (λ (b : Bool). lender_of x (cond b None (Some (state_at others (place_among_others j i)))))
         (false_from_ne_true (i == j) (λ h. apart (eqb-true i j h)))
         ∙ others_at i apart
   ]

@@ -15,17 +15,18 @@ use Rattle.group_model.specs.Steps.{timer_at, after_fire, after_restart, drawn}
 use Rattle.group_model.specs.Changes as group
 use Rattle.repo_member.specs.declared.member.syncing.Fire.{Fire}
 use Rattle.repo_member.specs.declared.member.syncing.Fire.TheVariants as does
-use Rattle.repo_member.specs.Fires.{TellsFire}
-use Rattle.repo_member.specs.Alone.{Alone, alone_fires, alone_restarts}
+use Rattle.repo_member.specs.Fires.{ReportsFire}
+use Rattle.repo_member.specs.MemberState.{MemberState, member_fires, member_restarts}
 use Rattle.repo_member.specs.InGroup.{in_group}
 use Rattle.repo_member.specs.Verdicts.{sync_of}
-use Rattle.repo_member.specs.TrueMembers.{IsTrueMember}
-use Rattle.repo_member.proofs.PublicLaws.{fire_is_event, fires_true, restarts_true}
-use Rattle.bench_world.specs.EventValues.{Told, fired_told}
-use Rattle.bench_world.specs.Timers.{after_firing, fire_told}
-use Rattle.bench_world.specs.Worlds.{GroupState, IsTrueState, IsTrueSync, in_groups, logs_around, sync_in, world_of}
+use Rattle.repo_member.specs.ConsistentMembers.{IsConsistentMember}
+use Rattle.repo_member.proofs.PublicLaws.{fire_is_event, fires_consistent, restarts_consistent}
+use Rattle.bench_world.specs.EventValues.{Reported, fired_reported}
+use Rattle.bench_world.specs.Timers.{after_firing, fire_reported}
+use Rattle.bench_world.specs.Worlds.{GroupState, IsConsistentState, IsConsistentSync, in_groups, logs_around, sync_in}
+use Rattle.bench_world.specs.Worlds.{world_of}
 use Rattle.bench_world.specs.Worlds.{drawing}
-use Rattle.bench_world.proofs.States.{truly, number_is, member_is, among, in_world, stepped, stepped_at}
+use Rattle.bench_world.proofs.States.{consistent, number_is, member_is, among, in_world, stepped, stepped_at}
 
 pub all_one : {A : Type 0} (P : A → Type 0) (x : A) → P x → All P (x ∷ [])
 all_one P x h zero d l = h
@@ -33,30 +34,30 @@ all_one P x h (suc k) d l = absurd (omega (arith, l))
 
 -- ---- time
 
-pub later_state : (s : GroupState) → IsTrueState s → s.steps < 100000 → (ms : ℕ) → ms ≤ 1000000000
-    → IsTrueState (record s { moment = s.moment + ms; steps = s.steps + 1 })
+pub later_state : (s : GroupState) → IsConsistentState s → s.steps < 100000 → (ms : ℕ) → ms ≤ 1000000000
+    → IsConsistentState (record s { time = s.time + ms; steps = s.steps + 1 })
 later_state s is few ms short =
-    stepped s is few (drawing (λ _ _. 0)) (λ t. omega arith) (Event.Advance ms) short s.members s.sent (s.moment + ms)
+    stepped s is few (drawing (λ _ _. 0)) (λ t. omega arith) (Event.Advance ms) short s.members s.sent (s.time + ms)
     s.tally refl is.numbers is.members is.sent refl
 
-module _ (s : GroupState) (is : IsTrueState s) (m : ℕ) (there : m < length s.members) (old : Alone)
+module _ (s : GroupState) (is : IsConsistentState s) (m : ℕ) (there : m < length s.members) (old : MemberState)
     (old_is : old ≡ get_or s.members m old) where
-  timer_is : timer_at (world_of s) m ≡ fires_kept s.moment old.known old.machine
-  timer_is = ap (λ (x : Member). fires_kept s.moment x.known x.machine) (member_is s is m there old old_is)
+  timer_is : timer_at (world_of s) m ≡ fires_kept s.time old.known old.machine
+  timer_is = ap (λ (x : Member). fires_kept s.time x.known x.machine) (member_is s is m there old old_is)
 
-  pub fires_so : (n : ℕ) (fire : Fire) (told : Told)
-      → TellsFire (fires_kept s.moment old.known old.machine) (sync_of s.keys old.number old.known) fire
-      → told ≡ fire_told m n fire → n ≡ length s.sent + 1
-      → told ≡ fired_told m (length (map sync_in s.sent) + 1) (timer_at (world_of s) m)
-  fires_so n fire told tells e n_is =
+  pub fires_so : (n : ℕ) (fire : Fire) (reported : Reported)
+      → ReportsFire (fires_kept s.time old.known old.machine) (sync_of s.keys old.number old.known) fire
+      → reported ≡ fire_reported m n fire → n ≡ length s.sent + 1
+      → reported ≡ fired_reported m (length (map sync_in s.sent) + 1) (timer_at (world_of s) m)
+  fires_so n fire reported tells e n_is =
       e
-      ∙ go (fires_kept s.moment old.known old.machine) fire tells
-      ∙ (λ i. fired_told m (count i) (sym timer_is i)) where
+      ∙ go (fires_kept s.time old.known old.machine) fire tells
+      ∙ (λ i. fired_reported m (count i) (sym timer_is i)) where
         count : n ≡ length (map sync_in s.sent) + 1
         count = let k = length-map s.sent sync_in in omega (arith, n_is, k)
 
-        go : (x : Fired) (f : Fire) → TellsFire x (sync_of s.keys old.number old.known) f
-            → fire_told m n f ≡ fired_told m n x
+        go : (x : Fired) (f : Fire) → ReportsFire x (sync_of s.keys old.number old.known) f
+            → fire_reported m n f ≡ fired_reported m n x
         go fired.Early does.Early t = refl
         go fired.Quiet does.Quiet t = refl
         go fired.Send (does.Sent sync) t = refl
@@ -67,34 +68,34 @@ module _ (s : GroupState) (is : IsTrueState s) (m : ℕ) (there : m < length s.m
         go fired.Send does.Early t = absurd t
         go fired.Send does.Quiet t = absurd t
 
-  module _ (b : Alone) (draw : ℕ → ℕ → ℕ) (n : ℕ) (n_is : n ≡ draw m old.machine.draws) where
+  module _ (b : MemberState) (draw : ℕ → ℕ → ℕ) (n : ℕ) (n_is : n ≡ draw m old.machine.draws) where
     drawn_is : n ≡ drawn (drawing draw) (world_of s) m
     drawn_is = n_is ∙ ap (λ (x : Member). draw m x.machine.draws) (sym (member_is s is m there old old_is))
 
     -- ---- a restart
 
-    module _ (b_is : b ≡ alone_restarts s.moment n old) where
+    module _ (b_is : b ≡ member_restarts s.time n old) where
       pub restarted_world : world_of (record s { members = set s.members m b; steps = s.steps + 1 })
           ≡ after_restart (drawing draw) (world_of s) m
       restarted_world =
           ap (λ (ms : List Member). let w : World = record (world_of s) { members = ms } in w)
           (map-set in_group s.members m b
           ∙ ap (set (in_groups s.members) m)
-          (ap in_group b_is ∙ (λ i. group.restarts (drawn_is i) s.moment (sym (member_is s is m there old old_is) i))))
+          (ap in_group b_is ∙ (λ i. group.restarts (drawn_is i) s.time (sym (member_is s is m there old old_is) i))))
 
       pub restarted_state : s.steps < 100000
-          → IsTrueState (record s { members = set s.members m b; steps = s.steps + 1 })
+          → IsConsistentState (record s { members = set s.members m b; steps = s.steps + 1 })
       restarted_state few =
           stepped_at s is few (drawing draw) (λ t. omega arith) (Event.Restart m) tt m there b
-          (ap (λ (a : Alone). a.number) b_is ∙ number_is s is m there old old_is)
-          (subst (IsTrueMember s.keys (logs_around s.members)) (sym b_is)
-          (restarts_true s.keys (logs_around s.members) s.moment n old (truly s is m there old old_is)))
-          s.sent s.moment s.tally is.sent restarted_world
+          (ap (λ (a : MemberState). a.number) b_is ∙ number_is s is m there old old_is)
+          (subst (IsConsistentMember s.keys (logs_around s.members)) (sym b_is)
+          (restarts_consistent s.keys (logs_around s.members) s.time n old (consistent s is m there old old_is)))
+          s.sent s.time s.tally is.sent restarted_world
 
     -- ---- a timer
 
-    module _ (b_is : b ≡ alone_fires s.moment n old) (fire : Fire)
-        (tells : TellsFire (fires_kept s.moment old.known old.machine) (sync_of s.keys old.number old.known) fire)
+    module _ (b_is : b ≡ member_fires s.time n old) (fire : Fire)
+        (tells : ReportsFire (fires_kept s.time old.known old.machine) (sync_of s.keys old.number old.known) fire)
         (sent reserved : List SentPacket) (vector : List ℕ)
         (reserved_is : reserved ≡ s.sent) (vector_is : vector ≡ old.known)
         (sent_is : sent ≡ after_firing m vector fire reserved) where
@@ -104,7 +105,7 @@ module _ (s : GroupState) (is : IsTrueState s) (m : ℕ) (there : m < length s.m
       now_member : in_group b ≡ member (after_fire (drawing draw) (world_of s) m (timer_at (world_of s) m)) m
       now_member =
           ap in_group b_is
-          ∙ ap (λ (k : ℕ). in_group (alone_fires s.moment k old)) drawn_is
+          ∙ ap (λ (k : ℕ). in_group (member_fires s.time k old)) drawn_is
           ∙ sym (fire_is_event (drawing draw) (world_of s) m old (in_world s is m there old old_is))
 
       -- one member changes, if any does
@@ -119,12 +120,12 @@ module _ (s : GroupState) (is : IsTrueState s) (m : ℕ) (there : m < length s.m
           ap (set (in_groups s.members) m)
           (get_or-set_same (in_groups s.members) m _ no_member (among s is m there old old_is))
 
-      syncs_so : (x : Fired) (f : Fire) → TellsFire x (sync_of s.keys old.number old.known) f
+      syncs_so : (x : Fired) (f : Fire) → ReportsFire x (sync_of s.keys old.number old.known) f
           → map sync_in (after_firing m old.known f s.sent) ≡ (after_fire (drawing draw) (world_of s) m x).sent
       syncs_so fired.Early does.Early t = refl
       syncs_so fired.Quiet does.Quiet t = refl
       syncs_so fired.Send (does.Sent sync) t =
-          let x : Member = group.resets (drawn (drawing draw) (world_of s) m) s.moment (member (world_of s) m) in
+          let x : Member = group.resets (drawn (drawing draw) (world_of s) m) s.time (member (world_of s) m) in
           let known : old.known ≡ (get_or (set (in_groups s.members) m x) m no_member).known =
           ap (λ (y : Member). y.known) (sym (member_is s is m there old old_is))
           ∙ sym (ap (λ (y : Member). y.known)
@@ -156,16 +157,17 @@ module _ (s : GroupState) (is : IsTrueState s) (m : ℕ) (there : m < length s.m
           ∙ members_so (timer_at (world_of s) m))
           (ap (map sync_in) sent_so
           ∙ syncs_so (timer_at (world_of s) m) fire
-          (subst (λ (x : Fired). TellsFire x (sync_of s.keys old.number old.known) fire) (sym timer_is) tells))
+          (subst (λ (x : Fired). ReportsFire x (sync_of s.keys old.number old.known) fire) (sym timer_is) tells))
 
-      all_sent : (x : Fired) (f : Fire) → TellsFire x (sync_of s.keys old.number old.known) f
-          → All (IsTrueSync s.keys (logs_around s.members)) (after_firing m old.known f s.sent)
+      all_sent : (x : Fired) (f : Fire) → ReportsFire x (sync_of s.keys old.number old.known) f
+          → All (IsConsistentSync s.keys (logs_around s.members)) (after_firing m old.known f s.sent)
       all_sent x does.Early t = is.sent
       all_sent x does.Quiet t = is.sent
       all_sent fired.Send (does.Sent sync) t =
-          let at : IsTrueMember s.keys (logs_around s.members) old = truly s is m there old old_is in
-          All-append (IsTrueSync s.keys (logs_around s.members)) s.sent (sent_packet m old.known sync.items ∷ [])
-          is.sent (all_one (IsTrueSync s.keys (logs_around s.members)) (sent_packet m old.known sync.items) (record {
+          let at : IsConsistentMember s.keys (logs_around s.members) old = consistent s is m there old old_is in
+          All-append (IsConsistentSync s.keys (logs_around s.members)) s.sent (sent_packet m old.known sync.items ∷ [])
+          is.sent (all_one (IsConsistentSync s.keys (logs_around s.members)) (sent_packet m old.known sync.items)
+          (record {
             sender =
                 let w = is.are.width in
                 let l = length-map (in_groups s.members) (λ (x : Member). x.log) in
@@ -177,12 +179,12 @@ module _ (s : GroupState) (is : IsTrueState s) (m : ℕ) (there : m < length s.m
       all_sent fired.Quiet (does.Sent sync) t = absurd t
 
       pub fired_state : s.steps < 100000
-          → IsTrueState (record s { members = set s.members m b; sent = sent; steps = s.steps + 1 })
+          → IsConsistentState (record s { members = set s.members m b; sent = sent; steps = s.steps + 1 })
       fired_state few =
           stepped_at s is few (drawing draw) (λ t. omega arith) (Event.Fire m) tt m there b
-          (ap (λ (a : Alone). a.number) b_is ∙ number_is s is m there old old_is)
-          (subst (IsTrueMember s.keys (logs_around s.members)) (sym b_is)
-          (fires_true s.keys (logs_around s.members) s.moment n old (truly s is m there old old_is)))
-          sent s.moment s.tally
-          (subst (All (IsTrueSync s.keys (logs_around s.members))) (sym sent_so)
-          (all_sent (fires_kept s.moment old.known old.machine) fire tells)) fired_world
+          (ap (λ (a : MemberState). a.number) b_is ∙ number_is s is m there old old_is)
+          (subst (IsConsistentMember s.keys (logs_around s.members)) (sym b_is)
+          (fires_consistent s.keys (logs_around s.members) s.time n old (consistent s is m there old old_is)))
+          sent s.time s.tally
+          (subst (All (IsConsistentSync s.keys (logs_around s.members))) (sym sent_so)
+          (all_sent (fires_kept s.time old.known old.machine) fire tells)) fired_world

@@ -1,8 +1,9 @@
--- That what is claimed can be had, where the packets of index packets and segments are told by their names and digests.
+-- That what is claimed can be had, where the packets of index packets and segments are known by their names and
+-- digests.
 use Rattle.std.specs.Prelude.{◌≡◌, ℕ, ◌<◌, ◌⊎◌, true, length, Some, None}
 use Rattle.repo_plan.specs.declared.part.Part.{Part}
 use Rattle.repo_plan.specs.Parts.{Pair, pair_of}
-use Rattle.repo_object.specs.Published.{Published, Clear}
+use Rattle.repo_object.specs.Published.{Published, IsCollisionFree}
 use Rattle.group_model.specs.Publications.{Logs, post_at}
 use Rattle.group_model.specs.Member.{member_holds, member_hides}
 use Rattle.group_model.specs.Events as group
@@ -12,29 +13,30 @@ use Rattle.group_model.specs.Refusals.{refusal}
 use Rattle.repo_member.specs.Groups.{GroupKeys, publisher_at}
 use Rattle.bench_world.specs.Worlds.{GroupState, world_of}
 use Rattle.bench_world.specs.Serving.{keyed}
-use Rattle.bench_world.specs.EventValues.{EventValue, Told, telling}
+use Rattle.bench_world.specs.EventValues.{EventValue, Reported, event_report}
 
 -- A publication of a group, by its publisher and its number.
 abbrev pub published_at : GroupKeys → Logs → Pair → Published
 published_at g logs pair = record { publisher = publisher_at g pair.0; seq = pair.1; post = post_at logs pair }
 
 -- Packets of index packets and segments that have one name and one digest are the same.
-abbrev pub AreAllClear : GroupKeys → Logs → Type 0
-AreAllClear g logs = Clear (published_at g logs)
+abbrev pub AreAllCollisionFree : GroupKeys → Logs → Type 0
+AreAllCollisionFree g logs = IsCollisionFree (published_at g logs)
 
 -- An answer is taken, and kept.
 pub record IsKept (s : GroupState) (j f q : ℕ) : Type 0 where
   pub taken : refusal (keyed s.keys) (world_of s) (group.Event.Answer j f q) ≡ None
-  pub told : telling s.keys (keyed s.keys) (world_of s) (EventValue.Answer j f q) ≡ Told.AnswerKept j f
+  pub reported : event_report s.keys (keyed s.keys) (world_of s) (EventValue.Answer j f q) ≡ Reported.AnswerKept j f
 
 -- So is one from a member that holds the claimed part.
 abbrev pub HoldersCanAnswer : GroupState → Type 0
 HoldersCanAnswer s =
-    AreAllClear s.keys (logs (world_of s)) → (j f q : ℕ) (t : Part) → j < length s.members → q < length s.members
+    AreAllCollisionFree s.keys (logs (world_of s)) → (j f q : ℕ) (t : Part) → j < length s.members → q
+    < length s.members
     → claim_at (world_of s) j f ≡ Some t → member_holds (member (world_of s) q) t ≡ true → IsKept s j f q
 
 -- So a claimed part can be had from its publisher, unless that has hidden its publication.
 abbrev pub PublishersCanAnswer : GroupState → Type 0
-PublishersCanAnswer s = AreAllClear s.keys (logs (world_of s)) → (j f : ℕ) (t : Part) → j < length s.members
+PublishersCanAnswer s = AreAllCollisionFree s.keys (logs (world_of s)) → (j f : ℕ) (t : Part) → j < length s.members
     → claim_at (world_of s) j f ≡ Some t
     → IsKept s j f t.publisher ⊎ (member_hides (member (world_of s) t.publisher) (pair_of t) ≡ true)

@@ -10,27 +10,27 @@ use Rattle.group_model.specs.Publications.{Logs}
 use Rattle.group_model.specs.Events.{Came}
 use Rattle.group_model.specs.Events.Came.{Nothing, Its, Another}
 use Rattle.repo_member.specs.Groups.{GroupKeys}
-use Rattle.repo_member.specs.Alone.{Alone, alone_plan, alone_accepts}
-use Rattle.repo_member.specs.InGroup.{true_packet}
-use Rattle.repo_member.specs.TrueMembers.{true_want}
-use Rattle.bench_world.specs.declared.event.EventFault.{EventFault}
-use Rattle.bench_world.specs.declared.event.EventFault.TheVariants.{FetcherIdle, Foreign}
+use Rattle.repo_member.specs.MemberState.{MemberState, member_plan, member_accepts}
+use Rattle.repo_member.specs.InGroup.{published_packet}
+use Rattle.repo_member.specs.ConsistentMembers.{published_want}
+use Rattle.bench_world.specs.declared.event.EventError.{EventError}
+use Rattle.bench_world.specs.declared.event.EventError.TheVariants.{FetcherIdle, Foreign}
 use Rattle.bench_world.specs.declared.answering.Fed.{Fed}
 use Rattle.bench_world.specs.declared.answering.Fed.TheVariants.{Kept}
 use Rattle.bench_world.specs.Sizes.{size_of}
-use Rattle.bench_world.specs.Worlds.{alone_at}
+use Rattle.bench_world.specs.Worlds.{state_at}
 use Rattle.bench_world.specs.Serving.{octets_as, came_of}
 
 -- ---- claims
 
 -- What a member's fetcher claims.
-abbrev pub claim_in : List Alone → ℕ → ℕ → Option Part
-claim_in members m f = claim_of (alone_plan (alone_at members m)) f
+abbrev pub claim_in : List MemberState → ℕ → ℕ → Option Part
+claim_in members m f = claim_of (member_plan (state_at members m)) f
 
 -- What another member gives for a claim.
-abbrev pub came_in : GroupKeys → Logs → List Alone → ℕ → Option Part → Came
+abbrev pub came_in : GroupKeys → Logs → List MemberState → ℕ → Option Part → Came
 came_in g logs members q None = Nothing
-came_in g logs members q (Some t) = came_of g logs (keys (alone_at members q).store) t
+came_in g logs members q (Some t) = came_of g logs (keys (state_at members q).store) t
 
 -- What octets from outside are for a claim.
 abbrev pub came_for : GroupKeys → Logs → List ℕ → Option Part → Came
@@ -38,26 +38,26 @@ came_for g logs octets None = Nothing
 came_for g logs octets (Some t) = octets_as g logs t octets
 
 -- Who is asked: another, or the asker itself.
-abbrev pub lender_of : Alone → Option Alone → Alone
+abbrev pub lender_of : MemberState → Option MemberState → MemberState
 lender_of asker None = asker
 lender_of asker (Some other) = other
 
 -- ---- what is told
 
 -- The octets that are kept, or none, or why it is refused: a fetcher that claims nothing has number 7.
-abbrev pub answered : GroupKeys → Logs → Option Part → Came → Result (Option ℕ) EventFault
+abbrev pub answered : GroupKeys → Logs → Option Part → Came → Result (Option ℕ) EventError
 answered g logs None came = Err FetcherIdle
 answered g logs (Some t) Nothing = Ok None
 answered g logs (Some t) Its = Ok (Some (size_of g logs t))
 answered g logs (Some t) Another = Err Foreign
 
--- What is told of octets, by the verdict on them.
+-- What is reported of octets, by the verdict on them.
 abbrev pub fed_by : Result Data PartRefusal → Fed
 fed_by (Ok d) = Kept
 fed_by (Err refusal) = Fed.Refused refusal
 
 abbrev pub fed_as : GroupKeys → Logs → List ℕ → Part → Fed
-fed_as g logs octets t = fed_by (ring_verdict (true_want g logs t) g.members.ring octets)
+fed_as g logs octets t = fed_by (ring_verdict (published_want g logs t) g.members.ring octets)
 
 -- How many octets are kept.
 abbrev pub kept_of : List ℕ → Fed → Option ℕ
@@ -67,11 +67,11 @@ kept_of octets (Fed.Refused refusal) = None
 -- ---- what becomes of the member
 
 -- Where the publisher's packet of the claimed part came, it is accepted.
-abbrev pub accepts_claimed : GroupKeys → Logs → ℕ → Part → Came → Alone → Alone
+abbrev pub accepts_claimed : GroupKeys → Logs → ℕ → Part → Came → MemberState → MemberState
 accepts_claimed g logs f t Nothing a = a
-accepts_claimed g logs f t Its a = alone_accepts f t (unwrap_or (true_packet g logs t) []) a
+accepts_claimed g logs f t Its a = member_accepts f t (unwrap_or (published_packet g logs t) []) a
 accepts_claimed g logs f t Another a = a
 
-abbrev pub after_claimed : GroupKeys → Logs → ℕ → Option Part → Came → Alone → Alone
+abbrev pub after_claimed : GroupKeys → Logs → ℕ → Option Part → Came → MemberState → MemberState
 after_claimed g logs f None came a = a
 after_claimed g logs f (Some t) came a = accepts_claimed g logs f t came a

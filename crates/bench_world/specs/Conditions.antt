@@ -11,52 +11,52 @@ use Rattle.group_model.specs.Sound.{IsSoundGroup, IsPublishedPart}
 use Rattle.group_model.specs.Settles.{learnt_member}
 use Rattle.group_model.specs.Steps.{settled_vector}
 use Rattle.repo_member.specs.Groups.{GroupKeys}
-use Rattle.repo_member.specs.Alone.{Alone, alone_plan}
+use Rattle.repo_member.specs.MemberState.{MemberState, member_plan}
 use Rattle.repo_member.specs.InGroup.{AreLogs}
-use Rattle.repo_member.specs.TrueMembers.{IsTrueMember, true_want}
+use Rattle.repo_member.specs.ConsistentMembers.{IsConsistentMember, published_want}
 use Rattle.repo_mirror.specs.MirrorState.{MirrorState, mirror_holdings}
-use Rattle.repo_mirror.specs.TrueMirrors.{IsTrueMirror}
+use Rattle.repo_mirror.specs.ConsistentMirrors.{IsConsistentMirror}
 use Rattle.bench_world.specs.Holders.{HolderWords}
 use Rattle.bench_world.specs.MirrorSteps.{mirror_at}
 use Rattle.bench_world.specs.Truth.{AreFewLogs, TriedFew, AllTriedFew}
-use Rattle.bench_world.specs.Worlds.{in_groups, logs_around, only_members, AreTrueMembers, MembersAreNumbered}
+use Rattle.bench_world.specs.Worlds.{in_groups, logs_around, only_members, AreConsistentMembers, MembersAreNumbered}
 
 -- ---- a fetcher's claim
 
 -- Octets are compared with the packet of a published part, which its publisher has.
-pub record CanCompare (g : GroupKeys) (ls : Logs) (p : Alone) (t : Part) : Type 0 where
+pub record CanCompare (g : GroupKeys) (ls : Logs) (p : MemberState) (t : Part) : Type 0 where
   pub logs : AreLogs g ls
-  pub publisher : IsTrueMember g ls p
+  pub publisher : IsConsistentMember g ls p
   pub number : p.number ≡ t.publisher
   pub part : IsPublishedPart ls t
 
 -- A member's fetcher may claim a part.
-pub record CanWant (g : GroupKeys) (ls : Logs) (f : ℕ) (a : Alone) : Type 0 where
+pub record CanWant (g : GroupKeys) (ls : Logs) (f : ℕ) (a : MemberState) : Type 0 where
   pub logs : AreLogs g ls
-  pub truly : IsTrueMember g ls a
+  pub consistent : IsConsistentMember g ls a
   pub fetcher : IsFetcher f
 
 -- It claims the part of this want, which this publisher has.
-pub record CanAccept (g : GroupKeys) (ls : Logs) (f : ℕ) (w : WantedPart) (p a : Alone) : Type 0 where
+pub record CanAccept (g : GroupKeys) (ls : Logs) (f : ℕ) (w : WantedPart) (p a : MemberState) : Type 0 where
   pub logs : AreLogs g ls
-  pub publisher : IsTrueMember g ls p
+  pub publisher : IsConsistentMember g ls p
   pub number : p.number ≡ w.part.publisher
-  pub asker : IsTrueMember g ls a
+  pub asker : IsConsistentMember g ls a
   pub fetcher : IsFetcher f
-  pub claim : claim_of (alone_plan a) f ≡ Some w.part
-  pub want : w ≡ true_want g ls w.part
+  pub claim : claim_of (member_plan a) f ≡ Some w.part
+  pub want : w ≡ published_want g ls w.part
 
 -- The member of this number may get a packet for its fetcher's claim.
-pub record CanGetAt (g : GroupKeys) (ls : Logs) (f m : ℕ) (ms : List Alone) : Type 0 where
+pub record CanGetAt (g : GroupKeys) (ls : Logs) (f m : ℕ) (ms : List MemberState) : Type 0 where
   pub logs : AreLogs g ls
   pub numbers : MembersAreNumbered ms
-  pub truly : AreTrueMembers g ls ms
+  pub consistent : AreConsistentMembers g ls ms
   pub width : length ms ≡ length ls
   pub there : m < length ms
   pub fetcher : IsFetcher f
 
 -- Member `q` may answer it.
-pub record CanAnswerAt (g : GroupKeys) (ls : Logs) (f m q : ℕ) (ms : List Alone) : Type 0 where
+pub record CanAnswerAt (g : GroupKeys) (ls : Logs) (f m q : ℕ) (ms : List MemberState) : Type 0 where
   pub get : CanGetAt g ls f m ms
   pub other : q < length ms
 
@@ -64,105 +64,109 @@ pub record CanAnswerAt (g : GroupKeys) (ls : Logs) (f m q : ℕ) (ms : List Alon
 
 module _ {H : Type 0} (words : HolderWords H) where
   -- It gathers in a settle, in which the network loses nothing.
-  pub record CanGather (g : GroupKeys) (ls : Logs) (n : ℕ) (lenders : List Alone) (lost : Option ℕ) (s : H) : Type 0
+  pub record CanGather (g : GroupKeys) (ls : Logs) (n : ℕ) (lenders : List MemberState) (lost : Option ℕ) (s : H) : Type
+      0
     where
       pub workers : (1 ≤ n) × (n ≤ 16)
       pub logs : AreFewLogs g ls
-      pub others : AreTrueMembers g ls lenders
+      pub others : AreConsistentMembers g ls lenders
       pub loss : lost ≡ None
-      pub truly : words.is_true g ls s
+      pub consistent : words.is_true g ls s
       pub tried : TriedFew (words.holdings s)
 
   -- It fetches, so often at most.
-  pub record CanFetch (g : GroupKeys) (ls : Logs) (n most : ℕ) (lenders : List Alone) (s : H) : Type 0 where
+  pub record CanFetch (g : GroupKeys) (ls : Logs) (n most : ℕ) (lenders : List MemberState) (s : H) : Type 0 where
     pub workers : (1 ≤ n) × (n ≤ 16)
     pub tries : (1 ≤ most) × (most ≤ 16)
     pub logs : AreFewLogs g ls
-    pub others : AreTrueMembers g ls lenders
-    pub truly : words.is_true g ls s
+    pub others : AreConsistentMembers g ls lenders
+    pub consistent : words.is_true g ls s
     pub tried : TriedFew (words.holdings s)
 
 -- ---- one mirror and all members
 
 -- The mirror of this number fetches of members, so often at most.
-pub record CanFetchFor (g : GroupKeys) (n most i : ℕ) (lenders : List Alone) (ms : List MirrorState) : Type 0 where
+pub record CanFetchFor (g : GroupKeys) (n most i : ℕ) (lenders : List MemberState) (ms : List MirrorState) : Type
+    0 where
   pub workers : (1 ≤ n) × (n ≤ 16)
   pub tries : (1 ≤ most) × (most ≤ 16)
   pub there : i < length ms
   pub few : i < 4
   pub logs : AreFewLogs g (logs_around lenders)
-  pub others : AreTrueMembers g (logs_around lenders) lenders
-  pub truly : IsTrueMirror g (logs_around lenders) (mirror_at ms i)
+  pub others : AreConsistentMembers g (logs_around lenders) lenders
+  pub consistent : IsConsistentMirror g (logs_around lenders) (mirror_at ms i)
   pub tried : TriedFew (mirror_holdings (mirror_at ms i))
 
 -- It has learnt nothing yet of a settle, in which members lend what they store. They know this vector together.
-pub record CanGatherFor (g : GroupKeys) (n i : ℕ) (lenders : List Alone) (told : List ℕ) (ms : List MirrorState)
+pub record CanGatherFor (g : GroupKeys) (n i : ℕ) (lenders : List MemberState) (reported : List ℕ)
+    (ms : List MirrorState)
     : Type 0 where
   pub workers : (1 ≤ n) × (n ≤ 16)
   pub there : i < length ms
   pub few : i < 4
   pub logs : AreFewLogs g (logs_around lenders)
   pub sound : IsSoundGroup (only_members lenders)
-  pub others : AreTrueMembers g (logs_around lenders) lenders
-  pub known : told ≡ settled_vector (only_members lenders)
-  pub truly : IsTrueMirror g (logs_around lenders) (mirror_at ms i)
+  pub others : AreConsistentMembers g (logs_around lenders) lenders
+  pub known : reported ≡ settled_vector (only_members lenders)
+  pub consistent : IsConsistentMirror g (logs_around lenders) (mirror_at ms i)
   pub tried : TriedFew (mirror_holdings (mirror_at ms i))
 
 -- The same of all mirrors.
-pub record CanGatherForAll (g : GroupKeys) (n : ℕ) (lenders : List Alone) (told : List ℕ) (ms : List MirrorState)
+pub record CanGatherForAll (g : GroupKeys) (n : ℕ) (lenders : List MemberState) (reported : List ℕ)
+    (ms : List MirrorState)
     : Type 0 where
   pub workers : (1 ≤ n) × (n ≤ 16)
   pub few : length ms ≤ 4
   pub logs : AreFewLogs g (logs_around lenders)
   pub sound : IsSoundGroup (only_members lenders)
-  pub others : AreTrueMembers g (logs_around lenders) lenders
-  pub known : told ≡ settled_vector (only_members lenders)
-  pub truly : (i : ℕ) → i < length ms → IsTrueMirror g (logs_around lenders) (mirror_at ms i)
+  pub others : AreConsistentMembers g (logs_around lenders) lenders
+  pub known : reported ≡ settled_vector (only_members lenders)
+  pub consistent : (i : ℕ) → i < length ms → IsConsistentMirror g (logs_around lenders) (mirror_at ms i)
   pub tried : (i : ℕ) → i < length ms → TriedFew (mirror_holdings (mirror_at ms i))
 
 -- ---- all members
 
 -- They tell what they know.
-pub record CanTell (g : GroupKeys) (ls : Logs) (ms : List Alone) : Type 0 where
+pub record CanTell (g : GroupKeys) (ls : Logs) (ms : List MemberState) : Type 0 where
   pub logs : AreLogs g ls
   pub numbers : MembersAreNumbered ms
-  pub truly : AreTrueMembers g ls ms
+  pub consistent : AreConsistentMembers g ls ms
 
 -- The member of this number gathers.
-pub record CanGatherAt (g : GroupKeys) (ls : Logs) (n j : ℕ) (ms : List Alone) : Type 0 where
+pub record CanGatherAt (g : GroupKeys) (ls : Logs) (n j : ℕ) (ms : List MemberState) : Type 0 where
   pub workers : (1 ≤ n) × (n ≤ 16)
   pub there : j < length ms
   pub logs : AreFewLogs g ls
-  pub members : AreTrueMembers g ls ms
+  pub members : AreConsistentMembers g ls ms
   pub tried : AllTriedFew ms
 
 -- The members are those of this group, and the one of this number fetches.
-pub record CanFetchAt (g : GroupKeys) (w : World) (n most j : ℕ) (ms : List Alone) : Type 0 where
+pub record CanFetchAt (g : GroupKeys) (w : World) (n most j : ℕ) (ms : List MemberState) : Type 0 where
   pub workers : (1 ≤ n) × (n ≤ 16)
   pub tries : (1 ≤ most) × (most ≤ 16)
   pub there : j < length ms
   pub logs : AreFewLogs g (group.logs w)
   pub begun : in_groups ms ≡ w.members
   pub numbers : MembersAreNumbered ms
-  pub truly : AreTrueMembers g (group.logs w) ms
+  pub consistent : AreConsistentMembers g (group.logs w) ms
   pub tried : AllTriedFew ms
 
 -- They have learnt what all know, and gather.
-pub record CanGatherAll (g : GroupKeys) (w : World) (n : ℕ) (ms : List Alone) : Type 0 where
+pub record CanGatherAll (g : GroupKeys) (w : World) (n : ℕ) (ms : List MemberState) : Type 0 where
   pub workers : (1 ≤ n) × (n ≤ 16)
   pub logs : AreFewLogs g (group.logs w)
   pub sound : IsSoundGroup w
   pub learnt : in_groups ms ≡ map (learnt_member w) w.members
-  pub truly : AreTrueMembers g (group.logs w) ms
+  pub consistent : AreConsistentMembers g (group.logs w) ms
   pub numbers : MembersAreNumbered ms
   pub tried : AllTriedFew ms
 
 -- They are those of this group, and settle.
-pub record CanSettle (g : GroupKeys) (w : World) (n : ℕ) (ms : List Alone) : Type 0 where
+pub record CanSettle (g : GroupKeys) (w : World) (n : ℕ) (ms : List MemberState) : Type 0 where
   pub workers : (1 ≤ n) × (n ≤ 16)
   pub logs : AreFewLogs g (group.logs w)
   pub begun : in_groups ms ≡ w.members
   pub numbers : MembersAreNumbered ms
-  pub truly : AreTrueMembers g (group.logs w) ms
+  pub consistent : AreConsistentMembers g (group.logs w) ms
   pub sound : IsSoundGroup w
   pub tried : AllTriedFew ms

@@ -1,4 +1,5 @@
--- The events of a step, and what is told of them, as values: names as lists of components, octets as lists of numbers.
+-- The events of a step, and what is reported of them, as values: names as lists of components, octets as lists of
+-- numbers.
 use Rattle.std.specs.Prelude.{ℕ, Bool, List, map, length, Option, Some, None, Result, Ok, Err}
 use Rattle.std.specs.Prelude.{if◌then◌else◌}
 use Rattle.ndn_name.specs.Names.{Component}
@@ -22,15 +23,15 @@ use Rattle.repo_command.specs.declared.answer.Answer.{Answer as CommandAnswer}
 use Rattle.repo_process.specs.Processes.{BlockState}
 use Rattle.repo_process.specs.Processes.BlockState.{Unknown, Already, Waiting, Whole}
 use Rattle.group_model.specs.Replies.{HearOutcome, OutcomeOf}
-use Rattle.group_model.specs.World.{Outside, World, member, logs}
+use Rattle.group_model.specs.World.{Environment, World, member, logs}
 use Rattle.group_model.specs.Steps.{claim_at, outcome}
 use Rattle.repo_member.specs.declared.refusals.HearRefusal.{HearRefusal}
 use Rattle.repo_member.specs.declared.refusals.HearRefusal.TheVariants as hear
 use Rattle.repo_member.specs.Groups.{GroupKeys}
 use Rattle.repo_member.specs.Verdicts.{sync_of, group_verdict}
 use Rattle.repo_member.specs.Commanded.{order_of}
-use Rattle.repo_member.specs.InGroup.{true_packet}
-use Rattle.repo_member.specs.TrueMembers.{true_want, true_packets}
+use Rattle.repo_member.specs.InGroup.{published_packet}
+use Rattle.repo_member.specs.ConsistentMembers.{published_want, published_packets}
 use Rattle.bench_world.specs.declared.event.Event.{Event}
 use Rattle.bench_world.specs.declared.event.Event.TheVariants as is
 use Rattle.bench_world.specs.declared.event.Happened.{Happened}
@@ -128,197 +129,204 @@ group_event g EventValue.Traffic = group.Event.Traffic
 
 -- ---- what is told
 
--- Each form of a reply, with its values. Nothing is told of an event that is refused.
-pub data Told : Type 0 where
-  Nothing : Told
-  Publish : (m seq segments sync : ℕ) → Told
-  Withdraw : (m seq withdrawn sync : ℕ) → Told
-  DeliverSteady : (k m : ℕ) → Told
-  DeliverSuppressed : (k m : ℕ) → Told
-  Sync : (k : ℕ) (octets : List ℕ) → Told
-  Advance : (now : ℕ) → Told
-  FireEarly : (m : ℕ) → Told
-  FireQuiet : (m : ℕ) → Told
-  FireSent : (m k : ℕ) → Told
-  Restart : (m : ℕ) → Told
-  Vector : (m : ℕ) (members numbers : List ℕ) → Told
-  Catalogue : (m count : ℕ) (entries : List Entry) → Told
-  ClaimPart : (m f publisher seq x : ℕ) → Told
-  ClaimNone : (m f : ℕ) → Told
-  Lose : (m f publisher seq x : ℕ) → Told
-  AnswerKept : (m f : ℕ) → Told
-  AnswerNone : (m f : ℕ) → Told
-  Fetch : (m planned kept attempts : ℕ) → Told
-  Settle : (syncs kept : ℕ) → Told
-  DumpHex : (m : ℕ) (octets : List ℕ) → Told
-  DumpNone : (m : ℕ) → Told
-  HearSteady : (m : ℕ) → Told
-  HearSuppressed : (m : ℕ) → Told
-  HearRefused : (m : ℕ) (refusal : HearRefusal) → Told
-  AskFound : (m : ℕ) (octets : List ℕ) → Told
-  AskNone : (m : ℕ) → Told
-  AskRefused : (m : ℕ) (refusal : PacketFault) → Told
-  FeedKept : (m f : ℕ) → Told
-  FeedRefused : (m f : ℕ) (refusal : PartRefusal) → Told
-  Order : (m code : ℕ) (process inserted deleted : Option ℕ) → Told
-  Insert : (m code : ℕ) (process inserted deleted : Option ℕ) → Told
-  Status : (m code : ℕ) (process inserted deleted : Option ℕ) → Told
-  Delete : (m code : ℕ) (process inserted deleted : Option ℕ) → Told
-  Block300 : (m : ℕ) → Told
-  Block404 : (m : ℕ) → Told
-  Block200 : (m : ℕ) → Told
-  BlockPublished : (m seq sync : ℕ) → Told
-  Summary : (members entries segments octets : List ℕ) → Told
-  Traffic : (syncs delivered attempts parts octets : ℕ) → Told
+-- Each form of a reply, with its values. Nothing is reported of an event that is refused.
+pub data Reported : Type 0 where
+  Nothing : Reported
+  Publish : (m seq segments sync : ℕ) → Reported
+  Withdraw : (m seq withdrawn sync : ℕ) → Reported
+  DeliverSteady : (k m : ℕ) → Reported
+  DeliverSuppressed : (k m : ℕ) → Reported
+  Sync : (k : ℕ) (octets : List ℕ) → Reported
+  Advance : (now : ℕ) → Reported
+  FireEarly : (m : ℕ) → Reported
+  FireQuiet : (m : ℕ) → Reported
+  FireSent : (m k : ℕ) → Reported
+  Restart : (m : ℕ) → Reported
+  Vector : (m : ℕ) (members numbers : List ℕ) → Reported
+  Catalogue : (m count : ℕ) (entries : List Entry) → Reported
+  ClaimPart : (m f publisher seq x : ℕ) → Reported
+  ClaimNone : (m f : ℕ) → Reported
+  Lose : (m f publisher seq x : ℕ) → Reported
+  AnswerKept : (m f : ℕ) → Reported
+  AnswerNone : (m f : ℕ) → Reported
+  Fetch : (m planned kept attempts : ℕ) → Reported
+  Settle : (syncs kept : ℕ) → Reported
+  DumpHex : (m : ℕ) (octets : List ℕ) → Reported
+  DumpNone : (m : ℕ) → Reported
+  HearSteady : (m : ℕ) → Reported
+  HearSuppressed : (m : ℕ) → Reported
+  HearRefused : (m : ℕ) (refusal : HearRefusal) → Reported
+  AskFound : (m : ℕ) (octets : List ℕ) → Reported
+  AskNone : (m : ℕ) → Reported
+  AskRefused : (m : ℕ) (refusal : PacketFault) → Reported
+  FeedKept : (m f : ℕ) → Reported
+  FeedRefused : (m f : ℕ) (refusal : PartRefusal) → Reported
+  Order : (m code : ℕ) (process inserted deleted : Option ℕ) → Reported
+  Insert : (m code : ℕ) (process inserted deleted : Option ℕ) → Reported
+  Status : (m code : ℕ) (process inserted deleted : Option ℕ) → Reported
+  Delete : (m code : ℕ) (process inserted deleted : Option ℕ) → Reported
+  Block300 : (m : ℕ) → Reported
+  Block404 : (m : ℕ) → Reported
+  Block200 : (m : ℕ) → Reported
+  BlockPublished : (m seq sync : ℕ) → Reported
+  Summary : (members entries segments octets : List ℕ) → Reported
+  Traffic : (syncs delivered attempts parts octets : ℕ) → Reported
 
-abbrev pub told_value : Happened → Told
-told_value (was.Publish m seq segments sync) = Told.Publish m seq segments sync
-told_value (was.Withdraw m seq withdrawn sync) = Told.Withdraw m seq withdrawn sync
-told_value (was.DeliverSteady k m) = Told.DeliverSteady k m
-told_value (was.DeliverSuppressed k m) = Told.DeliverSuppressed k m
-told_value (was.Sync k octets) = Told.Sync k octets.items
-told_value (was.Advance now) = Told.Advance now
-told_value (was.FireEarly m) = Told.FireEarly m
-told_value (was.FireQuiet m) = Told.FireQuiet m
-told_value (was.FireSent m k) = Told.FireSent m k
-told_value (was.Restart m) = Told.Restart m
-told_value (was.Vector m members numbers) = Told.Vector m members.items numbers.items
-told_value (was.Catalogue m count entries) = Told.Catalogue m count entries.items
-told_value (was.ClaimPart m f publisher seq x) = Told.ClaimPart m f publisher seq x
-told_value (was.ClaimNone m f) = Told.ClaimNone m f
-told_value (was.Lose m f publisher seq x) = Told.Lose m f publisher seq x
-told_value (was.AnswerKept m f) = Told.AnswerKept m f
-told_value (was.AnswerNone m f) = Told.AnswerNone m f
-told_value (was.Fetch m planned kept attempts) = Told.Fetch m planned kept attempts
-told_value (was.Settle syncs kept) = Told.Settle syncs kept
-told_value (was.DumpHex m octets) = Told.DumpHex m octets.items
-told_value (was.DumpNone m) = Told.DumpNone m
-told_value (was.HearSteady m) = Told.HearSteady m
-told_value (was.HearSuppressed m) = Told.HearSuppressed m
-told_value (was.HearRefused m refusal) = Told.HearRefused m refusal
-told_value (was.AskFound m octets) = Told.AskFound m octets.items
-told_value (was.AskNone m) = Told.AskNone m
-told_value (was.AskRefused m refusal) = Told.AskRefused m refusal
-told_value (was.FeedKept m f) = Told.FeedKept m f
-told_value (was.FeedRefused m f refusal) = Told.FeedRefused m f refusal
-told_value (was.Order m code process inserted deleted) = Told.Order m code process inserted deleted
-told_value (was.Insert m code process inserted deleted) = Told.Insert m code process inserted deleted
-told_value (was.Status m code process inserted deleted) = Told.Status m code process inserted deleted
-told_value (was.Delete m code process inserted deleted) = Told.Delete m code process inserted deleted
-told_value (was.Block300 m) = Told.Block300 m
-told_value (was.Block404 m) = Told.Block404 m
-told_value (was.Block200 m) = Told.Block200 m
-told_value (was.BlockPublished m seq sync) = Told.BlockPublished m seq sync
-told_value (was.Summary members entries segments octets) =
-    Told.Summary members.items entries.items segments.items octets.items
-told_value (was.Traffic syncs delivered attempts parts octets) = Told.Traffic syncs delivered attempts parts octets
+abbrev pub reported_value : Happened → Reported
+reported_value (was.Publish m seq segments sync) = Reported.Publish m seq segments sync
+reported_value (was.Withdraw m seq withdrawn sync) = Reported.Withdraw m seq withdrawn sync
+reported_value (was.DeliverSteady k m) = Reported.DeliverSteady k m
+reported_value (was.DeliverSuppressed k m) = Reported.DeliverSuppressed k m
+reported_value (was.Sync k octets) = Reported.Sync k octets.items
+reported_value (was.Advance now) = Reported.Advance now
+reported_value (was.FireEarly m) = Reported.FireEarly m
+reported_value (was.FireQuiet m) = Reported.FireQuiet m
+reported_value (was.FireSent m k) = Reported.FireSent m k
+reported_value (was.Restart m) = Reported.Restart m
+reported_value (was.Vector m members numbers) = Reported.Vector m members.items numbers.items
+reported_value (was.Catalogue m count entries) = Reported.Catalogue m count entries.items
+reported_value (was.ClaimPart m f publisher seq x) = Reported.ClaimPart m f publisher seq x
+reported_value (was.ClaimNone m f) = Reported.ClaimNone m f
+reported_value (was.Lose m f publisher seq x) = Reported.Lose m f publisher seq x
+reported_value (was.AnswerKept m f) = Reported.AnswerKept m f
+reported_value (was.AnswerNone m f) = Reported.AnswerNone m f
+reported_value (was.Fetch m planned kept attempts) = Reported.Fetch m planned kept attempts
+reported_value (was.Settle syncs kept) = Reported.Settle syncs kept
+reported_value (was.DumpHex m octets) = Reported.DumpHex m octets.items
+reported_value (was.DumpNone m) = Reported.DumpNone m
+reported_value (was.HearSteady m) = Reported.HearSteady m
+reported_value (was.HearSuppressed m) = Reported.HearSuppressed m
+reported_value (was.HearRefused m refusal) = Reported.HearRefused m refusal
+reported_value (was.AskFound m octets) = Reported.AskFound m octets.items
+reported_value (was.AskNone m) = Reported.AskNone m
+reported_value (was.AskRefused m refusal) = Reported.AskRefused m refusal
+reported_value (was.FeedKept m f) = Reported.FeedKept m f
+reported_value (was.FeedRefused m f refusal) = Reported.FeedRefused m f refusal
+reported_value (was.Order m code process inserted deleted) = Reported.Order m code process inserted deleted
+reported_value (was.Insert m code process inserted deleted) = Reported.Insert m code process inserted deleted
+reported_value (was.Status m code process inserted deleted) = Reported.Status m code process inserted deleted
+reported_value (was.Delete m code process inserted deleted) = Reported.Delete m code process inserted deleted
+reported_value (was.Block300 m) = Reported.Block300 m
+reported_value (was.Block404 m) = Reported.Block404 m
+reported_value (was.Block200 m) = Reported.Block200 m
+reported_value (was.BlockPublished m seq sync) = Reported.BlockPublished m seq sync
+reported_value (was.Summary members entries segments octets) =
+    Reported.Summary members.items entries.items segments.items octets.items
+reported_value (was.Traffic syncs delivered attempts parts octets) = Reported.Traffic syncs delivered attempts parts
+    octets
 
 -- ---- what is told in a world
 
-abbrev pub delivered_told : ℕ → ℕ → Mode → Told
-delivered_told k m Steady = Told.DeliverSteady k m
-delivered_told k m Suppressed = Told.DeliverSuppressed k m
+abbrev pub delivered_reported : ℕ → ℕ → Mode → Reported
+delivered_reported k m Steady = Reported.DeliverSteady k m
+delivered_reported k m Suppressed = Reported.DeliverSuppressed k m
 
 -- Where the next sync Interest has this number.
-abbrev pub fired_told : ℕ → ℕ → Fired → Told
-fired_told m k fired.Early = Told.FireEarly m
-fired_told m k fired.Quiet = Told.FireQuiet m
-fired_told m k fired.Send = Told.FireSent m k
+abbrev pub fired_reported : ℕ → ℕ → Fired → Reported
+fired_reported m k fired.Early = Reported.FireEarly m
+fired_reported m k fired.Quiet = Reported.FireQuiet m
+fired_reported m k fired.Send = Reported.FireSent m k
 
-abbrev pub claim_told : ℕ → ℕ → Option Part → Told
-claim_told m f None = Told.ClaimNone m f
-claim_told m f (Some t) = Told.ClaimPart m f t.publisher t.seq t.part
-
--- A fetcher that claims nothing is refused.
-abbrev pub lost_told : ℕ → ℕ → Option Part → Told
-lost_told m f None = Told.Nothing
-lost_told m f (Some t) = Told.Lose m f t.publisher t.seq t.part
-
-abbrev pub answer_told : ℕ → ℕ → Bool → Told
-answer_told m f kept = if kept then Told.AnswerKept m f else Told.AnswerNone m f
-
-abbrev pub dump_told : ℕ → Option (List ℕ) → Told
-dump_told m None = Told.DumpNone m
-dump_told m (Some octets) = Told.DumpHex m octets
-
-abbrev pub mode_told : ℕ → Mode → Told
-mode_told m Steady = Told.HearSteady m
-mode_told m Suppressed = Told.HearSuppressed m
-
-abbrev pub heard_as : ℕ → Result Mode (ℕ × ℕ) → Told
-heard_as m (Ok mode) = mode_told m mode
-heard_as m (Err ahead) = Told.HearRefused m (hear.OwnNumberAhead ahead.0 ahead.1)
-
--- Where octets are refused, why is told by the verdict on them.
-abbrev pub hear_told : (m : ℕ) (verdict : Result (ℕ × List ℕ) SyncRefusal) → HearOutcome (read_as verdict) → Told
-hear_told m (Err refusal) heard = Told.HearRefused m (hear.Sync refusal)
-hear_told m (Ok told) heard = heard_as m heard
-
-abbrev pub ask_told : ℕ → Result (Option (List ℕ)) PacketFault → Told
-ask_told m (Err fault) = Told.AskRefused m fault
-ask_told m (Ok None) = Told.AskNone m
-ask_told m (Ok (Some octets)) = Told.AskFound m octets
-
-abbrev pub fed_told : ℕ → ℕ → Result Data PartRefusal → Told
-fed_told m f (Ok d) = Told.FeedKept m f
-fed_told m f (Err refusal) = Told.FeedRefused m f refusal
+abbrev pub claim_reported : ℕ → ℕ → Option Part → Reported
+claim_reported m f None = Reported.ClaimNone m f
+claim_reported m f (Some t) = Reported.ClaimPart m f t.publisher t.seq t.part
 
 -- A fetcher that claims nothing is refused.
-abbrev pub feed_told : GroupKeys → World → ℕ → ℕ → List ℕ → Option Part → Told
-feed_told g w m f octets None = Told.Nothing
-feed_told g w m f octets (Some t) = fed_told m f (ring_verdict (true_want g (logs w) t) g.members.ring octets)
+abbrev pub lost_reported : ℕ → ℕ → Option Part → Reported
+lost_reported m f None = Reported.Nothing
+lost_reported m f (Some t) = Reported.Lose m f t.publisher t.seq t.part
+
+abbrev pub answer_reported : ℕ → ℕ → Bool → Reported
+answer_reported m f kept = if kept then Reported.AnswerKept m f else Reported.AnswerNone m f
+
+abbrev pub dump_reported : ℕ → Option (List ℕ) → Reported
+dump_reported m None = Reported.DumpNone m
+dump_reported m (Some octets) = Reported.DumpHex m octets
+
+abbrev pub mode_reported : ℕ → Mode → Reported
+mode_reported m Steady = Reported.HearSteady m
+mode_reported m Suppressed = Reported.HearSuppressed m
+
+abbrev pub heard_as : ℕ → Result Mode (ℕ × ℕ) → Reported
+heard_as m (Ok mode) = mode_reported m mode
+heard_as m (Err ahead) = Reported.HearRefused m (hear.OwnNumberAhead ahead.0 ahead.1)
+
+-- Where octets are refused, why is reported by the verdict on them.
+abbrev pub hear_reported : (m : ℕ) (verdict : Result (ℕ × List ℕ) SyncRefusal) → HearOutcome (read_as verdict)
+    → Reported
+hear_reported m (Err refusal) heard = Reported.HearRefused m (hear.Sync refusal)
+hear_reported m (Ok reported) heard = heard_as m heard
+
+abbrev pub ask_reported : ℕ → Result (Option (List ℕ)) PacketFault → Reported
+ask_reported m (Err fault) = Reported.AskRefused m fault
+ask_reported m (Ok None) = Reported.AskNone m
+ask_reported m (Ok (Some octets)) = Reported.AskFound m octets
+
+abbrev pub fed_reported : ℕ → ℕ → Result Data PartRefusal → Reported
+fed_reported m f (Ok d) = Reported.FeedKept m f
+fed_reported m f (Err refusal) = Reported.FeedRefused m f refusal
+
+-- A fetcher that claims nothing is refused.
+abbrev pub feed_reported : GroupKeys → World → ℕ → ℕ → List ℕ → Option Part → Reported
+feed_reported g w m f octets None = Reported.Nothing
+feed_reported g w m f octets (Some t) = fed_reported m f
+    (ring_verdict (published_want g (logs w) t) g.members.ring octets)
 
 -- What a command is answered.
-abbrev pub order_told : ℕ → CommandAnswer → Told
-order_told m a = Told.Order m a.code a.process a.inserted a.deleted
+abbrev pub order_reported : ℕ → CommandAnswer → Reported
+order_reported m a = Reported.Order m a.code a.process a.inserted a.deleted
 
-abbrev pub insert_told : ℕ → CommandAnswer → Told
-insert_told m a = Told.Insert m a.code a.process a.inserted a.deleted
+abbrev pub insert_reported : ℕ → CommandAnswer → Reported
+insert_reported m a = Reported.Insert m a.code a.process a.inserted a.deleted
 
-abbrev pub status_told : ℕ → CommandAnswer → Told
-status_told m a = Told.Status m a.code a.process a.inserted a.deleted
+abbrev pub status_reported : ℕ → CommandAnswer → Reported
+status_reported m a = Reported.Status m a.code a.process a.inserted a.deleted
 
-abbrev pub delete_told : ℕ → CommandAnswer → Told
-delete_told m a = Told.Delete m a.code a.process a.inserted a.deleted
+abbrev pub delete_reported : ℕ → CommandAnswer → Reported
+delete_reported m a = Reported.Delete m a.code a.process a.inserted a.deleted
 
 -- What a block comes to, where the next publication and the next sync Interest have these numbers.
-abbrev pub block_told : (m seq sync : ℕ) → BlockState → Told
-block_told m seq sync Unknown = Told.Block404 m
-block_told m seq sync Already = Told.Block200 m
-block_told m seq sync (Waiting p) = Told.Block300 m
-block_told m seq sync (Whole p) = Told.BlockPublished m seq sync
+abbrev pub block_reported : (m seq sync : ℕ) → BlockState → Reported
+block_reported m seq sync Unknown = Reported.Block404 m
+block_reported m seq sync Already = Reported.Block200 m
+block_reported m seq sync (Waiting p) = Reported.Block300 m
+block_reported m seq sync (Whole p) = Reported.BlockPublished m seq sync
 
--- What is told of an event, by what the model tells of it. Of octets that are asked with or fed, the model has only
--- whether they pass, and their verdict is told.
-abbrev pub event_told : (g : GroupKeys) → World → (e : EventValue) → OutcomeOf (group_event g e) → Told
-event_told g w (EventValue.Publish m name size content) told = Told.Publish m told.seq told.segments told.sync
-event_told g w (EventValue.Withdraw m s) told = Told.Withdraw m told.seq s told.sync
-event_told g w (EventValue.Deliver k m) mode = delivered_told k m mode
-event_told g w (EventValue.Sync k) sync = Told.Sync k (sync_of g sync.sender sync.vector)
-event_told g w (EventValue.Advance ms) moment = Told.Advance moment
-event_told g w (EventValue.Fire m) told = fired_told m told.sync told.timer
-event_told g w (EventValue.Restart m) told = Told.Restart m
-event_told g w (EventValue.Vector m) vector = Told.Vector m (numbers_from 0 (length w.members)) vector
-event_told g w (EventValue.Catalogue m) entries = Told.Catalogue m (length entries) entries
-event_told g w (EventValue.Claim m f) part = claim_told m f part
-event_told g w (EventValue.Lose m f) part = lost_told m f part
-event_told g w (EventValue.Answer m f q) kept = answer_told m f kept
-event_told g w (EventValue.Fetch m workers tries loss) told = Told.Fetch m told.planned told.kept told.attempts
-event_told g w (EventValue.Settle workers) told = Told.Settle told.syncs told.kept
-event_told g w (EventValue.Dump m p s x) held =
-    dump_told m (if held then true_packet g (logs w) (part_at p s x) else None)
-event_told g w (EventValue.Hear m octets) heard = hear_told m (group_verdict g octets) heard
-event_told g w (EventValue.Ask m octets) found = ask_told m (served octets (true_packets g (logs w) (member w m).held))
-event_told g w (EventValue.Feed m f octets) kept = feed_told g w m f octets (claim_at w m f)
-event_told g w (EventValue.Order m octets) answer = order_told m answer
-event_told g w (EventValue.Insert m client name first last) answer = insert_told m answer
-event_told g w (EventValue.Block m process index content) told = block_told m told.seq told.sync told.state
-event_told g w (EventValue.Status m client process) answer = status_told m answer
-event_told g w (EventValue.Delete m client name) answer = delete_told m answer
-event_told g w EventValue.Summary totals = Told.Summary (numbers_from 0 (length w.members))
+-- What is reported of an event, by what the model says of it. Of octets that are asked with or fed, the model has only
+-- whether they pass, and their verdict is reported.
+abbrev pub event_reported : (g : GroupKeys) → World → (e : EventValue) → OutcomeOf (group_event g e) → Reported
+event_reported g w (EventValue.Publish m name size content) reported = Reported.Publish m reported.seq reported.segments
+    reported.sync
+event_reported g w (EventValue.Withdraw m s) reported = Reported.Withdraw m reported.seq s reported.sync
+event_reported g w (EventValue.Deliver k m) mode = delivered_reported k m mode
+event_reported g w (EventValue.Sync k) sync = Reported.Sync k (sync_of g sync.sender sync.vector)
+event_reported g w (EventValue.Advance ms) time = Reported.Advance time
+event_reported g w (EventValue.Fire m) reported = fired_reported m reported.sync reported.timer
+event_reported g w (EventValue.Restart m) reported = Reported.Restart m
+event_reported g w (EventValue.Vector m) vector = Reported.Vector m (numbers_from 0 (length w.members)) vector
+event_reported g w (EventValue.Catalogue m) entries = Reported.Catalogue m (length entries) entries
+event_reported g w (EventValue.Claim m f) part = claim_reported m f part
+event_reported g w (EventValue.Lose m f) part = lost_reported m f part
+event_reported g w (EventValue.Answer m f q) kept = answer_reported m f kept
+event_reported g w (EventValue.Fetch m workers tries loss) reported = Reported.Fetch m reported.planned reported.kept
+    reported.attempts
+event_reported g w (EventValue.Settle workers) reported = Reported.Settle reported.syncs reported.kept
+event_reported g w (EventValue.Dump m p s x) held =
+    dump_reported m (if held then published_packet g (logs w) (part_at p s x) else None)
+event_reported g w (EventValue.Hear m octets) heard = hear_reported m (group_verdict g octets) heard
+event_reported g w (EventValue.Ask m octets) found = ask_reported m
+    (served octets (published_packets g (logs w) (member w m).held))
+event_reported g w (EventValue.Feed m f octets) kept = feed_reported g w m f octets (claim_at w m f)
+event_reported g w (EventValue.Order m octets) answer = order_reported m answer
+event_reported g w (EventValue.Insert m client name first last) answer = insert_reported m answer
+event_reported g w (EventValue.Block m process index content) reported = block_reported m reported.seq reported.sync
+    reported.state
+event_reported g w (EventValue.Status m client process) answer = status_reported m answer
+event_reported g w (EventValue.Delete m client name) answer = delete_reported m answer
+event_reported g w EventValue.Summary totals = Reported.Summary (numbers_from 0 (length w.members))
     (map (λ t. t.entries) totals) (map (λ t. t.segments) totals) (map (λ t. t.octets) totals)
-event_told g w EventValue.Traffic told =
-    Told.Traffic told.syncs told.delivered told.attempts told.parts told.octets
+event_reported g w EventValue.Traffic reported =
+    Reported.Traffic reported.syncs reported.delivered reported.attempts reported.parts reported.octets
 
-abbrev pub telling : GroupKeys → Outside → World → EventValue → Told
-telling g out w e = event_told g w e (outcome out w (group_event g e))
+abbrev pub event_report : GroupKeys → Environment → World → EventValue → Reported
+event_report g out w e = event_reported g w e (outcome out w (group_event g e))

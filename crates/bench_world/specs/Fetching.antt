@@ -5,21 +5,21 @@ use Rattle.sorted_lists.specs.Range.{numbers_from}
 use Rattle.repo_plan.specs.Plan.{attempts_of}
 use Rattle.repo_holdings.specs.HoldingsState.{HoldingsState, held_plan}
 use Rattle.repo_holdings.specs.Taking.{Fetched}
-use Rattle.repo_member.specs.Alone.{Alone}
+use Rattle.repo_member.specs.MemberState.{MemberState}
 use Rattle.bench_world.specs.Lending.{lent, lends}
 
 -- The first of so many attempts that comes through, where one of the others stores the part.
-abbrev pub attempt_at : (Part → ℕ → Bool) → List Alone → ℕ → HoldingsState → Part → Option ℕ
+abbrev pub attempt_at : (Part → ℕ → Bool) → List MemberState → ℕ → HoldingsState → Part → Option ℕ
 attempt_at passes others tries h t =
     if lends others t then find (λ n. passes t (attempts_of (held_plan h) t + n)) (numbers_from 1 tries) else None
 
 -- What comes of a part in so many tries at most.
-abbrev pub fetched_one : (Part → ℕ → Bool) → List Alone → ℕ → HoldingsState → Part → Fetched
+abbrev pub fetched_one : (Part → ℕ → Bool) → List MemberState → ℕ → HoldingsState → Part → Fetched
 fetched_one passes others tries h t = record {
   part = t;
   packet = if is_some (attempt_at passes others tries h t) then lent others t else None;
   attempts = unwrap_or (attempt_at passes others tries h t) tries;
 }
 
-abbrev pub fetched_all : (Part → ℕ → Bool) → List Alone → ℕ → HoldingsState → List Part → List Fetched
+abbrev pub fetched_all : (Part → ℕ → Bool) → List MemberState → ℕ → HoldingsState → List Part → List Fetched
 fetched_all passes others tries h ts = map (fetched_one passes others tries h) ts

@@ -8,7 +8,7 @@ use Rattle.repo_holdings.specs.HoldingsState.{HoldingsState, held_plan}
 use Rattle.repo_holdings.specs.Taking.{Fetched}
 use Rattle.group_model.specs.Publications.{Logs}
 use Rattle.repo_member.specs.Groups.{GroupKeys}
-use Rattle.repo_member.specs.Alone.{Alone}
+use Rattle.repo_member.specs.MemberState.{MemberState}
 use Rattle.bench_world.specs.Lending.{lent, lends}
 use Rattle.bench_world.specs.Holders.{HolderWords, has}
 
@@ -17,14 +17,14 @@ abbrev pub next_parts : Option Part → HoldingsState → List Part
 next_parts after h = take 4096 (filter (is_after after) (unclaimed (held_plan h)))
 
 -- The parts of the next phase of a settle: the least 4,096 of such parts that others lend.
-abbrev pub next_lent : List Alone → Option Part → HoldingsState → List Part
+abbrev pub next_lent : List MemberState → Option Part → HoldingsState → List Part
 next_lent others after h = take 4096 (filter (lends others) (filter (is_after after) (unclaimed (held_plan h))))
 
 -- What a phase brings for a part in a settle, in which no attempt is counted.
-abbrev pub lent_one : List Alone → Part → Fetched
+abbrev pub lent_one : List MemberState → Part → Fetched
 lent_one others t = record { part = t; packet = lent others t; attempts = 0 }
 
-abbrev pub lent_all : List Alone → List Part → List Fetched
+abbrev pub lent_all : List MemberState → List Part → List Fetched
 lent_all others ts = map (lent_one others) ts
 
 -- The next phase's place is that of one of the parts, if there is one.
@@ -37,9 +37,9 @@ one_each t = 1
 
 module _ {H : Type 0} (words : HolderWords H) where
   -- A holder has gained parts of those that others store, and nothing else of it changed.
-  pub record GainsParts (g : GroupKeys) (logs : Logs) (others : List Alone) (old new : H) : Type 0 where
+  pub record GainsParts (g : GroupKeys) (logs : Logs) (others : List MemberState) (old new : H) : Type 0 where
     pub rest : words.rest new ≡ words.rest old
-    pub truly : words.is_true g logs new
+    pub consistent : words.is_true g logs new
     pub kept : (t : Part) → has words old t ≡ true → has words new t ≡ true
     pub came : (t : Part) → has words new t ≡ true → (has words old t ≡ true) ⊎ (lends others t ≡ true)
 
@@ -51,12 +51,12 @@ module _ {H : Type 0} (words : HolderWords H) where
   Counts weight n old new = n + held_sum weight old ≡ held_sum weight new
 
   -- The others store no part that it wants.
-  abbrev pub NothingLeft : List Alone → H → Type 0
+  abbrev pub NothingLeft : List MemberState → H → Type 0
   NothingLeft others s = (t : Part) → is_unclaimed (held_plan (words.holdings s)) t ≡ true → lends others t ≡ false
 
   -- What a round has done up to a place: so many parts came, and where none did, the others store no open part up to
   -- there.
-  pub record RoundSoFar (g : GroupKeys) (logs : Logs) (others : List Alone) (after : Option Part) (kept : ℕ)
+  pub record RoundSoFar (g : GroupKeys) (logs : Logs) (others : List MemberState) (after : Option Part) (kept : ℕ)
       (old new : H) : Type 0 where
     pub gains : GainsParts g logs others old new
     pub count : Counts one_each kept old new

@@ -13,9 +13,9 @@ use Rattle.repo_object.specs.declared.job.Job.{Job}
 use Rattle.group_model.specs.Publications.{Logs}
 use Rattle.group_model.specs.Sound.{IsPublishedPart}
 use Rattle.repo_member.specs.Groups.{GroupKeys}
-use Rattle.repo_member.specs.Alone.{Alone}
-use Rattle.repo_member.specs.InGroup.{AreLogs, true_packet, that_came}
-use Rattle.repo_member.specs.TrueHolders.{IsTrueHolder}
+use Rattle.repo_member.specs.MemberState.{MemberState}
+use Rattle.repo_member.specs.InGroup.{AreLogs, published_packet, that_came}
+use Rattle.repo_member.specs.ConsistentHolders.{IsConsistentHolder}
 use Rattle.bench_world.specs.Lending.{lends}
 
 -- What contracts say of a holder of some kind.
@@ -31,7 +31,7 @@ abbrev pub has : {H : Type 0} → HolderWords H → H → Part → Bool
 has words s t = contains part_cmp (words.held s) t
 
 -- The jobs of the least parts that are wanted and unclaimed, after a place, and that others lend, at most so many.
-abbrev pub lent_jobs : GroupKeys → List Alone → HoldingsState → Option Part → ℕ → List Job
+abbrev pub lent_jobs : GroupKeys → List MemberState → HoldingsState → Option Part → ℕ → List Job
 lent_jobs g others h after most =
     map (job_at g.members.names g.name h)
     (take most (filter (lends others) (filter (is_after after) (unclaimed (held_plan h)))))
@@ -39,7 +39,7 @@ lent_jobs g others h after most =
 -- A part that it wants and that no fetcher claims was asked for, and nothing came, or its packet.
 pub record CameForHolder (g : GroupKeys) (logs : Logs) (h : HoldingsState) (x : Fetched) : Type 0 where
   pub unclaimed : is_unclaimed (held_plan h) x.part ≡ true
-  pub packet : IfSome x.packet (λ octets. true_packet g logs x.part ≡ Some octets)
+  pub packet : IfSome x.packet (λ octets. published_packet g logs x.part ≡ Some octets)
 
 -- No packet came, and no attempt is counted.
 pub record CameToNothing (x : Fetched) : Type 0 where
@@ -49,12 +49,13 @@ pub record CameToNothing (x : Fetched) : Type 0 where
 -- What holds of each holder of a kind: what it holds is in order, was published, and isn't wanted; where packets of
 -- wanted parts come, it holds those parts too; and nothing else of it changes where no attempt is counted.
 pub record AreHolders {H : Type 0} (words : HolderWords H) : Type 0 where
-  pub holder : (g : GroupKeys) (logs : Logs) (s : H) → words.is_true g logs s → IsTrueHolder g logs (words.holdings s)
+  pub holder : (g : GroupKeys) (logs : Logs) (s : H) → words.is_true g logs s
+      → IsConsistentHolder g logs (words.holdings s)
   pub in_order : (g : GroupKeys) (logs : Logs) (s : H) → words.is_true g logs s → Rises part_cmp (words.held s)
   pub published : (g : GroupKeys) (logs : Logs) (s : H) (t : Part) → words.is_true g logs s → has words s t ≡ true
       → IsPublishedPart logs t
   pub not_held : (s : H) (t : Part) → is_wanted (held_plan (words.holdings s)) t ≡ true → has words s t ≡ false
-  pub takes_truly : (g : GroupKeys) (logs : Logs) (xs : List Fetched) (s : H) → AreLogs g logs
+  pub takes_consistently : (g : GroupKeys) (logs : Logs) (xs : List Fetched) (s : H) → AreLogs g logs
       → All (CameForHolder g logs (words.holdings s)) xs → words.is_true g logs s
       → words.is_true g logs (words.takes xs s)
   pub takes_those : (g : GroupKeys) (logs : Logs) (xs : List Fetched) (s : H) (t : Part) → AreLogs g logs

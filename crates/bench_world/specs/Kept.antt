@@ -1,13 +1,13 @@
 -- How a world is kept.
 use Rattle.bench_world.specs.declared.world.World.TheInside.{Inside}
-use Rattle.bench_world.specs.Worlds.{GroupState, IsTrueState}
+use Rattle.bench_world.specs.Worlds.{GroupState, IsConsistentState}
 
 abbrev pub world_state : Inside → GroupState
 world_state w = record {
   keys = w.group;
   members = w.members.items;
   sent = w.sent.packets;
-  moment = w.moment;
+  time = w.time;
   issued = w.issued.commands;
   tally = record { delivered = w.delivered; attempts = w.attempts; parts = w.parts; octets = w.octets };
   steps = w.steps;
@@ -15,4 +15,4 @@ world_state w = record {
 }
 
 abbrev pub IsWorld : Inside → Type 0
-IsWorld w = IsTrueState (world_state w)
+IsWorld w = IsConsistentState (world_state w)

@@ -4,7 +4,7 @@ use Rattle.repo_plan.specs.declared.part.Part.{Part}
 use Rattle.sorted_lists.specs.SortedList.{value_of}
 use Rattle.repo_plan.specs.Parts.{part_cmp}
 use Rattle.repo_object.specs.Wants.{WantedPart}
-use Rattle.repo_member.specs.Alone.{Alone}
+use Rattle.repo_member.specs.MemberState.{MemberState}
 use Rattle.bench_world.specs.Others.{place_among_others}
 
 abbrev pub or_else : Option (List ℕ) → Option (List ℕ) → Option (List ℕ)
@@ -12,22 +12,22 @@ or_else None other = other
 or_else (Some octets) other = Some octets
 
 -- The packet of the first of these members that stores the part's.
-abbrev pub lent : List Alone → Part → Option (List ℕ)
+abbrev pub lent : List MemberState → Part → Option (List ℕ)
 lent [] t = None
 lent (a ∷ others) t = or_else (value_of part_cmp a.store t) (lent others t)
 
 -- One of them stores it.
-abbrev pub lends : List Alone → Part → Bool
+abbrev pub lends : List MemberState → Part → Bool
 lends others t = is_some (lent others t)
 
 -- ---- the publisher first
 
-abbrev pub lent_at : Option Alone → Part → Option (List ℕ)
+abbrev pub lent_at : Option MemberState → Part → Option (List ℕ)
 lent_at None t = None
 lent_at (Some a) t = value_of part_cmp a.store t
 
 -- The packet that the part's publisher stores of it, or else the first of the others that stores it.
-abbrev pub lent_first : List Alone → ℕ → Part → Option (List ℕ)
+abbrev pub lent_first : List MemberState → ℕ → Part → Option (List ℕ)
 lent_first others asker t =
     or_else (lent_at (slice_get others (place_among_others asker t.publisher)) t) (lent others t)
 
@@ -43,6 +43,7 @@ if_comes true octets = octets
 if_comes false octets = None
 
 -- What a link over members answers, where the network passes these attempts.
-abbrev pub lent_answer : (ℕ → ℕ → ℕ → ℕ → ℕ → ℕ → Bool) → List Alone → ℕ → Option ℕ → WantedPart → ℕ → Option (List ℕ)
+abbrev pub lent_answer : (ℕ → ℕ → ℕ → ℕ → ℕ → ℕ → Bool) → List MemberState → ℕ → Option ℕ → WantedPart → ℕ
+    → Option (List ℕ)
 lent_answer passes others asker loss want attempt =
     if_comes (attempt_comes passes asker loss want.part attempt) (lent_first others asker want.part)

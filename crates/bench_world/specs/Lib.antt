@@ -23,7 +23,7 @@ pub mod Answering
 pub mod Hearing
 pub mod Answerable
 pub mod Replying
-pub mod Sums
+pub mod MemberTotals
 pub mod Runs
 pub mod MirrorSteps
 pub mod MirrorFetching

@@ -9,29 +9,30 @@ use Rattle.repo_holdings.specs.Taking.{Fetched, with_fetched, with_tries}
 use Rattle.group_model.specs.Publications.{Logs}
 use Rattle.group_model.proofs.Members.{known_published}
 use Rattle.repo_member.specs.Groups.{GroupKeys}
-use Rattle.repo_member.specs.Alone.{Alone, alone_holdings, alone_plan, alone_takes}
-use Rattle.repo_member.specs.InGroup.{true_packet}
-use Rattle.repo_member.specs.TrueChanges.{IsTrueArrival}
-use Rattle.repo_member.proofs.PublicLaws.{member_is_holder, members_take_all, fetched_are_stored, true_is_alone}
-use Rattle.repo_member.proofs.PublicLaws.{takes_true}
+use Rattle.repo_member.specs.MemberState.{MemberState, member_holdings, member_plan, member_takes}
+use Rattle.repo_member.specs.InGroup.{published_packet}
+use Rattle.repo_member.specs.ConsistentChanges.{IsConsistentArrival}
+use Rattle.repo_member.proofs.PublicLaws.{member_is_holder, members_take_all, fetched_are_stored}
+use Rattle.repo_member.proofs.PublicLaws.{consistent_is_member_state}
+use Rattle.repo_member.proofs.PublicLaws.{takes_consistent}
 use Rattle.bench_world.specs.Holders.{AreHolders, CameForHolder, CameToNothing}
 use Rattle.bench_world.specs.MemberWords.{member_words}
 
 -- What came is what a member takes.
-arrives : (g : GroupKeys) (logs : Logs) (a : Alone) (x : Fetched) → CameForHolder g logs (alone_holdings a) x
-    → IfSome x.packet (IsTrueArrival g logs a x.part)
+arrives : (g : GroupKeys) (logs : Logs) (a : MemberState) (x : Fetched) → CameForHolder g logs (member_holdings a) x
+    → IfSome x.packet (IsConsistentArrival g logs a x.part)
 arrives g logs a x came = go x.packet came.packet where
-  go : (o : Option (List ℕ)) → IfSome o (λ octets. true_packet g logs x.part ≡ Some octets)
-      → IfSome o (IsTrueArrival g logs a x.part)
+  go : (o : Option (List ℕ)) → IfSome o (λ octets. published_packet g logs x.part ≡ Some octets)
+      → IfSome o (IsConsistentArrival g logs a x.part)
   go None h = tt
   go (Some octets) h = record { unclaimed = came.unclaimed; packet = h }
 
 -- Where nothing came, nothing is taken.
-takes_nothing : (xs : List Fetched) (a : Alone) → All CameToNothing xs → alone_takes xs a ≡ a
+takes_nothing : (xs : List Fetched) (a : MemberState) → All CameToNothing xs → member_takes xs a ≡ a
 takes_nothing [] a none = refl
 takes_nothing (x ∷ xs) a none =
     let one : CameToNothing x = none 0 x (omega arith) in
-    ap (alone_takes xs)
+    ap (member_takes xs)
     (λ i. record a {
       store = with_fetched x.part (one.packet i) a.store;
       attempts = with_tries x.part (one.attempts i) a.attempts;
@@ -39,8 +40,8 @@ takes_nothing (x ∷ xs) a none =
     ∙ takes_nothing xs a (λ k d l. none (suc k) d (omega (arith, l)))
 
 -- Where no attempt is counted, all but what is stored stays.
-rest_stays : (xs : List Fetched) (a : Alone) → All (λ (x : Fetched). x.attempts ≡ 0) xs
-    → record (alone_takes xs a) { store = [] } ≡ record a { store = [] }
+rest_stays : (xs : List Fetched) (a : MemberState) → All (λ (x : Fetched). x.attempts ≡ 0) xs
+    → record (member_takes xs a) { store = [] } ≡ record a { store = [] }
 rest_stays [] a none = refl
 rest_stays (x ∷ xs) a none =
     let one : x.attempts ≡ 0 = none 0 x (omega arith) in
@@ -53,15 +54,20 @@ rest_stays (x ∷ xs) a none =
 pub members_hold : AreHolders member_words
 members_hold = record {
   holder = member_is_holder;
-  in_order = λ g logs a truly. (true_is_alone g logs a truly).in_order;
-  published = λ g logs a t truly h.
-      let held = truly.sound.held t h in
-      record { there = known_published logs a.known (pair_of t) truly.sound.known held.known; counted = held.counted };
-  not_held = λ a t wanted. (wanted_parts (alone_plan a) t wanted).not_held;
-  takes_truly = λ g logs xs a are come truly. takes_true g logs xs a are
-      (λ k d l. arrives g logs a (slice_index_or xs k d) (come k d l)) truly;
-  takes_those = λ g logs xs a t are come truly.
-      ap (λ (b : Alone). contains part_cmp (keys b.store) t) (members_take_all xs a) ∙ fetched_are_stored xs a.store t;
+  in_order = λ g logs a consistent. (consistent_is_member_state g logs a consistent).in_order;
+  published = λ g logs a t consistent h.
+      let held = consistent.sound.held t h in
+      record {
+        there = known_published logs a.known (pair_of t) consistent.sound.known held.known;
+        counted =
+            held.counted;
+      };
+  not_held = λ a t wanted. (wanted_parts (member_plan a) t wanted).not_held;
+  takes_consistently = λ g logs xs a are come consistent. takes_consistent g logs xs a are
+      (λ k d l. arrives g logs a (slice_index_or xs k d) (come k d l)) consistent;
+  takes_those = λ g logs xs a t are come consistent.
+      ap (λ (b : MemberState). contains part_cmp (keys b.store) t) (members_take_all xs a)
+      ∙ fetched_are_stored xs a.store t;
   takes_nothing = takes_nothing;
   rest_stays = rest_stays;
   attempts = λ a. refl;

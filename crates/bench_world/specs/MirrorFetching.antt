@@ -11,7 +11,7 @@ use Rattle.group_model.specs.World.{World, logs, someone_holds}
 use Rattle.repo_mirror.specs.Asked.{is_kept}
 use Rattle.repo_mirror.specs.Mirrors.{mirror_plan, mirror_holds, IsWantedByMirror}
 use Rattle.repo_mirror.specs.MirrorState.{MirrorState}
-use Rattle.repo_mirror.specs.TrueMirrors.{mirror_in_group}
+use Rattle.repo_mirror.specs.ConsistentMirrors.{mirror_in_group}
 
 -- The parts that a mirror wants, in order.
 abbrev pub mirror_wants : World → MirrorState → List Part

@@ -2,7 +2,7 @@
 use Rattle.std.specs.Prelude.{ℕ, ◌≡◌, ◌≤◌, ◌<◌, true, false, List, length, filter, slice_index, sum_by}
 use Rattle.svs_vector.specs.Vectors.{join}
 use Rattle.repo_plan.specs.declared.part.Part.{Part}
-use Rattle.repo_holdings.specs.Listed.{alone_catalogue}
+use Rattle.repo_holdings.specs.Listed.{member_catalogue}
 use Rattle.group_model.specs.Publications.{join_of}
 use Rattle.group_model.specs.World.{World, logs}
 use Rattle.group_model.specs.Steps.{settled_vector}
@@ -10,7 +10,7 @@ use Rattle.repo_mirror.specs.Mirrors.{mirror_holds, ComeInTurn, is_entry_accepte
 use Rattle.repo_mirror.specs.MirrorLaws.{GainsThose, HasComeToRest, learns_all}
 use Rattle.repo_member.specs.Groups.{GroupKeys}
 use Rattle.repo_mirror.specs.MirrorState.{MirrorState}
-use Rattle.repo_mirror.specs.TrueMirrors.{mirror_in_group, IsTrueMirror}
+use Rattle.repo_mirror.specs.ConsistentMirrors.{mirror_in_group, IsConsistentMirror}
 use Rattle.bench_world.specs.MirrorSteps.{mirror_at}
 use Rattle.bench_world.specs.MirrorWords.{mirror_held}
 
@@ -36,7 +36,7 @@ held_by_all mirrors = sum_by held_by mirrors
 
 -- The mirror's catalogue is what its pattern accepts of the join of all publications.
 abbrev pub ListsItsJoin : World → MirrorState → Type 0
-ListsItsJoin w m = alone_catalogue m.store ≡ filter (is_entry_accepted m.pattern) (join_of (logs w))
+ListsItsJoin w m = member_catalogue m.store ≡ filter (is_entry_accepted m.pattern) (join_of (logs w))
 
 -- A mirror has come a part of the way: each place of its vector lies between the old and the settled one, and it holds
 -- its old parts and only parts that it would have held.
@@ -60,7 +60,7 @@ ArePartlySettledMirrors w old new =
 pub record SettledSoFar (g : GroupKeys) (w : World) (begun : List MirrorState) (j : ℕ) (new : List MirrorState)
     : Type 0 where
   pub len : length new ≡ length begun
-  pub truly : (i : ℕ) → i < length new → IsTrueMirror g (logs w) (mirror_at new i)
+  pub consistent : (i : ℕ) → i < length new → IsConsistentMirror g (logs w) (mirror_at new i)
   pub partly : ArePartlySettledMirrors w begun new
   pub done : (i : ℕ) → i < j → HasSettled w (mirror_at begun i) (mirror_at new i)
   pub still : (i : ℕ) → j ≤ i → mirror_at new i ≡ mirror_at begun i

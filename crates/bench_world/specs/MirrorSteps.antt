@@ -2,7 +2,7 @@
 use Rattle.std.specs.Prelude.{ℕ, ◌+◌, Bool, List, [], Some, None, slice_index_or}
 use Rattle.svs_vector.specs.Vectors.{join}
 use Rattle.repo_holdings.specs.Taking.{Fetched}
-use Rattle.repo_member.specs.Alone.{Alone}
+use Rattle.repo_member.specs.MemberState.{MemberState}
 use Rattle.repo_mirror.specs.MirrorState.{MirrorState, mirror_opening, mirror_holdings}
 use Rattle.repo_mirror.specs.Passing.{mirror_takes}
 use Rattle.bench_world.specs.Lending.{attempt_comes}
@@ -20,18 +20,18 @@ no_mirror = mirror_opening (record { publisher = None; prefix = [] }) 0
 abbrev pub mirror_at : List MirrorState → ℕ → MirrorState
 mirror_at mirrors i = slice_index_or mirrors i no_mirror
 
--- It is told a vector.
+-- It is given a vector.
 abbrev pub mirror_learns : List ℕ → MirrorState → MirrorState
-mirror_learns told m = record m { known = join m.known told }
+mirror_learns reported m = record m { known = join m.known reported }
 
 -- What comes of the parts that it asks members for in a fetch. To the network its number is by 16 higher.
-abbrev pub mirror_fetched : (ℕ → ℕ → ℕ → ℕ → ℕ → ℕ → Bool) → List Alone → (i tries loss : ℕ) → MirrorState
+abbrev pub mirror_fetched : (ℕ → ℕ → ℕ → ℕ → ℕ → ℕ → Bool) → List MemberState → (i tries loss : ℕ) → MirrorState
     → List Fetched
 mirror_fetched passes members i tries loss m =
     fetched_all (attempt_comes passes (16 + i) (Some loss)) members tries (mirror_holdings m)
     (next_parts None (mirror_holdings m))
 
 -- It takes that.
-abbrev pub mirror_fetches : (ℕ → ℕ → ℕ → ℕ → ℕ → ℕ → Bool) → List Alone → (i tries loss : ℕ) → MirrorState
+abbrev pub mirror_fetches : (ℕ → ℕ → ℕ → ℕ → ℕ → ℕ → Bool) → List MemberState → (i tries loss : ℕ) → MirrorState
     → MirrorState
 mirror_fetches passes members i tries loss m = mirror_takes (mirror_fetched passes members i tries loss m) m

@@ -6,7 +6,7 @@ use Rattle.sorted_lists.specs.SortedList.{keys}
 use Rattle.group_model.specs.Member.{insert_keys}
 use Rattle.repo_mirror.specs.MirrorState.{MirrorState, mirror_holdings}
 use Rattle.repo_mirror.specs.Passing.{mirror_takes}
-use Rattle.repo_mirror.specs.TrueMirrors.{IsTrueMirror}
+use Rattle.repo_mirror.specs.ConsistentMirrors.{IsConsistentMirror}
 use Rattle.bench_world.specs.declared.holder.Filtering.{Filtering}
 use Rattle.bench_world.specs.Holders.{HolderWords}
 
@@ -24,7 +24,7 @@ state_words = record {
   held = mirror_held;
   rest = mirror_rest;
   takes = mirror_takes;
-  is_true = IsTrueMirror;
+  is_true = IsConsistentMirror;
 }
 
 -- The same of a mirror with its filter.
@@ -34,5 +34,5 @@ mirror_words = record {
   held = λ s. mirror_held s.mirror;
   rest = λ s. record s { mirror = mirror_rest s.mirror };
   takes = λ xs s. record s { mirror = mirror_takes xs s.mirror };
-  is_true = λ g logs s. IsTrueMirror g logs s.mirror;
+  is_true = λ g logs s. IsConsistentMirror g logs s.mirror;
 }

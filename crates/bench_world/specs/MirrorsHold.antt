@@ -22,12 +22,12 @@ use Rattle.group_model.proofs.Members.{known_published}
 use Rattle.repo_mirror.specs.Mirrors.{mirror_holds}
 use Rattle.repo_watch.specs.declared.pattern.Pattern.{Pattern}
 use Rattle.repo_member.specs.Groups.{GroupKeys}
-use Rattle.repo_member.specs.InGroup.{AreLogs, CameTruly, true_packet, that_came}
+use Rattle.repo_member.specs.InGroup.{AreLogs, CameConsistently, published_packet, that_came}
 use Rattle.repo_member.proofs.PublicLaws.{holders_want_published}
 use Rattle.repo_mirror.specs.MirrorState.{MirrorState, mirror_holdings, fetch_plan}
 use Rattle.repo_mirror.specs.Passing.{is_packet_kept, is_fetched_kept, that_are_kept, not_kept, mirror_takes}
-use Rattle.repo_mirror.specs.TrueMirrors.{mirror_in_group, IsTrueMirror, CameForMirror}
-use Rattle.repo_mirror.proofs.PublicLaws.{mirror_is_holder, mirrors_take_true}
+use Rattle.repo_mirror.specs.ConsistentMirrors.{mirror_in_group, IsConsistentMirror, CameForMirror}
+use Rattle.repo_mirror.proofs.PublicLaws.{mirror_is_holder, mirrors_take_consistent}
 use Rattle.bench_world.specs.declared.holder.Filtering.{Filtering}
 use Rattle.bench_world.specs.Holders.{AreHolders, CameForHolder, CameToNothing}
 use Rattle.bench_world.specs.MirrorWords.{mirror_held, mirror_rest, mirror_words}
@@ -59,19 +59,22 @@ held_is m t =
     ∙ ap (λ (b : Bool). b || contains part_cmp (keys m.store) t) (record_there m.passed t)
     ∙ or_comm (t.part == 0 && contains pair_cmp m.passed (pair_of t)) (contains part_cmp (keys m.store) t)
 
-published : (g : GroupKeys) (logs : Logs) (m : MirrorState) (t : Part) → IsTrueMirror g logs m
+published : (g : GroupKeys) (logs : Logs) (m : MirrorState) (t : Part) → IsConsistentMirror g logs m
     → contains part_cmp (mirror_held m) t ≡ true → IsPublishedPart logs t
-published g logs m t truly h =
+published g logs m t consistent h =
     elim (or_cases (contains part_cmp (keys m.store) t) (t.part == 0 && contains pair_cmp m.passed (pair_of t))
     (sym (held_is m t) ∙ h)) [
-      | inl kept ↦ record { there = truly.stored.published t kept; counted = (truly.sound.kept t kept).counted }
+      | inl kept ↦ record {
+        there = consistent.stored.published t kept;
+        counted = (consistent.sound.kept t kept).counted;
+      }
       | inr passed ↦
           let p = and_parts (t.part == 0) (contains pair_cmp m.passed (pair_of t)) passed in
           let zero : t.part ≡ 0 = eqb-true t.part 0 p.0 in
           record {
             there =
-                known_published logs m.known (pair_of t) truly.vector.no_more
-                (truly.sound.passed (pair_of t) p.1).known;
+                known_published logs m.known (pair_of t) consistent.vector.no_more
+                (consistent.sound.passed (pair_of t) p.1).known;
             counted = omega (arith, zero);
           }
     ]
@@ -84,19 +87,20 @@ not_held m t wanted =
 
 -- ---- what it takes
 
-pub for_mirror : (g : GroupKeys) (logs : Logs) (m : MirrorState) (x : Fetched) → AreLogs g logs → IsTrueMirror g logs m
+pub for_mirror : (g : GroupKeys) (logs : Logs) (m : MirrorState) (x : Fetched) → AreLogs g logs
+    → IsConsistentMirror g logs m
     → CameForHolder g logs (mirror_holdings m) x → CameForMirror g logs m x
-for_mirror g logs m x are truly came =
-    record { part_wanted = wanted; truly = go x.packet came.packet } where
+for_mirror g logs m x are consistent came =
+    record { part_wanted = wanted; consistent = go x.packet came.packet } where
       wanted : is_wanted (fetch_plan m) x.part ≡ true
       wanted = (and_parts (is_wanted (fetch_plan m) x.part) _ came.unclaimed).0
 
-      go : (o : Option (List ℕ)) → IfSome o (λ octets. true_packet g logs x.part ≡ Some octets)
-          → CameTruly g logs x.part o
+      go : (o : Option (List ℕ)) → IfSome o (λ octets. published_packet g logs x.part ≡ Some octets)
+          → CameConsistently g logs x.part o
       go None h = tt
       go (Some octets) h = record {
         published =
-            (holders_want_published g logs (mirror_holdings m) x.part are (mirror_is_holder g logs m truly)
+            (holders_want_published g logs (mirror_holdings m) x.part are (mirror_is_holder g logs m consistent)
             wanted).there;
         packet = h;
       }
@@ -155,26 +159,27 @@ takes_nothing xs m none =
     no_tries m.pattern xs m.attempts (λ k d l. (none k d l).attempts) in
     λ i. record m { store = stored i; passed = passed i; attempts = tried i }
 
-pub mirror_takes_truly : (g : GroupKeys) (logs : Logs) (xs : List Fetched) (m : MirrorState) → AreLogs g logs
-    → All (CameForHolder g logs (mirror_holdings m)) xs → IsTrueMirror g logs m
-    → IsTrueMirror g logs (mirror_takes xs m)
-mirror_takes_truly g logs xs m are come truly =
-    (mirrors_take_true g logs m xs are truly
-    (λ k d l. for_mirror g logs m (slice_index_or xs k d) are truly (come k d l))).stays
+pub mirror_takes_consistently : (g : GroupKeys) (logs : Logs) (xs : List Fetched) (m : MirrorState) → AreLogs g logs
+    → All (CameForHolder g logs (mirror_holdings m)) xs → IsConsistentMirror g logs m
+    → IsConsistentMirror g logs (mirror_takes xs m)
+mirror_takes_consistently g logs xs m are come consistent =
+    (mirrors_take_consistent g logs m xs are consistent
+    (λ k d l. for_mirror g logs m (slice_index_or xs k d) are consistent (come k d l))).stays
 
 -- So they are holders.
 pub mirrors_hold : {X : Type 0} {f : _} → AreHolders (mirror_words {X = X} {f = f})
 mirrors_hold {X} {f} = record {
-  holder = λ g logs s truly. mirror_is_holder g logs s.mirror truly;
-  in_order = λ g logs s truly.
-      rises_insert_keys (map (λ pair. part_of pair 0) s.mirror.passed) (keys s.mirror.store) truly.stored.in_order;
-  published = λ g logs s t truly h. published g logs s.mirror t truly h;
+  holder = λ g logs s consistent. mirror_is_holder g logs s.mirror consistent;
+  in_order = λ g logs s consistent.
+      rises_insert_keys (map (λ pair. part_of pair 0) s.mirror.passed) (keys s.mirror.store) consistent.stored.in_order;
+  published = λ g logs s t consistent h. published g logs s.mirror t consistent h;
   not_held = λ s t wanted. not_held s.mirror t wanted;
-  takes_truly = λ g logs xs s are come truly. mirror_takes_truly g logs xs s.mirror are come truly;
-  takes_those = λ g logs xs s t are come truly.
+  takes_consistently = λ g logs xs s are come consistent. mirror_takes_consistently g logs xs s.mirror are come
+      consistent;
+  takes_those = λ g logs xs s t are come consistent.
       held_is (mirror_takes xs s.mirror) t
-      ∙ (mirrors_take_true g logs s.mirror xs are truly
-      (λ k d l. for_mirror g logs s.mirror (slice_index_or xs k d) are truly (come k d l))).held t
+      ∙ (mirrors_take_consistent g logs s.mirror xs are consistent
+      (λ k d l. for_mirror g logs s.mirror (slice_index_or xs k d) are consistent (come k d l))).held t
       ∙ ap (λ (b : Bool). contains part_cmp (that_came xs) t || b) (sym (held_is s.mirror t));
   takes_nothing = λ xs s none. ap (λ (m : MirrorState). let t : Filtering X f = record s { mirror = m } in t)
       (takes_nothing xs s.mirror none);

@@ -8,11 +8,11 @@ use Rattle.group_model.specs.Publications.{Logs}
 use Rattle.group_model.specs.Events.{SyncInterest, Found}
 use Rattle.group_model.specs.Events.Found.{Unread, NoPacket, Packet}
 use Rattle.repo_member.specs.Groups.{GroupKeys}
-use Rattle.repo_member.specs.TrueMembers.{true_packets}
+use Rattle.repo_member.specs.ConsistentMembers.{published_packets}
 
 -- The sync Interest that octets are read as, by their verdict.
 abbrev pub read_as : Result (ℕ × List ℕ) SyncRefusal → Option SyncInterest
-read_as (Ok told) = Some (record { sender = told.0; vector = told.1 })
+read_as (Ok reported) = Some (record { sender = reported.0; vector = reported.1 })
 read_as (Err refusal) = None
 
 abbrev pub found_as : Result (Option Part) PacketFault → Found
@@ -22,4 +22,4 @@ found_as (Ok (Some t)) = Packet t
 
 -- What octets find as an Interest among the packets of held parts.
 abbrev pub finds : GroupKeys → List ℕ → Logs → List Part → Found
-finds g interest logs held = found_as (served_part interest (true_packets g logs held))
+finds g interest logs held = found_as (served_part interest (published_packets g logs held))

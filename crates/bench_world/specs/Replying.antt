@@ -1,12 +1,12 @@
--- What is told and counted of octets that came for a claim.
+-- What is reported and counted of octets that came for a claim.
 use Rattle.std.specs.Prelude.{ℕ, Option, Some, None}
 use Rattle.bench_world.specs.declared.answering.Fed.{Fed}
 use Rattle.bench_world.specs.declared.answering.Fed.TheVariants.{Kept, Refused}
-use Rattle.bench_world.specs.EventValues.{Told}
+use Rattle.bench_world.specs.EventValues.{Reported}
 
-abbrev pub fed_reply : ℕ → ℕ → Fed → Told
-fed_reply m f Kept = Told.FeedKept m f
-fed_reply m f (Refused refusal) = Told.FeedRefused m f refusal
+abbrev pub fed_reply : ℕ → ℕ → Fed → Reported
+fed_reply m f Kept = Reported.FeedKept m f
+fed_reply m f (Refused refusal) = Reported.FeedRefused m f refusal
 
 -- How many parts come to be held, where so many octets are kept, or none.
 abbrev pub parts_kept : Option ℕ → ℕ

@@ -3,26 +3,26 @@ use Rattle.std.specs.Prelude.{ℕ, ◌≡◌, ◌+◌, ◌<◌, List, ◌++◌, 
 use Rattle.std.specs.Prelude.{OnOk, IfOk, OnErr, IfErr}
 use Rattle.group_model.specs.Events as group
 use Rattle.group_model.specs.Refusals.{Refusal, refusal, EventsAreTaken}
-use Rattle.group_model.specs.World.{Outside, World, catalogue_at}
+use Rattle.group_model.specs.World.{Environment, World, catalogue_at}
 use Rattle.group_model.specs.Steps.{after_event, after_events, after_gathering}
-use Rattle.group_model.specs.Laws.{NothingHidden, NothingWanted, AllJoined, TellsAll}
+use Rattle.group_model.specs.Laws.{NothingHidden, NothingWanted, AllJoined, ReportsAll}
 use Rattle.repo_member.specs.Groups.{GroupKeys}
 use Rattle.bench_world.specs.declared.event.Event.{Event}
 use Rattle.bench_world.specs.declared.event.Happened.{Happened}
-use Rattle.bench_world.specs.declared.event.EventFault.{EventFault}
+use Rattle.bench_world.specs.declared.event.EventError.{EventError}
 use Rattle.bench_world.specs.declared.event.StepFault.{StepFault}
-use Rattle.bench_world.specs.EventValues.{EventValue, Told, event_value, group_event, told_value, telling}
+use Rattle.bench_world.specs.EventValues.{EventValue, Reported, event_value, group_event, reported_value, event_report}
 use Rattle.bench_world.specs.Settling.{ArePartlySettled}
 use Rattle.bench_world.specs.Steps.{IsFaultOf, IsStepFaultOf}
-use Rattle.bench_world.specs.Worlds.{GroupState, IsTrueState, in_groups, world_of}
+use Rattle.bench_world.specs.Worlds.{GroupState, IsConsistentState, in_groups, world_of}
 
 -- What a settle leaves that wanted memory: it counts as a step, each member has come a part of the way, and nothing
 -- else has changed. The group was true and is, what its members store among it.
 pub record HaveSettledPart (old new : GroupState) : Type 0 where
   pub same : new ≡ record old { members = new.members; steps = old.steps + 1 }
   pub members : ArePartlySettled (world_of old) (in_groups new.members)
-  pub begun : IsTrueState old
-  pub truly : IsTrueState new
+  pub begun : IsConsistentState old
+  pub consistent : IsConsistentState new
 
 -- Two groups have the same members, and so the same catalogues.
 pub record HaveSameMembers (w v : World) : Type 0 where
@@ -31,12 +31,12 @@ pub record HaveSameMembers (w v : World) : Type 0 where
 
 -- A settle that then succeeds leaves the members that the one that failed would have left.
 abbrev pub GathersAgain : Type 0
-GathersAgain = (out : Outside) (old new : GroupState) → HaveSettledPart old new
+GathersAgain = (out : Environment) (old new : GroupState) → HaveSettledPart old new
     → HaveSameMembers (after_gathering out (world_of new)) (after_gathering out (world_of old))
 
 -- So does its step.
 abbrev pub SettlesAgain : Type 0
-SettlesAgain = (out : Outside) (old new : GroupState) → HaveSettledPart old new
+SettlesAgain = (out : Environment) (old new : GroupState) → HaveSettledPart old new
     → HaveSameMembers (after_event out (world_of new) group.Event.Settle)
     (after_event out (world_of old) group.Event.Settle)
 
@@ -50,13 +50,13 @@ abbrev pub JoinsAfter : EventValue → World → Type 0
 JoinsAfter (EventValue.Settle workers) w = NothingHidden w → AllJoined w
 JoinsAfter _ w = Unit {0}
 
--- What an event comes to, by what refuses it and what is to become of the world and to be told: where nothing refuses
--- it, these; else why it isn't taken.
-pub record ComesTo (why : Option Refusal) (then : World) (what : Told) (e : EventValue) (old : GroupState)
-    (result : Result Happened EventFault) (new : GroupState) : Type 0 where
+-- What an event comes to, by what refuses it and what is to become of the world and to be reported: where nothing
+-- refuses it, these; else why it isn't taken.
+pub record ComesTo (why : Option Refusal) (then : World) (what : Reported) (e : EventValue) (old : GroupState)
+    (result : Result Happened EventError) (new : GroupState) : Type 0 where
   pub taken : OnOk result (why ≡ None)
   pub world : OnOk result (world_of new ≡ then)
-  pub told : IfOk result (λ happened. told_value happened ≡ what)
+  pub reported : IfOk result (λ happened. reported_value happened ≡ what)
   pub joined : OnOk result (JoinsAfter e (world_of new))
   pub steps : OnOk result (new.steps ≡ old.steps + 1)
   pub keys : new.keys ≡ old.keys
@@ -64,12 +64,12 @@ pub record ComesTo (why : Option Refusal) (then : World) (what : Told) (e : Even
   pub refused : IfErr result (IsFaultOf why)
   pub err : OnErr result (StandsAsBefore e old new)
 
--- A step is what the model makes of the world, tells of it and refuses.
-abbrev pub IsStep : Outside → EventValue → GroupState → Result Happened EventFault → GroupState → Type 0
+-- A step is what the model makes of the world, reports it and refuses.
+abbrev pub IsStep : Environment → EventValue → GroupState → Result Happened EventError → GroupState → Type 0
 IsStep out e old result new =
     ComesTo (refusal out (world_of old) (group_event old.keys e))
     (after_event out (world_of old) (group_event old.keys e))
-    (telling old.keys out (world_of old) e) e old result new
+    (event_report old.keys out (world_of old) e) e old result new
 
 -- ---- lists of events
 
@@ -80,7 +80,7 @@ abbrev pub group_events : GroupKeys → List EventValue → List group.Event
 group_events g events = map (group_event g) events
 
 -- The events before that of this number were carried out, each a step, and left this group; then came the fault.
-pub record IsStopped (out : Outside) (begun : GroupState) (events : List EventValue) (k : ℕ) (told : StepFault)
+pub record IsStopped (out : Environment) (begun : GroupState) (events : List EventValue) (k : ℕ) (reported : StepFault)
     (new : GroupState) : Type 0 where
   pub inside : k < length events
   pub taken : EventsAreTaken out (world_of begun) (group_events begun.keys (take k events))
@@ -90,10 +90,10 @@ pub record IsStopped (out : Outside) (begun : GroupState) (events : List EventVa
   pub world : world_of before ≡ after_events out (world_of begun) (group_events begun.keys (take k events))
   pub stands : StandsAsBefore (slice_index_or events k EventValue.Traffic) before new
   pub because : IsStepFaultOf
-      (refusal out (world_of before) (group_event begun.keys (slice_index_or events k EventValue.Traffic))) told
+      (refusal out (world_of before) (group_event begun.keys (slice_index_or events k EventValue.Traffic))) reported
 
 -- Where the later events publish nothing and tell each member of all that each other has published, and nothing is
 -- wanted or hidden in the end, each catalogue is the join of all publications.
-abbrev pub ListLawFrom : Outside → World → List group.Event → World → Type 0
+abbrev pub ListLawFrom : Environment → World → List group.Event → World → Type 0
 ListLawFrom out w events last = (first later : List group.Event) → events ≡ first ++ later
-    → TellsAll out (after_events out w first) later → NothingHidden last → NothingWanted last → AllJoined last
+    → ReportsAll out (after_events out w first) later → NothingHidden last → NothingWanted last → AllJoined last

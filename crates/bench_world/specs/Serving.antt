@@ -10,17 +10,17 @@ use Rattle.repo_store.specs.Served.{served}
 use Rattle.group_model.specs.Publications.{Logs}
 use Rattle.group_model.specs.Events.{Came}
 use Rattle.group_model.specs.Events.Came.{Nothing, Its, Another}
-use Rattle.group_model.specs.World.{Outside}
+use Rattle.group_model.specs.World.{Environment}
 use Rattle.repo_member.specs.Groups.{GroupKeys}
-use Rattle.repo_member.specs.InGroup.{true_packet}
-use Rattle.repo_member.specs.TrueMembers.{true_want, true_packets}
+use Rattle.repo_member.specs.InGroup.{published_packet}
+use Rattle.repo_member.specs.ConsistentMembers.{published_want, published_packets}
 use Rattle.bench_world.specs.Sizes.{size_of}
 
 -- What octets are as a packet of a published part.
 abbrev pub octets_as : GroupKeys → Logs → Part → List ℕ → Came
 octets_as g logs t octets =
-    if is_ok (ring_verdict (true_want g logs t) g.members.ring octets)
-    then if bytes_eq octets (unwrap_or (true_packet g logs t) []) then Its else Another
+    if is_ok (ring_verdict (published_want g logs t) g.members.ring octets)
+    then if bytes_eq octets (unwrap_or (published_packet g logs t) []) then Its else Another
     else Nothing
 
 abbrev pub judged_packet : GroupKeys → Logs → Part → Option (List ℕ) → Came
@@ -34,11 +34,12 @@ found (Err fault) = None
 
 -- What a member that holds these parts gives to one that asks for a part.
 abbrev pub came_of : GroupKeys → Logs → List Part → Part → Came
-came_of g logs held t = judged_packet g logs t (found (served (true_want g logs t).interest (true_packets g logs held)))
+came_of g logs held t = judged_packet g logs t (found
+    (served (published_want g logs t).interest (published_packets g logs held)))
 
 -- What isn't the group's to say, with what its keys and publications make of it.
-abbrev pub outside : GroupKeys → (ℕ → ℕ → ℕ) → (ℕ → ℕ → ℕ → ℕ → ℕ → ℕ → Bool) → Outside
-outside g draw passes = record {
+abbrev pub environment : GroupKeys → (ℕ → ℕ → ℕ) → (ℕ → ℕ → ℕ → ℕ → ℕ → ℕ → Bool) → Environment
+environment g draw passes = record {
   draw = draw;
   passes = λ j t attempt loss. passes j t.publisher t.seq t.part attempt loss;
   serves = came_of g;
@@ -46,5 +47,5 @@ outside g draw passes = record {
 }
 
 -- The same where neither draws nor the network matter.
-abbrev pub keyed : GroupKeys → Outside
-keyed g = outside g (λ _ _. 0) (λ _ _ _ _ _ _. true)
+abbrev pub keyed : GroupKeys → Environment
+keyed g = environment g (λ _ _. 0) (λ _ _ _ _ _ _. true)

@@ -7,16 +7,16 @@ use Rattle.group_model.specs.Settles.{IsGathering}
 use Rattle.group_model.specs.World.{World, member, logs, someone_holds}
 use Rattle.group_model.specs.Steps.{settled_vector, settled_member, new_parts}
 use Rattle.repo_member.specs.Groups.{GroupKeys}
-use Rattle.repo_member.specs.Alone.{Alone}
+use Rattle.repo_member.specs.MemberState.{MemberState}
 use Rattle.repo_member.specs.InGroup.{in_group}
 use Rattle.bench_net.specs.SentList.{SentPacket, sent_packet}
 use Rattle.bench_world.specs.Truth.{AllTriedFew}
-use Rattle.bench_world.specs.Worlds.{alone_at, in_groups, AllCountsStay, AreTrueMembers, MembersAreNumbered}
-use Rattle.bench_world.specs.declared.telling.MemberSync.{MemberSync}
+use Rattle.bench_world.specs.Worlds.{state_at, in_groups, AllCountsStay, AreConsistentMembers, MembersAreNumbered}
+use Rattle.bench_world.specs.declared.sync_exchange.MemberSync.{MemberSync}
 
 -- What a member tells, as it is kept.
-abbrev pub told_of : MemberSync → SentPacket
-told_of t = sent_packet t.sender t.vector.items t.octets.items
+abbrev pub reported_of : MemberSync → SentPacket
+reported_of t = sent_packet t.sender t.vector.items t.octets.items
 
 -- How many parts come to all members, and how many octets, where each part counts as `weight` says.
 abbrev pub gain_sum : (Part → ℕ) → World → List Member → ℕ
@@ -47,17 +47,18 @@ pub record ArePartlySettled (w : World) (new : List Member) : Type 0 where
 -- ---- one member after another
 
 -- Each member is gathering, or has gathered.
-pub record AreGathering (g : GroupKeys) (w : World) (begun members : List Alone) : Type 0 where
+pub record AreGathering (g : GroupKeys) (w : World) (begun members : List MemberState) : Type 0 where
   pub len : length members ≡ length begun
-  pub truly : AreTrueMembers g (logs w) members
+  pub consistent : AreConsistentMembers g (logs w) members
   pub numbers : MembersAreNumbered members
   pub tried : AllTriedFew members
-  pub each : (i : ℕ) → i < length members → IsGathering w (member w i) (in_group (alone_at members i))
+  pub each : (i : ℕ) → i < length members → IsGathering w (member w i) (in_group (state_at members i))
   pub someones : (t : Part) → someone_holds (in_groups members) t ≡ someone_holds w.members t
   pub counts : AllCountsStay begun members
 
 -- The first so many have gathered, and the others not yet.
-pub record GatheredSoFar (g : GroupKeys) (w : World) (begun : List Alone) (j : ℕ) (members : List Alone) : Type 0 where
+pub record GatheredSoFar (g : GroupKeys) (w : World) (begun : List MemberState) (j : ℕ) (members : List MemberState) :
+    Type 0 where
   pub all : AreGathering g w begun members
-  pub done : (i : ℕ) → i < j → in_group (alone_at members i) ≡ settled_member w (member w i)
-  pub still : (i : ℕ) → j ≤ i → alone_at members i ≡ alone_at begun i
+  pub done : (i : ℕ) → i < j → in_group (state_at members i) ≡ settled_member w (member w i)
+  pub still : (i : ℕ) → j ≤ i → state_at members i ≡ state_at begun i

@@ -5,8 +5,8 @@ use Rattle.sorted_lists.specs.SortedList.{contains}
 use Rattle.repo_plan.specs.Parts.{part_cmp}
 use Rattle.group_model.specs.Publications.{Logs, all_parts}
 use Rattle.repo_member.specs.Groups.{GroupKeys}
-use Rattle.repo_member.specs.InGroup.{true_packet}
+use Rattle.repo_member.specs.InGroup.{published_packet}
 
 -- The octets of the packet of a part, where there is such a part.
 abbrev pub size_of : GroupKeys → Logs → Part → ℕ
-size_of g logs t = if contains part_cmp (all_parts logs) t then length (unwrap_or (true_packet g logs t) []) else 0
+size_of g logs t = if contains part_cmp (all_parts logs) t then length (unwrap_or (published_packet g logs t) []) else 0

@@ -12,11 +12,11 @@ use Rattle.repo_object.specs.Cuts.{pieces}
 use Rattle.group_model.specs.Refusals.{Refusal}
 use Rattle.repo_member.specs.declared.refusals.HearRefusal.{HearRefusal}
 use Rattle.repo_member.specs.declared.refusals.HearRefusal.TheVariants as hear
-use Rattle.bench_world.specs.declared.event.EventFault.{EventFault}
-use Rattle.bench_world.specs.declared.event.EventFault.TheVariants as fault
+use Rattle.bench_world.specs.declared.event.EventError.{EventError}
+use Rattle.bench_world.specs.declared.event.EventError.TheVariants as fault
 use Rattle.bench_world.specs.declared.event.StepFault.{StepFault}
 use Rattle.bench_world.specs.declared.event.StepFault.TheVariants as step
-use Rattle.bench_world.specs.EventValues.{EventValue, Told}
+use Rattle.bench_world.specs.EventValues.{EventValue, Reported}
 
 -- There are so many members; the members and fetchers that an event names are there, and what is said is within its
 -- limits.
@@ -57,7 +57,7 @@ NamesClient n (EventValue.Status m client process) = client < n
 NamesClient n (EventValue.Delete m client name) = client < n
 NamesClient n _ = Unit {0}
 
-abbrev pub fault_of : Refusal → EventFault
+abbrev pub fault_of : Refusal → EventError
 fault_of Refusal.NoSuchPacket = fault.NoSuchPacket
 fault_of Refusal.FetcherBusy = fault.FetcherBusy
 fault_of Refusal.FetcherIdle = fault.FetcherIdle
@@ -66,13 +66,13 @@ fault_of Refusal.NumbersSpent = fault.NumbersSpent
 fault_of Refusal.NoSuchNumber = fault.NoSuchNumber
 
 -- Memory was wanting, or the event is refused so.
-abbrev pub IsFaultOf : Option Refusal → EventFault → Type 0
+abbrev pub IsFaultOf : Option Refusal → EventError → Type 0
 IsFaultOf refusal fault.NoMemory = Unit {0}
 IsFaultOf None _ = ⊥
-IsFaultOf (Some refusal) told = told ≡ fault_of refusal
+IsFaultOf (Some refusal) reported = reported ≡ fault_of refusal
 
 -- Why a step was not made, by why its event was not carried out: a refusal has the number that the report prints.
-abbrev pub step_fault : EventFault → StepFault
+abbrev pub step_fault : EventError → StepFault
 step_fault fault.NoSuchPacket = step.Refused 5
 step_fault fault.FetcherBusy = step.Refused 6
 step_fault fault.FetcherIdle = step.Refused 7
@@ -89,7 +89,7 @@ IsStepFaultOf (Some refusal) made = made ≡ step_fault (fault_of refusal)
 
 -- ---- members that are told of
 
--- The member of which too large a number is told is one of so many. No octets are refused for want of memory.
+-- The member of which too large a number is reported is one of so many. No octets are refused when memory runs out.
 abbrev pub FaultNamesMember : ℕ → VectorFault → Type 0
 FaultNamesMember n (vector.BadVector at) = Unit {0}
 FaultNamesMember n (vector.NumberTooLarge member number) = member < n
@@ -102,50 +102,50 @@ SyncNamesMember n _ = Unit {0}
 
 abbrev pub HearNamesMember : ℕ → HearRefusal → Type 0
 HearNamesMember n (hear.Sync refusal) = SyncNamesMember n refusal
-HearNamesMember n (hear.OwnNumberAhead own told) = Unit {0}
+HearNamesMember n (hear.OwnNumberAhead own reported) = Unit {0}
 HearNamesMember n hear.NoMemory = ⊥
 
--- Each number that stands for a member is that of one of so many. Where all are told of, they stand in order, each with
--- a number, or with its sums.
-abbrev pub NamesAll : ℕ → Told → Type 0
-NamesAll n Told.Nothing = Unit {0}
-NamesAll n (Told.Publish m seq segments sync) = m < n
-NamesAll n (Told.Withdraw m seq withdrawn sync) = m < n
-NamesAll n (Told.DeliverSteady k m) = m < n
-NamesAll n (Told.DeliverSuppressed k m) = m < n
-NamesAll n (Told.Sync k octets) = Unit {0}
-NamesAll n (Told.Advance now) = Unit {0}
-NamesAll n (Told.FireEarly m) = m < n
-NamesAll n (Told.FireQuiet m) = m < n
-NamesAll n (Told.FireSent m k) = m < n
-NamesAll n (Told.Restart m) = m < n
-NamesAll n (Told.Vector m members numbers) = (members ≡ numbers_from 0 n) × (length numbers ≡ n) × (m < n)
-NamesAll n (Told.Catalogue m count entries) = (m < n) × All (λ e. e.publisher < n) entries
-NamesAll n (Told.ClaimPart m f publisher seq x) = (m < n) × (publisher < n)
-NamesAll n (Told.ClaimNone m f) = m < n
-NamesAll n (Told.Lose m f publisher seq x) = (m < n) × (publisher < n)
-NamesAll n (Told.AnswerKept m f) = m < n
-NamesAll n (Told.AnswerNone m f) = m < n
-NamesAll n (Told.Fetch m planned kept attempts) = m < n
-NamesAll n (Told.Settle syncs kept) = Unit {0}
-NamesAll n (Told.DumpHex m octets) = m < n
-NamesAll n (Told.DumpNone m) = m < n
-NamesAll n (Told.HearSteady m) = m < n
-NamesAll n (Told.HearSuppressed m) = m < n
-NamesAll n (Told.HearRefused m refusal) = (m < n) × HearNamesMember n refusal
-NamesAll n (Told.AskFound m octets) = m < n
-NamesAll n (Told.AskNone m) = m < n
-NamesAll n (Told.AskRefused m refusal) = m < n
-NamesAll n (Told.FeedKept m f) = m < n
-NamesAll n (Told.FeedRefused m f refusal) = m < n
-NamesAll n (Told.Order m code process inserted deleted) = m < n
-NamesAll n (Told.Insert m code process inserted deleted) = m < n
-NamesAll n (Told.Status m code process inserted deleted) = m < n
-NamesAll n (Told.Delete m code process inserted deleted) = m < n
-NamesAll n (Told.Block300 m) = m < n
-NamesAll n (Told.Block404 m) = m < n
-NamesAll n (Told.Block200 m) = m < n
-NamesAll n (Told.BlockPublished m seq sync) = m < n
-NamesAll n (Told.Summary members entries segments octets) =
+-- Each number that stands for a member is that of one of so many. Where all are reported of, they stand in order, each
+-- with a number, or with its sums.
+abbrev pub NamesAll : ℕ → Reported → Type 0
+NamesAll n Reported.Nothing = Unit {0}
+NamesAll n (Reported.Publish m seq segments sync) = m < n
+NamesAll n (Reported.Withdraw m seq withdrawn sync) = m < n
+NamesAll n (Reported.DeliverSteady k m) = m < n
+NamesAll n (Reported.DeliverSuppressed k m) = m < n
+NamesAll n (Reported.Sync k octets) = Unit {0}
+NamesAll n (Reported.Advance now) = Unit {0}
+NamesAll n (Reported.FireEarly m) = m < n
+NamesAll n (Reported.FireQuiet m) = m < n
+NamesAll n (Reported.FireSent m k) = m < n
+NamesAll n (Reported.Restart m) = m < n
+NamesAll n (Reported.Vector m members numbers) = (members ≡ numbers_from 0 n) × (length numbers ≡ n) × (m < n)
+NamesAll n (Reported.Catalogue m count entries) = (m < n) × All (λ e. e.publisher < n) entries
+NamesAll n (Reported.ClaimPart m f publisher seq x) = (m < n) × (publisher < n)
+NamesAll n (Reported.ClaimNone m f) = m < n
+NamesAll n (Reported.Lose m f publisher seq x) = (m < n) × (publisher < n)
+NamesAll n (Reported.AnswerKept m f) = m < n
+NamesAll n (Reported.AnswerNone m f) = m < n
+NamesAll n (Reported.Fetch m planned kept attempts) = m < n
+NamesAll n (Reported.Settle syncs kept) = Unit {0}
+NamesAll n (Reported.DumpHex m octets) = m < n
+NamesAll n (Reported.DumpNone m) = m < n
+NamesAll n (Reported.HearSteady m) = m < n
+NamesAll n (Reported.HearSuppressed m) = m < n
+NamesAll n (Reported.HearRefused m refusal) = (m < n) × HearNamesMember n refusal
+NamesAll n (Reported.AskFound m octets) = m < n
+NamesAll n (Reported.AskNone m) = m < n
+NamesAll n (Reported.AskRefused m refusal) = m < n
+NamesAll n (Reported.FeedKept m f) = m < n
+NamesAll n (Reported.FeedRefused m f refusal) = m < n
+NamesAll n (Reported.Order m code process inserted deleted) = m < n
+NamesAll n (Reported.Insert m code process inserted deleted) = m < n
+NamesAll n (Reported.Status m code process inserted deleted) = m < n
+NamesAll n (Reported.Delete m code process inserted deleted) = m < n
+NamesAll n (Reported.Block300 m) = m < n
+NamesAll n (Reported.Block404 m) = m < n
+NamesAll n (Reported.Block200 m) = m < n
+NamesAll n (Reported.BlockPublished m seq sync) = m < n
+NamesAll n (Reported.Summary members entries segments octets) =
     (members ≡ numbers_from 0 n) × (length entries ≡ n) × (length segments ≡ n) × (length octets ≡ n)
-NamesAll n (Told.Traffic syncs delivered attempts parts octets) = Unit {0}
+NamesAll n (Reported.Traffic syncs delivered attempts parts octets) = Unit {0}

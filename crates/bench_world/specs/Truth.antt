@@ -7,20 +7,20 @@ use Rattle.repo_plan.specs.Plan.{attempts_of}
 use Rattle.group_model.specs.Publications.{Logs, all_parts}
 use Rattle.repo_member.specs.Groups.{GroupKeys}
 use Rattle.repo_holdings.specs.HoldingsState.{HoldingsState, held_plan}
-use Rattle.repo_member.specs.Alone.{Alone, alone_holdings}
+use Rattle.repo_member.specs.MemberState.{MemberState, member_holdings}
 use Rattle.repo_member.specs.InGroup.{AreLogs}
-use Rattle.bench_world.specs.Worlds.{alone_at}
+use Rattle.bench_world.specs.Worlds.{state_at}
 
 -- A member stores the packet of a part.
-abbrev pub stores : Alone → Part → Bool
+abbrev pub stores : MemberState → Part → Bool
 stores a t = contains part_cmp (keys a.store) t
 
 -- No part was tried so often that a count's type ends soon.
 abbrev pub TriedFew : HoldingsState → Type 0
 TriedFew h = (t : Part) → attempts_of (held_plan h) t + 16 < 2097152
 
-abbrev pub AllTriedFew : List Alone → Type 0
-AllTriedFew members = (j : ℕ) → j < length members → TriedFew (alone_holdings (alone_at members j))
+abbrev pub AllTriedFew : List MemberState → Type 0
+AllTriedFew members = (j : ℕ) → j < length members → TriedFew (member_holdings (state_at members j))
 
 -- What the members have published, which a 32-bit number counts.
 pub record AreFewLogs (g : GroupKeys) (logs : Logs) : Type 0 where

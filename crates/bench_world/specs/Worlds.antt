@@ -9,30 +9,30 @@ use Rattle.group_model.specs.Publications.{Logs}
 use Rattle.group_model.specs.Member.{Member, tries_of}
 use Rattle.group_model.specs.Events.{SyncInterest}
 use Rattle.group_model.specs.Events.Came.{Nothing}
-use Rattle.group_model.specs.Sound.{IsTrueVector}
+use Rattle.group_model.specs.Sound.{IsConsistentVector}
 use Rattle.group_model.specs.Limits.{IsWithinSteps}
-use Rattle.group_model.specs.World.{Tally, Issued, World, Outside, logs_of}
+use Rattle.group_model.specs.World.{Tally, Issued, World, Environment, logs_of}
 use Rattle.repo_member.specs.Groups.{GroupKeys}
-use Rattle.repo_member.specs.Alone.{Alone, no_insertions, alone_opening}
+use Rattle.repo_member.specs.MemberState.{MemberState, no_insertions, member_opening}
 use Rattle.repo_member.specs.Verdicts.{sync_of}
 use Rattle.repo_member.specs.InGroup.{in_group, AreLogs}
-use Rattle.repo_member.specs.TrueMembers.{IsTrueMember}
+use Rattle.repo_member.specs.ConsistentMembers.{IsConsistentMember}
 use Rattle.repo_mirror.specs.MirrorState.{MirrorState}
-use Rattle.repo_mirror.specs.TrueMirrors.{IsTrueMirror}
+use Rattle.repo_mirror.specs.ConsistentMirrors.{IsConsistentMirror}
 
--- A group: its names and keys, its members with their packets, what was sent, the moment, the commands that
+-- A group: its names and keys, its members with their packets, what was sent, the time, the commands that
 -- clients made for members, the tally, how many steps were made, and its mirrors.
 pub record GroupState : Type 0 where
   pub keys : GroupKeys
-  pub members : List Alone
+  pub members : List MemberState
   pub sent : List SentPacket
-  pub moment : ℕ
+  pub time : ℕ
   pub issued : List Issued
   pub tally : Tally
   pub steps : ℕ
   pub mirrors : List MirrorState
 
-abbrev pub nobody : Alone
+abbrev pub nobody : MemberState
 nobody = record {
   number = 0;
   log = [];
@@ -45,34 +45,34 @@ nobody = record {
   insertions = no_insertions;
 }
 
-abbrev pub alone_at : List Alone → ℕ → Alone
-alone_at members j = slice_index_or members j nobody
+abbrev pub state_at : List MemberState → ℕ → MemberState
+state_at members j = slice_index_or members j nobody
 
 -- Each is as each in a sound group, and its stored packets are those of their parts.
-abbrev pub AreTrueMembers : GroupKeys → Logs → List Alone → Type 0
-AreTrueMembers g logs members = (j : ℕ) → j < length members → IsTrueMember g logs (alone_at members j)
+abbrev pub AreConsistentMembers : GroupKeys → Logs → List MemberState → Type 0
+AreConsistentMembers g logs members = (j : ℕ) → j < length members → IsConsistentMember g logs (state_at members j)
 
 -- Members stand under their numbers.
-abbrev pub MembersAreNumbered : List Alone → Type 0
-MembersAreNumbered members = (j : ℕ) → j < length members → (alone_at members j).number ≡ j
+abbrev pub MembersAreNumbered : List MemberState → Type 0
+MembersAreNumbered members = (j : ℕ) → j < length members → (state_at members j).number ≡ j
 
 -- What counts of a member stays: its machine's draws, and the attempts of its parts.
-pub record CountsStay (old new : Alone) : Type 0 where
+pub record CountsStay (old new : MemberState) : Type 0 where
   pub machine : new.machine ≡ old.machine
   pub attempts : new.attempts ≡ old.attempts
 
-abbrev pub AllCountsStay : List Alone → List Alone → Type 0
-AllCountsStay old new = (j : ℕ) → CountsStay (alone_at old j) (alone_at new j)
+abbrev pub AllCountsStay : List MemberState → List MemberState → Type 0
+AllCountsStay old new = (j : ℕ) → CountsStay (state_at old j) (state_at new j)
 
 -- All members but one.
-abbrev pub others_than : ℕ → List Alone → List Alone
+abbrev pub others_than : ℕ → List MemberState → List MemberState
 others_than j members = remove members j
 
 -- The members as their group has them, without their packets.
-abbrev pub in_groups : List Alone → List Member
+abbrev pub in_groups : List MemberState → List Member
 in_groups members = map in_group members
 
-abbrev pub logs_around : List Alone → Logs
+abbrev pub logs_around : List MemberState → Logs
 logs_around members = logs_of (in_groups members)
 
 abbrev pub sync_in : SentPacket → SyncInterest
@@ -83,21 +83,21 @@ abbrev pub world_of : GroupState → World
 world_of s = record {
   members = in_groups s.members;
   sent = map sync_in s.sent;
-  moment = s.moment;
+  time = s.time;
   issued = s.issued;
   tally = s.tally;
 }
 
 -- ---- what holds of every group
 
--- A packet that was sent is the sync Interest of its vector, which tells of no publication that there isn't.
-pub record IsTrueSync (g : GroupKeys) (logs : Logs) (p : SentPacket) : Type 0 where
+-- A packet that was sent is the sync Interest of its vector, which reports no publication that there isn't.
+pub record IsConsistentSync (g : GroupKeys) (logs : Logs) (p : SentPacket) : Type 0 where
   pub sender : p.sender < length g.members.names
-  pub vector : IsTrueVector logs p.vector
+  pub vector : IsConsistentVector logs p.vector
   pub octets : p.octets ≡ sync_of g p.sender p.vector
 
 -- What a member tells now.
-abbrev pub tells : GroupKeys → Alone → SentPacket
+abbrev pub tells : GroupKeys → MemberState → SentPacket
 tells g a = sent_packet a.number a.known (sync_of g a.number a.known)
 
 -- In so many steps a mirror tried no part more often.
@@ -105,15 +105,16 @@ abbrev pub MirrorTriedFew : ℕ → MirrorState → Type 0
 MirrorTriedFew steps m = (t : Part) → tries_of m.attempts t ≤ steps * 16
 
 -- A sound world: what was published is within the limits, each member stores the packets of the parts that it holds,
--- what was sent is what members told, counts are within those of so many steps, and mirrors hold what was published.
-pub record IsTrueState (s : GroupState) : Type 0 where
+-- what was sent is what members reported, counts are within those of so many steps, and mirrors hold what was
+-- published.
+pub record IsConsistentState (s : GroupState) : Type 0 where
   pub are : AreLogs s.keys (logs_around s.members)
   pub numbers : MembersAreNumbered s.members
-  pub members : AreTrueMembers s.keys (logs_around s.members) s.members
-  pub sent : All (IsTrueSync s.keys (logs_around s.members)) s.sent
+  pub members : AreConsistentMembers s.keys (logs_around s.members) s.members
+  pub sent : All (IsConsistentSync s.keys (logs_around s.members)) s.sent
   pub within : IsWithinSteps s.steps (world_of s)
   pub steps : s.steps ≤ 100000
-  pub mirrors : All (IsTrueMirror s.keys (logs_around s.members)) s.mirrors
+  pub mirrors : All (IsConsistentMirror s.keys (logs_around s.members)) s.mirrors
   pub mirrors_tried : All (MirrorTriedFew s.steps) s.mirrors
   pub mirrors_few : length s.mirrors ≤ 4
 
@@ -123,22 +124,22 @@ abbrev pub no_packet : SentPacket
 no_packet = sent_packet 0 [] []
 
 -- What isn't the group's to say, where draws alone matter.
-abbrev pub drawing : (ℕ → ℕ → ℕ) → Outside
+abbrev pub drawing : (ℕ → ℕ → ℕ) → Environment
 drawing draw = record { draw = draw; passes = λ _ _ _ _. true; serves = λ _ _ _. Nothing; size = λ _ _. 0 }
 
 -- Members that have nothing yet.
-abbrev pub begun_one : ℕ → (ℕ → ℕ → ℕ) → ℕ → Alone
-begun_one n draw j = alone_opening n j 0 (draw j 0)
+abbrev pub begun_one : ℕ → (ℕ → ℕ → ℕ) → ℕ → MemberState
+begun_one n draw j = member_opening n j 0 (draw j 0)
 
-abbrev pub begun_all : ℕ → (ℕ → ℕ → ℕ) → List Alone
+abbrev pub begun_all : ℕ → (ℕ → ℕ → ℕ) → List MemberState
 begun_all n draw = map (begun_one n draw) (numbers_from 0 n)
 
 -- A group of these members alone, as a fetch or a settle sees it.
-abbrev pub only_members : List Alone → World
+abbrev pub only_members : List MemberState → World
 only_members members = record {
   members = in_groups members;
   sent = [];
-  moment = 0;
+  time = 0;
   issued = [];
   tally = record { delivered = 0; attempts = 0; parts = 0; octets = 0 };
 }

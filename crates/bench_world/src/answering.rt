@@ -6,16 +6,16 @@ ghost use Rattle.repo_plan.specs.Plan.{claim_of};
 ghost use Rattle.repo_store.specs.Served.{served};
 ghost use Rattle.group_model.specs.Publications.{Logs};
 ghost use Rattle.group_model.specs.Events.Came.{Another};
-ghost use Rattle.repo_member.specs.Alone.{alone_plan};
-ghost use Rattle.repo_member.specs.InGroup.{true_packet};
-ghost use Rattle.repo_member.specs.TrueMembers.{true_want};
+ghost use Rattle.repo_member.specs.MemberState.{member_plan};
+ghost use Rattle.repo_member.specs.InGroup.{published_packet};
+ghost use Rattle.repo_member.specs.ConsistentMembers.{published_want};
 ghost use Rattle.bench_world.specs.Conditions.{CanCompare, CanWant, CanAccept, CanGetAt, CanAnswerAt};
-ghost use Rattle.bench_world.specs.Worlds.{alone_at};
+ghost use Rattle.bench_world.specs.Worlds.{state_at};
 ghost use Rattle.bench_world.specs.Serving.{octets_as, judged_packet, found};
 ghost use Rattle.bench_world.specs.Answering.{answered, claim_in, came_in, came_for, lender_of, fed_as, kept_of};
 ghost use Rattle.bench_world.specs.Answering.{accepts_claimed, after_claimed};
 
-use crate::event::EventFault;
+use crate::event::EventError;
 use crate::others::{Others, put_back};
 use repo_member::{Group, Member, WantFault};
 use repo_object::{PartRefusal, Want, check_part};
@@ -38,7 +38,7 @@ fn is_its_packet(
 ) -> Result<bool, AllocError>
     ghost logs: { Logs }
     requires { CanCompare g.now logs publisher.now part }
-    ensures { IfOk result (λ same. same ≡ bytes_eq octets.now (unwrap_or (true_packet g.now logs part) [])) }
+    ensures { IfOk result (λ same. same ≡ bytes_eq octets.now (unwrap_or (published_packet g.now logs part) [])) }
 {
     if let Some(packet) = publisher.packet(part) {
         return Ok(octets == packet);
@@ -50,18 +50,18 @@ fn is_its_packet(
 }
 
 // The want of what a fetcher claims.
-fn want_for(alloc: Global, g: &Group, member: &Member, f: u8) -> Result<Want, EventFault>
+fn want_for(alloc: Global, g: &Group, member: &Member, f: u8) -> Result<Want, EventError>
     ghost logs: { Logs }
     requires { CanWant g.now logs f member.now }
-    ensures claim { IfOk result (λ want. claim_of (alone_plan member.now) f ≡ Some want.part) }
-    ensures want { IfOk result (λ want. want ≡ true_want g.now logs want.part) }
-    ensures idle { (result ≡ Err EventFault.FetcherIdle) ↔ (claim_of (alone_plan member.now) f ≡ None) }
-    ensures refused { IfErr result (λ fault. (fault ≡ EventFault.NoMemory) ⊎ (fault ≡ EventFault.FetcherIdle)) }
+    ensures claim { IfOk result (λ want. claim_of (member_plan member.now) f ≡ Some want.part) }
+    ensures want { IfOk result (λ want. want ≡ published_want g.now logs want.part) }
+    ensures idle { (result ≡ Err EventError.FetcherIdle) ↔ (claim_of (member_plan member.now) f ≡ None) }
+    ensures refused { IfErr result (λ fault. (fault ≡ EventError.NoMemory) ⊎ (fault ≡ EventError.FetcherIdle)) }
 {
     match member.want(alloc, g, f) {
         Ok(want) => Ok(want),
-        Err(WantFault::FetcherIdle) => Err(EventFault::FetcherIdle),
-        Err(WantFault::NoMemory) => Err(EventFault::NoMemory),
+        Err(WantFault::FetcherIdle) => Err(EventError::FetcherIdle),
+        Err(WantFault::NoMemory) => Err(EventError::NoMemory),
     }
 }
 
@@ -74,7 +74,7 @@ fn accept(
     f: u8,
     want: &Want,
     octets: &[u8],
-) -> Result<Fed, EventFault>
+) -> Result<Fed, EventError>
     ghost logs: { Logs }
     requires { CanAccept g.now logs f want.now publisher.now asker.old }
     ensures fed { IfOk result (λ fed. fed ≡ fed_as g.now logs octets.now want.now.part) }
@@ -82,8 +82,8 @@ fn accept(
         (octets_as g.now logs want.now.part octets.now) asker.old) }
     ensures kept { IfOk result (λ fed. answered g.now logs (Some want.now.part)
         (octets_as g.now logs want.now.part octets.now) ≡ Ok (kept_of octets.now fed)) }
-    ensures foreign { IfErr result (λ fault. (fault ≡ EventFault.NoMemory)
-        ⊎ ((fault ≡ EventFault.Foreign) × (octets_as g.now logs want.now.part octets.now ≡ Another))) }
+    ensures foreign { IfErr result (λ fault. (fault ≡ EventError.NoMemory)
+        ⊎ ((fault ≡ EventError.Foreign) × (octets_as g.now logs want.now.part octets.now ≡ Another))) }
     ensures err { OnErr result (asker.new ≡ asker.old) }
 {
     let checked = match check_part(want, octets, g.members()) {
@@ -91,12 +91,12 @@ fn accept(
         Err(refusal) => return Ok(Fed::Refused { refusal }),
     };
     if !is_its_packet(g, publisher, want.part(), octets)? {
-        return Err(EventFault::Foreign);
+        return Err(EventError::Foreign);
     }
     // The fetcher claims the part, so only memory can be wanting.
     match asker.accept_checked(g, f, &checked) {
         Ok(_) => Ok(Fed::Kept),
-        Err(_) => Err(EventFault::NoMemory),
+        Err(_) => Err(EventError::NoMemory),
     }
 }
 
@@ -118,14 +118,14 @@ fn accept_served(
     f: u8,
     want: &Want,
     packet: Option<&[u8]>,
-) -> Result<Option<u64>, EventFault>
+) -> Result<Option<u64>, EventError>
     ghost logs: { Logs }
     requires { CanAccept g.now logs f want.now publisher.now asker.old }
     ensures kept { IfOk result (λ kept. answered g.now logs (Some want.now.part)
         (judged_packet g.now logs want.now.part (option_map (λ octets. octets.now) packet.entry)) ≡ Ok kept) }
     ensures asker { OnOk result (asker.new ≡ accepts_claimed g.now logs f want.now.part
         (judged_packet g.now logs want.now.part (option_map (λ octets. octets.now) packet.entry)) asker.old) }
-    ensures refused { IfErr result (λ fault. (fault ≡ EventFault.NoMemory)
+    ensures refused { IfErr result (λ fault. (fault ≡ EventError.NoMemory)
         ⊎ (answered g.now logs (Some want.now.part)
         (judged_packet g.now logs want.now.part (option_map (λ octets. octets.now) packet.entry)) ≡ Err fault)) }
     ensures err { OnErr result (asker.new ≡ asker.old) }
@@ -149,7 +149,7 @@ fn answer_from(
     asker: &mut Member,
     f: u8,
     want: &Want,
-) -> Result<Option<u64>, EventFault>
+) -> Result<Option<u64>, EventError>
     ghost logs: { Logs }
     requires { CanAccept g.now logs f want.now publisher.now asker.old }
     ensures kept { IfOk result (λ kept. answered g.now logs (Some want.now.part) (judged_packet g.now logs want.now.part
@@ -159,7 +159,7 @@ fn answer_from(
         (asker.new ≡ accepts_claimed g.now logs f want.now.part (judged_packet g.now logs want.now.part
         (found (served want.now.interest (lender_of asker.old (option_map (λ a. a.now) lender.entry)).store)))
         asker.old) }
-    ensures refused { IfErr result (λ fault. (fault ≡ EventFault.NoMemory)
+    ensures refused { IfErr result (λ fault. (fault ≡ EventError.NoMemory)
         ⊎ (answered g.now logs (Some want.now.part) (judged_packet g.now logs want.now.part
         (found (served want.now.interest (lender_of asker.old (option_map (λ a. a.now) lender.entry)).store)))
         ≡ Err fault)) }
@@ -184,16 +184,16 @@ pub(crate) fn answer(
     m: u32,
     f: u8,
     q: u32,
-) -> Result<Option<u64>, EventFault>
+) -> Result<Option<u64>, EventError>
     ghost logs: { Logs }
     requires { CanAnswerAt g.now logs f m q members.old.items }
     ensures kept { IfOk result (λ kept. answered g.now logs (claim_in members.old.items m f)
         (came_in g.now logs members.old.items q (claim_in members.old.items m f)) ≡ Ok kept) }
     ensures members { OnOk result (members.new.items ≡ slice_set members.old.items m
         (after_claimed g.now logs f (claim_in members.old.items m f)
-        (came_in g.now logs members.old.items q (claim_in members.old.items m f)) (alone_at members.old.items m))) }
-    ensures idle { (result ≡ Err EventFault.FetcherIdle) ↔ (claim_in members.old.items m f ≡ None) }
-    ensures refused { IfErr result (λ fault. (fault ≡ EventFault.NoMemory)
+        (came_in g.now logs members.old.items q (claim_in members.old.items m f)) (state_at members.old.items m))) }
+    ensures idle { (result ≡ Err EventError.FetcherIdle) ↔ (claim_in members.old.items m f ≡ None) }
+    ensures refused { IfErr result (λ fault. (fault ≡ EventError.NoMemory)
         ⊎ (answered g.now logs (claim_in members.old.items m f)
         (came_in g.now logs members.old.items q (claim_in members.old.items m f)) ≡ Err fault)) }
     ensures err { OnErr result (members.new.items ≡ members.old.items) }
@@ -218,7 +218,7 @@ pub(crate) fn feed(
     m: u32,
     f: u8,
     octets: &[u8],
-) -> Result<Fed, EventFault>
+) -> Result<Fed, EventError>
     ghost logs: { Logs }
     requires { CanGetAt g.now logs f m members.old.items }
     ensures fed { IfOk result
@@ -227,9 +227,9 @@ pub(crate) fn feed(
         (came_for g.now logs octets.now (claim_in members.old.items m f)) ≡ Ok (kept_of octets.now fed)) }
     ensures members { OnOk result (members.new.items ≡ slice_set members.old.items m
         (after_claimed g.now logs f (claim_in members.old.items m f)
-        (came_for g.now logs octets.now (claim_in members.old.items m f)) (alone_at members.old.items m))) }
-    ensures idle { (result ≡ Err EventFault.FetcherIdle) ↔ (claim_in members.old.items m f ≡ None) }
-    ensures refused { IfErr result (λ fault. (fault ≡ EventFault.NoMemory)
+        (came_for g.now logs octets.now (claim_in members.old.items m f)) (state_at members.old.items m))) }
+    ensures idle { (result ≡ Err EventError.FetcherIdle) ↔ (claim_in members.old.items m f ≡ None) }
+    ensures refused { IfErr result (λ fault. (fault ≡ EventError.NoMemory)
         ⊎ (answered g.now logs (claim_in members.old.items m f)
         (came_for g.now logs octets.now (claim_in members.old.items m f)) ≡ Err fault)) }
     ensures err { OnErr result (members.new.items ≡ members.old.items) }

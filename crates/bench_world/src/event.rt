@@ -31,7 +31,7 @@ pub enum Event {
     Sync {
         k: u32,
     },
-    /// The moment moves on by so many milliseconds.
+    /// The time moves on by so many milliseconds.
     Advance {
         ms: u64,
     },
@@ -140,7 +140,7 @@ pub enum Event {
     Traffic,
 }
 
-/// What is told of an event.
+/// What is reported of an event.
 #[derive(Drop)]
 pub enum Happened {
     Publish {
@@ -330,7 +330,7 @@ pub enum Happened {
 
 /// Why an event was not carried out, by name.
 #[derive(Clone, Copy, Debug, PartialEq, Eq)]
-pub enum EventFault {
+pub enum EventError {
     /// No such packet was sent.
     NoSuchPacket,
     /// The fetcher claims a part.
@@ -346,14 +346,14 @@ pub enum EventFault {
     NoMemory,
 }
 
-impl From<AllocError> for EventFault {
+impl From<AllocError> for EventError {
     ghost use Rattle.std.specs.Prelude.{◌≡◌};
-    ghost use Rattle.bench_world.specs.declared.event.EventFault.TheVariants.{NoMemory};
+    ghost use Rattle.bench_world.specs.declared.event.EventError.TheVariants.{NoMemory};
 
     ghost from_gives = { λ _ fault. fault ≡ NoMemory };
 
-    fn from(_: AllocError) -> EventFault {
-        EventFault::NoMemory
+    fn from(_: AllocError) -> EventError {
+        EventError::NoMemory
     }
 }
 
@@ -367,21 +367,21 @@ pub enum StepFault {
     NoMemory,
 }
 
-impl From<EventFault> for StepFault {
+impl From<EventError> for StepFault {
     ghost use Rattle.std.specs.Prelude.{◌≡◌};
     ghost use Rattle.bench_world.specs.Steps.{step_fault};
 
     ghost from_gives = { λ event fault. fault ≡ step_fault event };
 
-    fn from(event: EventFault) -> StepFault {
+    fn from(event: EventError) -> StepFault {
         match event {
-            EventFault::NoSuchPacket => StepFault::Refused { number: 5 },
-            EventFault::FetcherBusy => StepFault::Refused { number: 6 },
-            EventFault::FetcherIdle => StepFault::Refused { number: 7 },
-            EventFault::NumbersSpent => StepFault::Refused { number: 8 },
-            EventFault::NoSuchNumber => StepFault::Refused { number: 14 },
-            EventFault::Foreign => StepFault::Foreign,
-            EventFault::NoMemory => StepFault::NoMemory,
+            EventError::NoSuchPacket => StepFault::Refused { number: 5 },
+            EventError::FetcherBusy => StepFault::Refused { number: 6 },
+            EventError::FetcherIdle => StepFault::Refused { number: 7 },
+            EventError::NumbersSpent => StepFault::Refused { number: 8 },
+            EventError::NoSuchNumber => StepFault::Refused { number: 14 },
+            EventError::Foreign => StepFault::Foreign,
+            EventError::NoMemory => StepFault::NoMemory,
         }
     }
 }

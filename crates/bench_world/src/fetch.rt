@@ -15,15 +15,15 @@ use crate::holder::Holder;
 use crate::lending::MemberLink;
 use bench_net::Net;
 use fetch_work::phase;
-use repo_member::{Group, Kept};
+use repo_member::{FetchCounts, Group};
 use std::alloc::{AllocError, Global};
 use std::thread::Threads;
 
 /// What a fetch came to: how many parts were asked for, what came, and how many attempts were made.
 #[derive(Clone, Copy, Debug)]
-pub(crate) struct FetchCounts {
+pub(crate) struct FetchReport {
     pub(crate) planned: usize,
-    pub(crate) kept: Kept,
+    pub(crate) kept: FetchCounts,
     pub(crate) attempts: u64,
 }
 
@@ -36,7 +36,7 @@ pub(crate) fn fetch<N: Net + Sync, R: Threads + Sync, H: Holder>(
     workers: u32,
     tries: u32,
     holder: &mut H,
-) -> Result<FetchCounts, AllocError>
+) -> Result<FetchReport, AllocError>
     ghost logs: { Logs }
     requires { CanFetch H.words g.now logs workers tries link.now.others.now holder.old }
     ensures new { OnOk result (holder.new ≡ H.words.takes (fetched_all
@@ -65,7 +65,7 @@ pub(crate) fn fetch<N: Net + Sync, R: Threads + Sync, H: Holder>(
         &outcome.parts,
         &outcome.attempts,
     )?;
-    Ok(FetchCounts {
+    Ok(FetchReport {
         planned: jobs.len(),
         kept,
         attempts: total(&outcome.attempts),

@@ -12,7 +12,7 @@ use crate::holder::Holder;
 use crate::lending::MemberLink;
 use bench_net::Net;
 use fetch_work::phase;
-use repo_member::{Group, Kept};
+use repo_member::{FetchCounts, Group};
 use repo_plan::Part;
 use std::alloc::{AllocError, Global};
 use std::thread::Threads;
@@ -21,7 +21,7 @@ use std::thread::Threads;
 pub(crate) const PHASE_LIMIT: usize = 4096;
 
 // Nothing came.
-const NOTHING: Kept = Kept {
+const NOTHING: FetchCounts = FetchCounts {
     parts: 0,
     octets: 0,
 };
@@ -35,7 +35,7 @@ fn gather_phase<N: Net + Sync, R: Threads + Sync, H: Holder>(
     workers: u32,
     holder: &mut H,
     after: Option<Part>,
-) -> Result<(Option<Part>, Kept), AllocError>
+) -> Result<(Option<Part>, FetchCounts), AllocError>
     ghost logs: { Logs }
     requires { CanGather H.words g.now logs workers link.now.others.now link.now.loss holder.old }
     ensures new { OnOk result (holder.new ≡ H.words.takes (lent_all link.now.others.now
@@ -68,7 +68,7 @@ fn gather_round<N: Net + Sync, R: Threads + Sync, H: Holder>(
     link: &MemberLink<'_, N>,
     workers: u32,
     holder: &mut H,
-) -> Result<Kept, AllocError>
+) -> Result<FetchCounts, AllocError>
     ghost logs: { Logs }
     requires { CanGather H.words g.now logs workers link.now.others.now link.now.loss holder.old }
     ensures gains { GainsParts H.words g.now logs link.now.others.now holder.old holder.new }
@@ -97,7 +97,7 @@ pub(crate) fn gather<N: Net + Sync, R: Threads + Sync, H: Holder>(
     link: &MemberLink<'_, N>,
     workers: u32,
     holder: &mut H,
-) -> Result<Kept, AllocError>
+) -> Result<FetchCounts, AllocError>
     ghost logs: { Logs }
     requires { CanGather H.words g.now logs workers link.now.others.now link.now.loss holder.old }
     ensures gains { GainsParts H.words g.now logs link.now.others.now holder.old holder.new }

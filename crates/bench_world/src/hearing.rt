@@ -4,11 +4,11 @@ ghost use Rattle.std.specs.Prelude.{length, slice_index};
 ghost use Rattle.bench_net.specs.SentList.{was_sent};
 ghost use Rattle.svs_sync.specs.Suppression.{mode_of};
 ghost use Rattle.repo_member.specs.Groups.{node_limit};
-ghost use Rattle.repo_member.specs.Alone.{IsOfGroup, alone_hears};
+ghost use Rattle.repo_member.specs.MemberState.{IsOfGroup, member_hears};
 ghost use Rattle.repo_member.specs.Verdicts.{group_verdict};
-ghost use Rattle.bench_world.specs.Hearing.{told_sync};
+ghost use Rattle.bench_world.specs.Hearing.{reported_sync};
 
-use crate::event::EventFault;
+use crate::event::EventError;
 use crate::numbers::numbers;
 use bench_net::Sent;
 use repo_member::{Group, HearRefusal, Member};
@@ -17,7 +17,7 @@ use svs_sync::{Mode, SyncRefusal, check_sync};
 use svs_vector::Vector;
 
 // Who signed the sync Interest that octets are, and the vector that it tells, where the member takes it.
-pub(crate) fn told_by(
+pub(crate) fn reported_by(
     alloc: Global,
     g: &Group,
     member: &Member,
@@ -27,23 +27,27 @@ pub(crate) fn told_by(
     requires group { IsOfGroup g.now member.now }
     requires number { number ≡ member.now.number }
     requires there { number < length member.now.known }
-    ensures told { IfOk result (λ told. told_sync (length member.now.log) number (group_verdict g.now octets.now)
-        ≡ Ok (record { sender = told.0; vector = told.1 })) }
-    ensures own { IfOk result (λ told. slice_index told.1 member.now.number ≤ length member.now.log) }
-    ensures width { IfOk result (λ told. length told.1 ≡ length member.now.known) }
+    ensures reported { IfOk result (λ reported. reported_sync (length member.now.log) number
+        (group_verdict g.now octets.now)
+        ≡ Ok (record { sender = reported.0; vector = reported.1 })) }
+    ensures own { IfOk result (λ reported. slice_index reported.1 member.now.number ≤ length member.now.log) }
+    ensures width { IfOk result (λ reported. length reported.1 ≡ length member.now.known) }
     ensures refused { IfErr result (λ refusal. (refusal ≡ HearRefusal.NoMemory)
-        ⊎ (told_sync (length member.now.log) number (group_verdict g.now octets.now) ≡ Err refusal)) }
+        ⊎ (reported_sync (length member.now.log) number (group_verdict g.now octets.now) ≡ Err refusal)) }
 {
     g.is_sound();
     let (signer, vector) = match check_sync(alloc, octets, g.name(), g.roster(), g.members()) {
-        Ok(told) => told,
+        Ok(reported) => reported,
         Err(SyncRefusal::NoMemory) => return Err(HearRefusal::NoMemory),
         Err(refusal) => return Err(HearRefusal::Sync(refusal)),
     };
     let own = member.log_len();
-    let told = u32::from(vector.get(number));
-    if told > own {
-        return Err(HearRefusal::OwnNumberAhead { own, told });
+    let reported = u32::from(vector.get(number));
+    if reported > own {
+        return Err(HearRefusal::OwnNumberAhead {
+            own,
+            told: reported,
+        });
     }
     Ok((signer, vector))
 }
@@ -57,22 +61,22 @@ pub(crate) fn hear_sent(
     vector: &Vector,
     now: u64,
     draw: u32,
-) -> Result<Mode, EventFault>
+) -> Result<Mode, EventError>
     requires own { slice_index vector.now member.old.number ≤ length member.old.log }
     requires width { length vector.now ≡ length member.old.known }
     requires members { length vector.now ≤ node_limit }
     requires early { now < 2 ^ 62 }
     requires few { member.old.machine.draws < 2 ^ 62 }
     ensures sent { OnOk result (was_sent signer vector.now sent.now.packets ≡ true) }
-    ensures ok { OnOk result (member.new ≡ alone_hears vector.now now draw member.old) }
+    ensures ok { OnOk result (member.new ≡ member_hears vector.now now draw member.old) }
     ensures mode { IfOk result (λ mode. mode ≡ mode_of member.new.machine.heard) }
-    ensures foreign { IfErr result (λ fault. (fault ≡ EventFault.NoMemory)
-        ⊎ ((fault ≡ EventFault.Foreign) × (was_sent signer vector.now sent.now.packets ≡ false))) }
+    ensures foreign { IfErr result (λ fault. (fault ≡ EventError.NoMemory)
+        ⊎ ((fault ≡ EventError.Foreign) × (was_sent signer vector.now sent.now.packets ≡ false))) }
     ensures err { OnErr result (member.new ≡ member.old) }
 {
     let numbers = numbers(alloc, vector)?;
     if !sent.has(signer, numbers.as_slice()) {
-        return Err(EventFault::Foreign);
+        return Err(EventError::Foreign);
     }
     Ok(member.hear_vector(vector, now, draw))
 }

@@ -9,7 +9,7 @@ ghost use Rattle.bench_world.specs.Holders.{HolderWords, AreHolders, lent_jobs};
 
 use fetch_work::digests;
 use repo_holdings::ContentsDigest;
-use repo_member::{Group, Kept, Member};
+use repo_member::{FetchCounts, Group, Member};
 use repo_mirror::Mirror;
 use repo_object::{Checked, Job};
 use repo_plan::Part;
@@ -59,7 +59,7 @@ pub(crate) trait Holder {
         jobs: &[Job],
         parts: &[Option<Checked<'_>>],
         attempts: &[u32],
-    ) -> Result<Kept, AllocError>
+    ) -> Result<FetchCounts, AllocError>
         requires shared { IsSync R.row }
         requires workers { (1 ≤ workers) × (workers ≤ 16) }
         requires group { length g.now.members.names ≡ length (words.holdings self.old).known }
@@ -109,7 +109,7 @@ impl Holder for Member {
         jobs: &[Job],
         parts: &[Option<Checked<'_>>],
         attempts: &[u32],
-    ) -> Result<Kept, AllocError> {
+    ) -> Result<FetchCounts, AllocError> {
         if workers == 1 {
             return self.take_digested(g, jobs, parts, attempts, &[]);
         }
@@ -184,11 +184,11 @@ impl<'f> Holder for Filtering<'f> {
         jobs: &[Job],
         parts: &[Option<Checked<'_>>],
         attempts: &[u32],
-    ) -> Result<Kept, AllocError> {
+    ) -> Result<FetchCounts, AllocError> {
         let kept = self
             .mirror
             .take_outcome(self.filter, jobs, parts, attempts)?;
-        Ok(Kept {
+        Ok(FetchCounts {
             parts: kept,
             octets: octets_that_came(parts),
         })

@@ -23,10 +23,10 @@ mod numbers;
 mod others;
 mod settling;
 mod step;
-mod telling;
+mod sync_exchange;
 mod world;
 
-pub use event::{Event, EventFault, Happened, StepFault};
+pub use event::{Event, EventError, Happened, StepFault};
 pub use laws::{
     a_settle_can_be_made_again, claimed_parts_can_be_answered, workers_make_no_difference,
 };

@@ -3,13 +3,13 @@ ghost use Rattle.std.specs.Prelude.{◌≡◌, length, IfOk, OnOk, OnErr};
 ghost use Rattle.std.specs.List.{sum_by};
 ghost use Rattle.group_model.specs.World.{World, logs};
 ghost use Rattle.group_model.specs.Steps.{planned_parts, fetched_parts, attempts_made, after_fetch};
-ghost use Rattle.bench_world.specs.Serving.{outside};
+ghost use Rattle.bench_world.specs.Serving.{environment};
 ghost use Rattle.bench_world.specs.Sizes.{size_of};
 ghost use Rattle.bench_world.specs.Conditions.{CanFetchAt};
 ghost use Rattle.bench_world.specs.Worlds.{in_groups};
-ghost use Rattle.bench_world.specs.Worlds.{AreTrueMembers, MembersAreNumbered};
+ghost use Rattle.bench_world.specs.Worlds.{AreConsistentMembers, MembersAreNumbered};
 
-use crate::fetch::{FetchCounts, fetch};
+use crate::fetch::{FetchReport, fetch};
 use crate::lending::MemberLink;
 use crate::others::put_back;
 use bench_net::Net;
@@ -28,20 +28,20 @@ pub(crate) fn fetch_at<N: Net + Sync, R: Threads + Sync>(
     j: u32,
     tries: u32,
     loss: u32,
-) -> Result<FetchCounts, AllocError>
+) -> Result<FetchReport, AllocError>
     ghost begun: { World }
     requires { CanFetchAt g.now begun workers tries j members.old.items }
     ensures members { OnOk result (in_groups members.new.items
-        ≡ (after_fetch (outside g.now (λ _ _. 0) (N.passes net.now)) begun j tries loss).members) }
+        ≡ (after_fetch (environment g.now (λ _ _. 0) (N.passes net.now)) begun j tries loss).members) }
     ensures planned { IfOk result (λ r. r.planned ≡ length (planned_parts begun j)) }
     ensures parts { IfOk result (λ r. r.kept.parts
-        ≡ length (fetched_parts (outside g.now (λ _ _. 0) (N.passes net.now)) begun j tries loss)) }
+        ≡ length (fetched_parts (environment g.now (λ _ _. 0) (N.passes net.now)) begun j tries loss)) }
     ensures octets { IfOk result (λ r. r.kept.octets ≡ sum_by (size_of g.now (logs begun))
-        (fetched_parts (outside g.now (λ _ _. 0) (N.passes net.now)) begun j tries loss)) }
+        (fetched_parts (environment g.now (λ _ _. 0) (N.passes net.now)) begun j tries loss)) }
     ensures attempts { IfOk result (λ r. r.attempts
-        ≡ attempts_made (outside g.now (λ _ _. 0) (N.passes net.now)) begun j tries loss) }
+        ≡ attempts_made (environment g.now (λ _ _. 0) (N.passes net.now)) begun j tries loss) }
     ensures len { length members.new.items ≡ length members.old.items }
-    ensures truly { AreTrueMembers g.now (logs begun) members.new.items }
+    ensures consistent { AreConsistentMembers g.now (logs begun) members.new.items }
     ensures numbers { MembersAreNumbered members.new.items }
     ensures err { OnErr result (members.new.items ≡ members.old.items) }
 {

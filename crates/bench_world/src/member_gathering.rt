@@ -8,14 +8,14 @@ ghost use Rattle.bench_world.specs.MemberWords.{member_words};
 ghost use Rattle.bench_world.specs.Settling.{gain_sum, ArePartlySettled};
 ghost use Rattle.bench_world.specs.Sizes.{size_of};
 ghost use Rattle.bench_world.specs.Conditions.{CanGatherAt, CanGatherAll};
-ghost use Rattle.bench_world.specs.Worlds.{alone_at, others_than, in_groups};
-ghost use Rattle.bench_world.specs.Worlds.{AllCountsStay, AreTrueMembers, MembersAreNumbered};
+ghost use Rattle.bench_world.specs.Worlds.{state_at, others_than, in_groups};
+ghost use Rattle.bench_world.specs.Worlds.{AllCountsStay, AreConsistentMembers, MembersAreNumbered};
 
 use crate::gather::gather;
 use crate::lending::MemberLink;
 use crate::others::put_back;
 use bench_net::Net;
-use repo_member::{Group, Kept, Member};
+use repo_member::{FetchCounts, Group, Member};
 use std::alloc::{AllocError, Global};
 use std::thread::Threads;
 
@@ -28,18 +28,18 @@ fn gather_at<N: Net + Sync, R: Threads + Sync>(
     workers: u32,
     members: &mut Vec<Member>,
     j: u32,
-) -> Result<Kept, AllocError>
+) -> Result<FetchCounts, AllocError>
     ghost logs: { Logs }
     requires { CanGatherAt g.now logs workers j members.old.items }
-    ensures others { members.new.items ≡ slice_set members.old.items j (alone_at members.new.items j) }
+    ensures others { members.new.items ≡ slice_set members.old.items j (state_at members.new.items j) }
     ensures gains { GainsParts member_words g.now logs (others_than j members.old.items)
-        (alone_at members.old.items j) (alone_at members.new.items j) }
+        (state_at members.old.items j) (state_at members.new.items j) }
     ensures parts { IfOk result (λ kept.
-        Counts member_words one_each kept.parts (alone_at members.old.items j) (alone_at members.new.items j)) }
+        Counts member_words one_each kept.parts (state_at members.old.items j) (state_at members.new.items j)) }
     ensures octets { IfOk result (λ kept. Counts member_words (size_of g.now logs) kept.octets
-        (alone_at members.old.items j) (alone_at members.new.items j)) }
+        (state_at members.old.items j) (state_at members.new.items j)) }
     ensures left { OnOk result
-        (NothingLeft member_words (others_than j members.old.items) (alone_at members.new.items j)) }
+        (NothingLeft member_words (others_than j members.old.items) (state_at members.new.items j)) }
 {
     let mut member = members.remove(j as usize);
     let link = MemberLink {
@@ -68,7 +68,7 @@ pub(crate) fn gather_all<N: Net + Sync, R: Threads + Sync>(
     ensures octets { IfOk result (λ r. r.1 ≡ gain_sum (size_of g.now (logs begun)) begun begun.members) }
     ensures members { OnOk result (in_groups members.new.items ≡ map (settled_member begun) begun.members) }
     ensures len { length members.new.items ≡ length members.old.items }
-    ensures truly { AreTrueMembers g.now (logs begun) members.new.items }
+    ensures consistent { AreConsistentMembers g.now (logs begun) members.new.items }
     ensures numbers { MembersAreNumbered members.new.items }
     ensures counts { AllCountsStay members.old.items members.new.items }
     ensures err { OnErr result (ArePartlySettled begun (in_groups members.new.items)) }

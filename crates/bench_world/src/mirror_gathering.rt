@@ -1,6 +1,6 @@
 // What mirrors gather of members in a settle.
 ghost use Rattle.std.specs.Prelude.{◌≡◌, ◌+◌, ◌<◌, ℕ, length, slice_set, IfOk, OnOk};
-ghost use Rattle.repo_mirror.specs.TrueMirrors.{IsTrueMirror};
+ghost use Rattle.repo_mirror.specs.ConsistentMirrors.{IsConsistentMirror};
 ghost use Rattle.bench_world.specs.Conditions.{CanGatherFor, CanGatherForAll};
 ghost use Rattle.bench_world.specs.MirrorSteps.{mirror_at};
 ghost use Rattle.bench_world.specs.MirrorSettles.{HasSettled, HaveSettled, IsPartlySettledMirror};
@@ -33,7 +33,7 @@ fn gather_for<R: Threads + Sync>(
 ) -> Result<u32, AllocError>
     requires { CanGatherFor g.now workers i members.now known.now mirrors.old.items }
     ensures others { mirrors.new.items ≡ slice_set mirrors.old.items i (mirror_at mirrors.new.items i) }
-    ensures truly { IsTrueMirror g.now (logs_around members.now) (mirror_at mirrors.new.items i) }
+    ensures consistent { IsConsistentMirror g.now (logs_around members.now) (mirror_at mirrors.new.items i) }
     ensures settled { OnOk result
         (HasSettled (only_members members.now) (mirror_at mirrors.old.items i) (mirror_at mirrors.new.items i)) }
     ensures parts { IfOk result (λ parts. parts + held_by (mirror_at mirrors.old.items i)
@@ -71,8 +71,8 @@ pub(crate) fn gather_for_all<R: Threads + Sync>(
 ) -> Result<u64, AllocError>
     requires { CanGatherForAll g.now workers members.now known.now mirrors.old.items }
     ensures len { length mirrors.new.items ≡ length mirrors.old.items }
-    ensures truly { (i : ℕ) → i < length mirrors.new.items
-        → IsTrueMirror g.now (logs_around members.now) (mirror_at mirrors.new.items i) }
+    ensures consistent { (i : ℕ) → i < length mirrors.new.items
+        → IsConsistentMirror g.now (logs_around members.now) (mirror_at mirrors.new.items i) }
     ensures settled { OnOk result (HaveSettled (only_members members.now) mirrors.old.items mirrors.new.items) }
     ensures parts { IfOk result (λ n. n + held_by_all mirrors.old.items ≡ held_by_all mirrors.new.items) }
     ensures partly { ArePartlySettledMirrors (only_members members.now) mirrors.old.items mirrors.new.items }

@@ -1,7 +1,7 @@
 // A member of a group that is taken out for a while, and the others.
 ghost use Rattle.std.specs.Prelude.{◌≡◌, ◌≢◌, ◌<◌, ◌≤◌, ◌+◌, length, option_map, vec_len, vec_capacity};
 ghost use Rattle.std.specs.List.{insert};
-ghost use Rattle.bench_world.specs.Worlds.{alone_at};
+ghost use Rattle.bench_world.specs.Worlds.{state_at};
 ghost use Rattle.bench_world.specs.Others.{place_among_others, other_at};
 
 use repo_member::Member;
@@ -33,7 +33,7 @@ impl<'a> Others<'a> {
         requires there { part.publisher < length self.now.members.now + 1 }
         requires without { self.now.without < length self.now.members.now + 1 }
         requires other { part.publisher ≢ self.now.without }
-        ensures { result.now ≡ alone_at self.now.members.now (place_among_others self.now.without part.publisher) }
+        ensures { result.now ≡ state_at self.now.members.now (place_among_others self.now.without part.publisher) }
     {
         &self.members[self.place(part.publisher)]
     }

@@ -2,15 +2,15 @@
 ghost use Rattle.std.specs.Prelude.{◌≡◌, ◌+◌, ◌++◌, ◌≤◌, ◌<◌, ◌^◌, ℕ, length, map, IfOk, OnOk, OnErr, vec_len};
 ghost use Rattle.group_model.specs.World.{World, logs};
 ghost use Rattle.group_model.specs.Steps.{settled_member, settle_gains};
-ghost use Rattle.repo_member.specs.Alone.{alone_resets};
+ghost use Rattle.repo_member.specs.MemberState.{member_resets};
 ghost use Rattle.bench_world.specs.Sizes.{size_of};
 ghost use Rattle.bench_world.specs.Conditions.{CanSettle};
-ghost use Rattle.bench_world.specs.Worlds.{alone_at, in_groups, tells, AllCountsStay, AreTrueMembers};
+ghost use Rattle.bench_world.specs.Worlds.{state_at, in_groups, tells, AllCountsStay, AreConsistentMembers};
 ghost use Rattle.bench_world.specs.Worlds.{MembersAreNumbered};
-ghost use Rattle.bench_world.specs.Settling.{told_of, gain_sum, ArePartlySettled};
+ghost use Rattle.bench_world.specs.Settling.{reported_of, gain_sum, ArePartlySettled};
 
 use crate::member_gathering::gather_all;
-use crate::telling::{MemberSync, all_known, learn_all, tell_all};
+use crate::sync_exchange::{MemberSync, all_known, learn_all, tell_all};
 use bench_net::{Draws, Net, Sent};
 use repo_member::{Group, Member};
 use std::alloc::{AllocError, Global};
@@ -18,7 +18,7 @@ use std::thread::Threads;
 
 /// All claims end, each member tells what it knows and learns what all know, and each gathers what the others store.
 ///
-/// The answer is what was told, how many parts came, and how many octets.
+/// The answer is what was reported, how many parts came, and how many octets.
 pub(crate) fn settle_members<N: Net + Sync, R: Threads + Sync>(
     rt: &R,
     alloc: Global,
@@ -29,47 +29,47 @@ pub(crate) fn settle_members<N: Net + Sync, R: Threads + Sync>(
 ) -> Result<(Vec<MemberSync>, u64, u64), AllocError>
     ghost begun: { World }
     requires { CanSettle g.now begun workers members.old.items }
-    ensures told { IfOk result (λ r. map told_of r.0.items ≡ map (tells g.now) members.old.items) }
+    ensures reported { IfOk result (λ r. map reported_of r.0.items ≡ map (tells g.now) members.old.items) }
     ensures parts { IfOk result (λ r. r.1 ≡ settle_gains begun) }
     ensures octets { IfOk result (λ r. r.2 ≡ gain_sum (size_of g.now (logs begun)) begun begun.members) }
     ensures members { OnOk result (in_groups members.new.items ≡ map (settled_member begun) begun.members) }
     ensures len { length members.new.items ≡ length members.old.items }
-    ensures truly { AreTrueMembers g.now (logs begun) members.new.items }
+    ensures consistent { AreConsistentMembers g.now (logs begun) members.new.items }
     ensures numbers { MembersAreNumbered members.new.items }
     ensures counts { AllCountsStay members.old.items members.new.items }
-    // After want of memory each member has come a part of the way.
+    // After running out of memory each member has come a part of the way.
     ensures err { OnErr result (ArePartlySettled begun (in_groups members.new.items)) }
 {
-    let told = tell_all(alloc, g, members.as_slice())?;
+    let reported = tell_all(alloc, g, members.as_slice())?;
     let known = all_known(alloc, members.as_slice())?;
     learn_all(&known, members);
     let (parts, octets) = gather_all(rt, alloc, g, net, workers, members)?;
-    Ok((told, parts, octets))
+    Ok((reported, parts, octets))
 }
 
-/// What was told is sent, for which room was made.
-pub(crate) fn send_all(sent: &mut Sent, told: Vec<MemberSync>)
-    requires room { vec_len told ≤ sent.old.spare }
-    requires few { length sent.old.packets + vec_len told < 4294967295 }
-    ensures { sent.new.packets ≡ sent.old.packets ++ map told_of told.items }
+/// What was reported is sent, for which room was made.
+pub(crate) fn send_all(sent: &mut Sent, reported: Vec<MemberSync>)
+    requires room { vec_len reported ≤ sent.old.spare }
+    requires few { length sent.old.packets + vec_len reported < 4294967295 }
+    ensures { sent.new.packets ≡ sent.old.packets ++ map reported_of reported.items }
 {
-    for one in told {
+    for one in reported {
         sent.add_reserved(one.sender, one.vector, one.octets);
     }
 }
 
 /// Each machine starts again, with its member's next draw.
-pub(crate) fn reset_all<D: Draws>(members: &mut Vec<Member>, moment: u64, draws: &D)
+pub(crate) fn reset_all<D: Draws>(members: &mut Vec<Member>, time: u64, draws: &D)
     requires few { length members.old.items ≤ 16 }
-    requires early { moment < 2 ^ 62 }
-    requires draws { (j : ℕ) → (alone_at members.old.items j).machine.draws < 2 ^ 62 }
+    requires early { time < 2 ^ 62 }
+    requires draws { (j : ℕ) → (state_at members.old.items j).machine.draws < 2 ^ 62 }
     ensures len { length members.new.items ≡ length members.old.items }
-    ensures each { (j : ℕ) → j < length members.old.items → alone_at members.new.items j
-        ≡ alone_resets moment (D.draw draws.now j (alone_at members.old.items j).machine.draws)
-        (alone_at members.old.items j) }
+    ensures each { (j : ℕ) → j < length members.old.items → state_at members.new.items j
+        ≡ member_resets time (D.draw draws.now j (state_at members.old.items j).machine.draws)
+        (state_at members.old.items j) }
 {
     for (j, member) in members.iter_mut().enumerate() {
         let draw = draws.draw(j as u32, member.next_draw());
-        member.reset(moment, draw);
+        member.reset(time, draw);
     }
 }

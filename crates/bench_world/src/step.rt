@@ -3,14 +3,14 @@ ghost use Rattle.std.specs.Prelude.{◌≡◌, ◌+◌, ◌<◌, ◌≤◌, None
 ghost use Rattle.std.specs.List.{All};
 ghost use Rattle.group_model.specs.Steps.{after_event, after_events};
 ghost use Rattle.group_model.specs.Refusals.{refusal, EventsAreTaken};
-ghost use Rattle.bench_world.specs.Serving.{outside};
+ghost use Rattle.bench_world.specs.Serving.{environment};
 ghost use Rattle.bench_world.specs.Worlds.{world_of};
-ghost use Rattle.bench_world.specs.EventValues.{event_value, group_event, told_value, telling};
+ghost use Rattle.bench_world.specs.EventValues.{event_value, group_event, reported_value, event_report};
 ghost use Rattle.bench_world.specs.Steps.{IsReady, NamesClient, IsFaultOf, IsStepFaultOf, NamesAll};
 ghost use Rattle.bench_world.specs.Runs.{StandsAsBefore, JoinsAfter, IsStep, event_values, group_events, IsStopped};
 ghost use Rattle.bench_world.specs.Runs.{ListLawFrom};
 
-use crate::event::{Event, EventFault, Happened, StepFault};
+use crate::event::{Event, EventError, Happened, StepFault};
 use crate::world::World;
 use bench_net::{Draws, Net};
 use std::thread::Threads;
@@ -23,24 +23,26 @@ impl World {
         event: &Event,
         net: &N,
         draws: &D,
-    ) -> Result<Happened, EventFault>
+    ) -> Result<Happened, EventError>
         requires ready { IsReady (length self.old.keys.members.names) (event_value event.now) }
         requires clients { NamesClient (length self.old.keys.clients.names) (event_value event.now) }
         requires few { self.old.steps < 100000 }
-        ensures taken { OnOk result (refusal (outside self.old.keys (D.draw draws.now) (N.passes net.now))
+        ensures taken { OnOk result (refusal (environment self.old.keys (D.draw draws.now) (N.passes net.now))
             (world_of self.old) (group_event self.old.keys (event_value event.now)) ≡ None) }
         ensures world { OnOk result
-            (world_of self.new ≡ after_event (outside self.old.keys (D.draw draws.now) (N.passes net.now))
+            (world_of self.new ≡ after_event (environment self.old.keys (D.draw draws.now) (N.passes net.now))
             (world_of self.old) (group_event self.old.keys (event_value event.now))) }
-        ensures told { IfOk result (λ happened. told_value happened ≡ telling self.old.keys
-            (outside self.old.keys (D.draw draws.now) (N.passes net.now)) (world_of self.old) (event_value event.now)) }
-        ensures all { IfOk result (λ happened. NamesAll (length self.old.keys.members.names) (told_value happened)) }
+        ensures reported { IfOk result (λ happened. reported_value happened ≡ event_report self.old.keys
+            (environment self.old.keys (D.draw draws.now) (N.passes net.now)) (world_of self.old)
+            (event_value event.now)) }
+        ensures all { IfOk result (λ it. NamesAll (length self.old.keys.members.names) (reported_value it)) }
         // After a settle, where nothing is hidden, each catalogue is the join of all publications.
         ensures joined { OnOk result (JoinsAfter (event_value event.now) (world_of self.new)) }
         ensures steps { OnOk result (self.new.steps ≡ self.old.steps + 1) }
         ensures keys { self.new.keys ≡ self.old.keys }
         ensures mirrors { self.new.mirrors ≡ self.old.mirrors }
-        ensures refused { IfErr result (IsFaultOf (refusal (outside self.old.keys (D.draw draws.now) (N.passes net.now))
+        ensures refused { IfErr result (IsFaultOf (refusal
+            (environment self.old.keys (D.draw draws.now) (N.passes net.now))
             (world_of self.old) (group_event self.old.keys (event_value event.now)))) }
         ensures err { OnErr result (StandsAsBefore (event_value event.now) self.old self.new) }
     {
@@ -61,21 +63,22 @@ impl World {
         requires ready { IsReady (length self.old.keys.members.names) (event_value event.now) }
         requires clients { NamesClient (length self.old.keys.clients.names) (event_value event.now) }
         requires few { self.old.steps < 100000 }
-        ensures taken { OnOk result (refusal (outside self.old.keys (D.draw draws.now) (N.passes net.now))
+        ensures taken { OnOk result (refusal (environment self.old.keys (D.draw draws.now) (N.passes net.now))
             (world_of self.old) (group_event self.old.keys (event_value event.now)) ≡ None) }
         ensures world { OnOk result
-            (world_of self.new ≡ after_event (outside self.old.keys (D.draw draws.now) (N.passes net.now))
+            (world_of self.new ≡ after_event (environment self.old.keys (D.draw draws.now) (N.passes net.now))
             (world_of self.old) (group_event self.old.keys (event_value event.now))) }
-        ensures told { IfOk result (λ happened. told_value happened ≡ telling self.old.keys
-            (outside self.old.keys (D.draw draws.now) (N.passes net.now)) (world_of self.old) (event_value event.now)) }
-        ensures all { IfOk result (λ happened. NamesAll (length self.old.keys.members.names) (told_value happened)) }
+        ensures reported { IfOk result (λ happened. reported_value happened ≡ event_report self.old.keys
+            (environment self.old.keys (D.draw draws.now) (N.passes net.now)) (world_of self.old)
+            (event_value event.now)) }
+        ensures all { IfOk result (λ it. NamesAll (length self.old.keys.members.names) (reported_value it)) }
         // After a settle, where nothing is hidden, each catalogue is the join of all publications.
         ensures joined { OnOk result (JoinsAfter (event_value event.now) (world_of self.new)) }
         ensures steps { OnOk result (self.new.steps ≡ self.old.steps + 1) }
         ensures keys { self.new.keys ≡ self.old.keys }
         ensures mirrors { self.new.mirrors ≡ self.old.mirrors }
         ensures refused { IfErr result (IsStepFaultOf
-            (refusal (outside self.old.keys (D.draw draws.now) (N.passes net.now))
+            (refusal (environment self.old.keys (D.draw draws.now) (N.passes net.now))
             (world_of self.old) (group_event self.old.keys (event_value event.now)))) }
         ensures err { OnErr result (StandsAsBefore (event_value event.now) self.old self.new) }
     {
@@ -101,11 +104,11 @@ impl World {
         event: &Event,
         net: &N,
         draws: &D,
-    ) -> Result<Happened, EventFault>
+    ) -> Result<Happened, EventError>
         requires ready { IsReady (length self.old.members) (event_value event.now) }
         requires clients { NamesClient (length self.old.keys.clients.names) (event_value event.now) }
         requires few { self.old.steps < 100000 }
-        ensures { IsStep (outside self.old.keys (D.draw draws.now) (N.passes net.now)) (event_value event.now)
+        ensures { IsStep (environment self.old.keys (D.draw draws.now) (N.passes net.now)) (event_value event.now)
             self.old result self.new }
     {
         match event {
@@ -172,16 +175,17 @@ impl World {
             events.now }
         requires few { self.old.steps + length events.now ≤ 100000 }
         ensures count { IfOk result (λ n. n ≡ length events.now) }
-        ensures taken { OnOk result (EventsAreTaken (outside self.old.keys (D.draw draws.now) (N.passes net.now))
+        ensures taken { OnOk result (EventsAreTaken (environment self.old.keys (D.draw draws.now) (N.passes net.now))
             (world_of self.old) (group_events self.old.keys (event_values events.now))) }
         ensures world { OnOk result (world_of self.new
-            ≡ after_events (outside self.old.keys (D.draw draws.now) (N.passes net.now))
+            ≡ after_events (environment self.old.keys (D.draw draws.now) (N.passes net.now))
             (world_of self.old) (group_events self.old.keys (event_values events.now))) }
-        ensures stopped { IfErr result (λ fault. IsStopped (outside self.old.keys (D.draw draws.now) (N.passes net.now))
+        ensures stopped { IfErr result (λ fault. IsStopped
+            (environment self.old.keys (D.draw draws.now) (N.passes net.now))
             self.old (event_values events.now) fault.0 fault.1 self.new) }
         // Where the later events publish nothing and tell all members of all, and nothing is wanted or hidden in the
         // end, each catalogue is the join of all publications.
-        ensures joined { OnOk result (ListLawFrom (outside self.old.keys (D.draw draws.now) (N.passes net.now))
+        ensures joined { OnOk result (ListLawFrom (environment self.old.keys (D.draw draws.now) (N.passes net.now))
             (world_of self.old) (group_events self.old.keys (event_values events.now)) (world_of self.new)) }
         ensures steps { OnOk result (self.new.steps ≡ self.old.steps + length events.now) }
         ensures keys { self.new.keys ≡ self.old.keys }

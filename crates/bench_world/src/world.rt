@@ -1,8 +1,8 @@
 ghost use Rattle.std.specs.Prelude.{◌≡◌, ◌+◌, ◌<◌, length, [], IfOk};
 ghost use Rattle.group_model.specs.World.{opening_world, member, catalogue_at};
 ghost use Rattle.group_model.specs.Sound.{IsSoundGroup};
-ghost use Rattle.repo_member.specs.Listed.{alone_catalogue};
-ghost use Rattle.bench_world.specs.Worlds.{world_of, alone_at, drawing, begun_all, IsTrueState};
+ghost use Rattle.repo_member.specs.Listed.{member_catalogue};
+ghost use Rattle.bench_world.specs.Worlds.{world_of, state_at, drawing, begun_all, IsConsistentState};
 
 mod blocks;
 mod claiming;
@@ -24,15 +24,15 @@ use repo_mirror::Mirror;
 use std::alloc::{AllocError, Global};
 use std::marker::Model;
 
-/// All members of a group and its mirrors, with what was sent between members, the moment, and what was counted.
+/// All members of a group and its mirrors, with what was sent between members, the time, and what was counted.
 ///
-/// A step that is refused has changed nothing, want of memory included, but for that of a settle.
+/// A step that is refused has changed nothing, running out of memory included, but for that of a settle.
 pub struct World {
     alloc: Global,
     group: Group,
     members: Vec<Member>,
     sent: Sent,
-    moment: u64,
+    time: u64,
     issued: IssuedCommands,
     delivered: u64,
     attempts: u64,
@@ -50,7 +50,7 @@ impl Drop for World {
             group: _,
             members: _,
             sent: _,
-            moment: _,
+            time: _,
             issued: _,
             delivered: _,
             attempts: _,
@@ -77,7 +77,7 @@ impl Model for World {
 }
 
 impl World {
-    /// The members of a group before anything has happened, each with its first draw. The moment is 0.
+    /// The members of a group before anything has happened, each with its first draw. The time is 0.
     pub fn new<D: Draws>(alloc: Global, group: Group, draws: &D) -> Result<World, AllocError>
         ensures world { IfOk result (λ world.
             world_of world ≡ opening_world (drawing (D.draw draws.now)) (length group.members.names)) }
@@ -92,7 +92,7 @@ impl World {
             group,
             members,
             sent: Sent::new(alloc),
-            moment: 0,
+            time: 0,
             issued: IssuedCommands::new(alloc),
             delivered: 0,
             attempts: 0,
@@ -113,8 +113,8 @@ impl World {
     /// A member, whose catalogue is the group's catalogue of it.
     pub fn member(&self, m: u32) -> &Member
         requires there { m < length self.now.members }
-        ensures same { result.now ≡ alone_at self.now.members m }
-        ensures catalogue { alone_catalogue result.now.store ≡ catalogue_at (world_of self.now) m }
+        ensures same { result.now ≡ state_at self.now.members m }
+        ensures catalogue { member_catalogue result.now.store ≡ catalogue_at (world_of self.now) m }
     {
         &self.members[m as usize]
     }
@@ -125,11 +125,11 @@ impl World {
         &self.group
     }
 
-    /// The moment, in milliseconds.
+    /// The time, in milliseconds.
     pub fn now(&self) -> u64
-        ensures { result ≡ self.now.moment }
+        ensures { result ≡ self.now.time }
     {
-        self.moment
+        self.time
     }
 
     pub fn tally(&self) -> Tally
@@ -171,7 +171,7 @@ impl World {
     pub fn is_sound(&self)
         ensures names { length self.now.members ≡ length self.now.keys.members.names }
         ensures sound { IsSoundGroup (world_of self.now) }
-        ensures truly { IsTrueState self.now }
+        ensures consistent { IsConsistentState self.now }
     {
         let _ = &self.members;
     }

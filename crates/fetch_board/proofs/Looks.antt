@@ -4,7 +4,7 @@ use Rattle.std.proofs.Common.{ap, subst, ◌∙◌, arith}
 use mathlib.Core.Option.{some, none}
 use lib.ListN.{get_elem?}
 use Rattle.atomic_table.specs.Table.{step, keeps, Allows}
-use Rattle.fetch_board.specs.declared.hand.Hand.{Hand}
+use Rattle.fetch_board.specs.declared.seat_knowledge.SeatKnowledge.{SeatKnowledge}
 use Rattle.fetch_board.specs.declared.word.Word.{Word}
 use Rattle.fetch_board.specs.declared.word.Word.TheVariants.{Wanted, Held, Done, Spent}
 use Rattle.fetch_board.specs.Counts.{items, pairs}
@@ -18,7 +18,8 @@ use Rattle.fetch_board.proofs.Moves.{St, Move, moved}
 use Rattle.fetch_board.proofs.Phases.{word_of, coded_word, within_word, at_most_word, found}
 
 -- the lists of the accounts are untouched by a look
-look_marks : {T : Type 0} (i : ℕ) (w : Word) (v : Hand T) (j : ℕ) (m : Mark) → marks (looked i w v) j m ≡ marks v j m
+look_marks : {T : Type 0} (i : ℕ) (w : Word) (v : SeatKnowledge T) (j : ℕ) (m : Mark) → marks (looked i w v) j m
+    ≡ marks v j m
 look_marks i w v j (holds b) = refl
 look_marks i w v j (places b) = refl
 look_marks i w v j (finished b) = refl
@@ -61,7 +62,7 @@ sees i j b (done a) xs h = inl h
 sees i j b spent xs h = inl h
 
 module _ {T : Type 0} (tries seats : ℕ) where
-  look_move : (s : St T) (r : Kept tries seats s) (i id : ℕ) (v : Hand T) → get_elem? s.views id ≡ some v
+  look_move : (s : St T) (r : Kept tries seats s) (i id : ℕ) (v : SeatKnowledge T) → get_elem? s.views id ≡ some v
       → i < length r.phases → 0 < v.shares
       → Move tries seats s r i id v (looked i (word_of (phase r.phases i)) v) (phase r.phases i)
       (phase r.phases i) s.homes
@@ -83,13 +84,13 @@ module _ {T : Type 0} (tries seats : ℕ) where
         ((λ h. let k = old.0 (omega arith) in omega arith), λ a h. let k = old.1 a h in omega arith);
     rises = λ a h. h;
     seen = λ j a h. sees i j a p v.seen h;
-    told = refl;
+    reported = refl;
     shares = refl;
     some_share = some_share;
   }
 
   -- the seat looks, and the word stays
-  pub stands : (s : St T) (r : Kept tries seats s) (i id : ℕ) (v : Hand T) → get_elem? s.views id ≡ some v
+  pub stands : (s : St T) (r : Kept tries seats s) (i id : ℕ) (v : SeatKnowledge T) → get_elem? s.views id ≡ some v
       → i < length s.homes → 0 < v.shares
       → (w : Word)
       × Kept tries seats record {
@@ -109,7 +110,7 @@ module _ {T : Type 0} (tries seats : ℕ) where
             (look_move s r i id v at (subst (λ n. i < n) r.long near) some_share)),
         (
           is ∙ coded_word p,
-          subst (λ n. IsWithinTries n w) (sym (r.told id v at some_share)) (within_word tries p (r.within i)),
+          subst (λ n. IsWithinTries n w) (sym (r.reported id v at some_share)) (within_word tries p (r.within i)),
           (λ a h. at_most_word a p (r.seen id v at i a h)),
           refl,
         ),

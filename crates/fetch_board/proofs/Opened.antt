@@ -4,7 +4,7 @@ use Rattle.std.proofs.Common.{sym, subst, arith}
 use Rattle.std.specs.Prelude.{if◌then◌else◌}
 use Rattle.std.proofs.Math.Nat.{max-le, le-max_left}
 use Rattle.std.proofs.lemmas.Bool.{eqb-true}
-use Rattle.fetch_board.specs.declared.hand.Hand.{Hand}
+use Rattle.fetch_board.specs.declared.seat_knowledge.SeatKnowledge.{SeatKnowledge}
 use Rattle.fetch_board.specs.declared.word.Word.{Word}
 use Rattle.fetch_board.specs.declared.word.Word.TheVariants.{Wanted, Held, Done, Spent}
 use Rattle.fetch_board.specs.Counts.{one, pairs}
@@ -40,7 +40,8 @@ at_most_greatest i xs (Done b) h = tt
 at_most_greatest i xs Spent h = tt
 
 -- what a look finds, as contracts see it
-pub finds_seat : {T : Type 0} (b b' : BoardId) (v v' : Hand T) (d : SeatData T) (i r : ℕ) (w : Word) → data_of b v ≡ d
+pub finds_seat : {T : Type 0} (b b' : BoardId) (v v' : SeatKnowledge T) (d : SeatData T) (i r : ℕ) (w : Word)
+    → data_of b v ≡ d
     → b' ≡ b → hands.Finds v i r w v' → Finds i w d (data_of b' v')
 finds_seat b b' v v' d i r w is same f = subst (λ e. Finds i w e (data_of b' v')) is
     (subst (λ k. Finds i w (data_of b v) (data_of k v')) (sym same)

@@ -1,11 +1,11 @@
--- What a word and a seat's lists tell of an item's phase.
+-- What a word and a seat's lists say of an item's phase.
 use Rattle.std.proofs.Common.{◌≡◌, ◌⊎◌, inl, inr, ⊎_elim, ℕ, ◌*◌, ◌<◌, ◌≤◌, eqb, ◌&&◌, List, [], ◌∷◌, map, get_or, refl}
 use Rattle.std.proofs.Common.{sym, ap, subst, ◌∙◌, arith, eq-eqb, ne_eqb, ltb, Bool, true, false, ◌+◌}
 use Rattle.std.proofs.Math.ListN.{get_or-map}
 use Rattle.std.proofs.lemmas.Bool.{cases_eq, cases_order, le-ltb}
 use mathlib.Core.Option.{some}
 use lib.ListN.{get_elem?}
-use Rattle.fetch_board.specs.declared.hand.Hand.{Hand}
+use Rattle.fetch_board.specs.declared.seat_knowledge.SeatKnowledge.{SeatKnowledge}
 use Rattle.fetch_board.specs.declared.word.Word.{Word}
 use Rattle.fetch_board.specs.declared.word.Word.TheVariants.{Wanted, Held, Done, Spent}
 use Rattle.fetch_board.specs.Counts.{one, items, pairs, triples}
@@ -152,7 +152,7 @@ module _ {T : Type 0} (tries seats : ℕ) (s : St T) (r : Kept tries seats s) wh
   pub found : (i : ℕ) → get_or s.words i 0 ≡ code (phase r.phases i)
   found i = ap (λ ws. get_or ws i 0) r.shown ∙ get_or-map code r.phases i (wanted 0)
 
-  module _ (id : ℕ) (v : Hand T) (at : get_elem? s.views id ≡ some v) where
+  module _ (id : ℕ) (v : SeatKnowledge T) (at : get_elem? s.views id ≡ some v) where
     count_at : (i : ℕ) (m : Mark) → marks v i m ≤ entries_due tries (phase r.phases i) m
     count_at i m = let a = total_at (λ u. marks u i m) s.views id v at in let c = r.counted i m in omega arith
 
@@ -199,7 +199,7 @@ module _ {T : Type 0} (tries seats : ℕ) (s : St T) (r : Kept tries seats s) wh
       ended = λ i. ended_at i (phase r.phases i) refl;
       tried = λ i a. once i (tried a);
       within = λ i a some. let c = count_at i (tried a) in
-          subst (λ n. a < n) (sym (r.told id v at some_share))
+          subst (λ n. a < n) (sym (r.reported id v at some_share))
           (tried_within i a (phase r.phases i) (r.within i) (omega arith));
     }
 

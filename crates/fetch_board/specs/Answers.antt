@@ -11,15 +11,15 @@ use Rattle.fetch_board.specs.Words.{IsWithinTries, IsAtMost}
 use Rattle.fetch_board.specs.Seats.{SeatData, items_of, items_of_done, seen_of, looked, claimed}
 
 -- The word as a look tells it.
-abbrev pub told_word : Word → Seen
-told_word (Wanted a) = seen.Wanted a
-told_word (Held a) = seen.Held a
-told_word (Done a) = seen.Done
-told_word Spent = seen.Spent
+abbrev pub reported_word : Word → Seen
+reported_word (Wanted a) = seen.Wanted a
+reported_word (Held a) = seen.Held a
+reported_word (Done a) = seen.Done
+reported_word Spent = seen.Spent
 
 module _ {T : Type 0} where
   -- At its one step on the item's word the seat v found the word w, and so became v'. The word can be
-  -- found at an item of so many tries, and it tells of no fewer attempts than the seat had seen.
+  -- found at an item of so many tries, and it reports no fewer attempts than the seat had seen.
   pub record Finds (i : ℕ) (w : Word) (v v' : SeatData T) : Type 0 where
     pub within : IsWithinTries v.tries w
     pub later : IsAtMost (seen_of i v) w

@@ -1,7 +1,7 @@
 -- What each step tells the seat that makes it, over what the seat keeps for the rule.
 use Rattle.std.specs.Prelude.{◌≡◌, ◌≢◌, ℕ, ◌+◌, ◌-◌, ◌*◌, ◌<◌, [], ◌∷◌, ◌++◌, Option, Some, None}
 use Rattle.atomic_table.specs.Table.{Step, Me, rest}
-use Rattle.fetch_board.specs.declared.hand.Hand.{Hand}
+use Rattle.fetch_board.specs.declared.seat_knowledge.SeatKnowledge.{SeatKnowledge}
 use Rattle.fetch_board.specs.declared.word.Word.{Word}
 use Rattle.fetch_board.specs.Counts.{pairs, paid, released}
 use Rattle.fetch_board.specs.Rule.{founder}
@@ -10,11 +10,11 @@ use Rattle.fetch_board.specs.Seats.{BoardId, SeatData, seen_after, passed_after,
 use Rattle.fetch_board.specs.Answers.{Once}
 
 abbrev pub Knows : Type 0 → Type 0
-Knows T = Me (Option T) (Hand T)
+Knows T = Me (Option T) (SeatKnowledge T)
 
 module _ {T : Type 0} where
   -- What contracts see of a seat of the board.
-  abbrev pub data_of : BoardId → Hand T → SeatData T
+  abbrev pub data_of : BoardId → SeatKnowledge T → SeatData T
   data_of b v =
       record {
         board = b;
@@ -36,7 +36,7 @@ module _ {T : Type 0} where
     pub places : m.0.placing ≡ []
     pub some_share : 0 < m.0.shares
 
-  abbrev pub looked : ℕ → Word → Hand T → Hand T
+  abbrev pub looked : ℕ → Word → SeatKnowledge T → SeatKnowledge T
   looked i w v = record v {
     learnt = Some (i, w);
     seen = seen_after i w v.seen;
@@ -44,7 +44,7 @@ module _ {T : Type 0} where
     owed = owed_after i w v.owed;
   }
 
-  abbrev pub claimed : ℕ → ℕ → Hand T → Hand T
+  abbrev pub claimed : ℕ → ℕ → SeatKnowledge T → SeatKnowledge T
   claimed i a v = record v {
     held = (i, a) ∷ v.held;
     tried = (i, a) ∷ v.tried;
@@ -52,32 +52,32 @@ module _ {T : Type 0} where
     owed = paid i v.owed;
   }
 
-  abbrev pub returned : ℕ → Hand T → Hand T
+  abbrev pub returned : ℕ → SeatKnowledge T → SeatKnowledge T
   returned i v = record v { held = released i v.held; owed = i ∷ v.owed }
 
   -- The holder of the item has its place out.
-  abbrev pub reserved : ℕ → ℕ → Hand T → Hand T
+  abbrev pub reserved : ℕ → ℕ → SeatKnowledge T → SeatKnowledge T
   reserved i a v = record v { held = released i v.held; placing = (i, a) ∷ v.placing }
 
-  abbrev pub filed : ℕ → ℕ → T → Hand T → Hand T
+  abbrev pub filed : ℕ → ℕ → T → SeatKnowledge T → SeatKnowledge T
   filed i a x v = record v { placing = released i v.placing; done = (i, a, x) ∷ v.done }
 
   -- Both together.
-  abbrev pub finished : ℕ → ℕ → T → Hand T → Hand T
+  abbrev pub finished : ℕ → ℕ → T → SeatKnowledge T → SeatKnowledge T
   finished i a x v = record v { held = released i v.held; done = (i, a, x) ∷ v.done }
 
-  abbrev pub forgone : ℕ → Hand T → Hand T
+  abbrev pub forgone : ℕ → SeatKnowledge T → SeatKnowledge T
   forgone i v = record v { held = released i v.held; spent = i ∷ v.spent }
 
   -- The seat has given a share away.
-  abbrev pub shortened : Hand T → Hand T
+  abbrev pub shortened : SeatKnowledge T → SeatKnowledge T
   shortened v = record v { shares = v.shares - 1 }
 
   -- The seat that has got the share.
-  abbrev pub newcomer : Hand T → Hand T
+  abbrev pub newcomer : SeatKnowledge T → SeatKnowledge T
   newcomer v = founder v.tries 1
 
-  abbrev pub combined : Hand T → Hand T → Hand T
+  abbrev pub combined : SeatKnowledge T → SeatKnowledge T → SeatKnowledge T
   combined v w =
       record {
         tries = v.tries;
@@ -94,7 +94,7 @@ module _ {T : Type 0} where
       }
 
   -- The word was w, of the code r, and the seat has looked at it.
-  abbrev pub Finds : Hand T → ℕ → ℕ → Word → Hand T → Type 0
+  abbrev pub Finds : SeatKnowledge T → ℕ → ℕ → Word → SeatKnowledge T → Type 0
   Finds v i r w v' = (r ≡ word_code w) × IsWithinTries v.tries w × ((a : ℕ) → 0 < pairs i a v.seen → IsAtMost a w)
       × (v' ≡ looked i w v)
 

@@ -4,11 +4,11 @@ ghost use Rattle.fetch_board.specs.Seats.{IsSeatOf, fresh};
 ghost use Rattle.fetch_board.specs.Answers.{Rests, Settled};
 
 use crate::close::{discard, settle, vacant};
-use crate::hand::Hand;
 use crate::outcome::Outcome;
 use crate::plays::Shares;
-use crate::rule::{Fair, Terms};
+use crate::rule::{BoardLimits, BoardRule};
 use crate::seat::Seat;
+use crate::seat_knowledge::SeatKnowledge;
 use atomic_table::Table;
 use std::alloc::{AllocError, Global};
 use std::marker::Model;
@@ -19,14 +19,14 @@ use std::marker::Model;
 /// value. The place takes the value. Both change by single atomic steps: no call waits for another.
 #[derive(Drop)]
 pub struct Board<T> {
-    pub(crate) table: Table<Option<T>, Hand<T>, Terms, Fair, Global>,
+    pub(crate) table: Table<Option<T>, SeatKnowledge<T>, BoardLimits, BoardRule, Global>,
     pub(crate) items: usize,
     pub(crate) tries: u32,
     // For the outcome of `close`. No other file reaches it, so that the calls on a shared board can make nothing.
     alloc: Global,
 }
 
-// What is fixed of it. The words and places are in many hands, and no contract can tell what they are at a moment.
+// What is fixed of it. The words and places are in many hands, and no contract can tell what they are at a time.
 impl<T> Model for Board<T> {
     ghost use Rattle.fetch_board.specs.Seats.{BoardTerms};
 
@@ -80,7 +80,7 @@ impl<T: Drop> Board<T> {
         // A board of no items keeps one word that nobody asks for.
         let cells = items.max(1);
         let words = vec![in alloc; 0u64; cells]?;
-        let terms = Terms {
+        let terms = BoardLimits {
             tries,
             seats: seats as u64,
         };

@@ -6,11 +6,11 @@
 
 mod board;
 mod close;
-mod hand;
 mod outcome;
 mod plays;
 mod rule;
 mod seat;
+mod seat_knowledge;
 mod taken;
 mod turns;
 mod word;

@@ -1,10 +1,10 @@
-use crate::hand::Hand;
+use crate::seat_knowledge::SeatKnowledge;
 use std::marker::Model;
 
 /// A right to take part in the work of one board. It has no bytes, and may go to another thread.
 #[derive(Drop)]
 pub struct Seat<T> {
-    pub(crate) inner: atomic_table::Seat<Option<T>, Hand<T>>,
+    pub(crate) inner: atomic_table::Seat<Option<T>, SeatKnowledge<T>>,
 }
 
 // What it knows.

@@ -13,7 +13,7 @@ use Rattle.fetch_board.proofs.Marks.{pairs-append, items-append, triples-append,
 use Rattle.fetch_board.proofs.Seats.{either}
 use Rattle.fetch_work.specs.Teams.{Knows, HasWorked, IsFirst}
 
--- what holds of each element of a list holds of its front and of its last
+-- what holds of each element of a list holds of its prefix and of its last
 pub all_parts : {A : Type 0} (F : A → Type 0) (xs : List A) (x : A) (ys : List A) → ys ≡ xs ++ x ∷ [] → All F ys
     → All F xs × F x
 all_parts F xs x ys e h = let h' : All F (xs ++ x ∷ []) = subst (All F) e h in (

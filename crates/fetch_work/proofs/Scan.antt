@@ -60,7 +60,7 @@ module _ {T : Type 0} (brings : ℕ → ℕ → Option T) (count : ℕ) (tries :
         owes_none = λ _ i from low. absurd (omega arith);
       }
 
-  -- the visit of the item k behind those before it
+  -- the visit of the item k after those before it
   pub scan_next : (lo k : ℕ) (u v w : SeatData T) (gave more : Bool) → Scans brings count tries lo k u gave v
       → Visits brings count tries k v more w → Scans brings count tries lo (k + 1) u (gave || more) w
   scan_next lo k u v w gave more s t =
@@ -81,7 +81,7 @@ module _ {T : Type 0} (brings : ℕ → ℕ → Option T) (count : ℕ) (tries :
             (last_or i k low);
       }
 
-  -- what lies behind an item, and then what lies before it, is all
+  -- what lies after an item, and then what lies before it, is all
   pub scan_round : (mid : ℕ) (u v w : SeatData T) (gave more : Bool) → Scans brings count tries mid count u gave v
       → Scans brings count tries 0 mid v more w → Scans brings count tries 0 count u (gave || more) w
   scan_round mid u v w gave more s t =

@@ -29,7 +29,7 @@ pub fn digests<R: Threads + Sync>(
         → (slice_index_or digests.items k d).publisher ≡ (slice_index_or whole.now k w).publisher) }
     ensures numbers { IfOk result (λ digests. (k : ℕ) (d : ContentsDigest) (w : Whole) → k < length whole.now
         → (slice_index_or digests.items k d).seq ≡ (slice_index_or whole.now k w).seq) }
-    ensures told { IfOk result (λ digests. (packets : List Packet) → All (IsWholeIn packets) whole.now
+    ensures reported { IfOk result (λ digests. (packets : List Packet) → All (IsWholeIn packets) whole.now
         → All (IsDigestIn packets) digests.items) }
 {
     let empty = ContentsDigest {
@@ -44,8 +44,8 @@ pub fn digests<R: Threads + Sync>(
         rt,
         &mut digests,
         threads,
-        &|place, told| {
-            *told = whole[place].digest();
+        &|place, reported| {
+            *reported = whole[place].digest();
         },
     );
     Ok(digests)

@@ -80,9 +80,9 @@ fn round<T: Trial>(
     ensures seat { IsSeatOf board.now seat.new }
     ensures scans { Scans (T.brings trial.now) count board.now.tries 0 count seat.old result seat.new }
 {
-    let behind = scan(board, seat, trial, count, first, count);
+    let after = scan(board, seat, trial, count, first, count);
     let before = scan(board, seat, trial, count, 0, first);
-    behind || before
+    after || before
 }
 
 // Makes attempts at the items in rounds from `first` on, until a round gives none back.

@@ -5,7 +5,7 @@ use Rattle.std.proofs.lemmas.Bool.{true≢false, and_parts, and_from, or_cases, 
 use Rattle.std.proofs.lemmas.Bool.{false_from_ne_true, not-true, not_from_false}
 use Rattle.std.specs.Ordering.{eq_by_cmp}
 use Rattle.repo_plan.specs.declared.part.Part.{Part}
-use Rattle.repo_plan.specs.Parts.{Pair, pair_cmp, pair_of, part_of, record_of, parent, parts_behind}
+use Rattle.repo_plan.specs.Parts.{Pair, pair_cmp, pair_of, part_of, record_of, parent, parts_after}
 use Rattle.repo_plan.specs.Plan.{is_in}
 use Rattle.repo_plan.proofs.Orders.{exact_parts, exact_pairs}
 use Rattle.sorted_lists.proofs.Sets.{In, eq_same, eq_itself, contains-insert_key, contains-filter, rises_insert}
@@ -164,7 +164,7 @@ sound_deletes ls j name m s = sound_hides_all ls j (catalogued_under ls m name) 
           (sym (held t (record {
             pair = same;
             counted =
-                subst (λ (o : Post). t.part ≤ parts_behind (shape_in o)) (sym there.post)
+                subst (λ (o : Post). t.part ≤ parts_after (shape_in o)) (sym there.post)
                 (subst (λ (q : Pair). t.part ≤ count ls q) same w.counted);
           }))
           ∙ w.not_held),

@@ -8,7 +8,7 @@ use Rattle.std.specs.Prelude.{◌==◌}
 use Rattle.std.specs.Ordering.{eq_by_cmp}
 use Rattle.repo_plan.specs.declared.part.Part.{Part}
 use Rattle.sorted_lists.specs.SortedList.{contains, keys, value_of, with_value, Rises}
-use Rattle.repo_plan.specs.Parts.{Pair, pair_cmp, part_cmp, pair_of, part_of, record_of, parts_of, parts_behind, parent}
+use Rattle.repo_plan.specs.Parts.{Pair, pair_cmp, part_cmp, pair_of, part_of, record_of, parts_of, parts_after, parent}
 use Rattle.repo_plan.specs.declared.shape.Shape.{Shape}
 use Rattle.repo_plan.specs.Plan.{is_wanted, is_claimed}
 use Rattle.repo_plan.proofs.Orders.{exact_parts}
@@ -290,13 +290,13 @@ at_set_bound (x ∷ xs) zero n (suc p) b h k = h
 at_set_bound (x ∷ xs) (suc j) n zero b h k = h
 at_set_bound (x ∷ xs) (suc j) n (suc p) b h k = at_set_bound xs j n p b h (λ e. k (ap suc e))
 
-pub sound_publishes : (draw moment : ℕ) (ls more : Logs) (j : ℕ) (o : Post) (m : Member) → j < length ls
+pub sound_publishes : (draw time : ℕ) (ls more : Logs) (j : ℕ) (o : Post) (m : Member) → j < length ls
     → length m.log ≡ last_of ls j → Publishes ls more j o → IsSoundMember ls j m
-    → IsSoundMember more j (publishes draw moment j o m)
-sound_publishes draw moment ls more j o m within log g s =
+    → IsSoundMember more j (publishes draw time j o m)
+sound_publishes draw time ls more j o m within log g s =
     let seq : ℕ = length m.log + 1 in
-    let n : Member = publishes draw moment j o m in
-    let size : ℕ = parts_behind (shape_in o) in
+    let n : Member = publishes draw time j o m in
+    let size : ℕ = parts_after (shape_in o) in
     let ts : List Part = parts_of (j, seq) size in
     let is_seq : seq ≡ last_of ls j + 1 = omega (arith, log) in
     let own : get_or m.known j 0 ≡ last_of ls j = s.own in
@@ -304,7 +304,7 @@ sound_publishes draw moment ls more j o m within log g s =
     let knows_more : (p : ℕ) → get_or m.known p 0 ≤ get_or n.known p 0 =
     λ p. at_set_number m.known j seq p (omega (arith, own, log)) in
     let shape : shape_at more (j, seq) ≡ shape_in o = ap (λ (k : ℕ). shape_at more (j, k)) is_seq ∙ g.shape in
-    let counts : count more (j, seq) ≡ size = ap parts_behind shape in
+    let counts : count more (j, seq) ≡ size = ap parts_after shape in
     let new_held : (u : Part) → pair_of u ≡ (j, seq) → u.part ≤ size → member_holds n u ≡ true =
     λ u p l. held_new ts m u (subst (λ (q : Pair). In u (parts_of q size)) p (in_parts_of size u l)) in
     let either : (u : Part) → member_holds n u ≡ true

@@ -43,7 +43,7 @@ module _ (w : World) (j : ℕ) (new : Member) (within : j < length w.members) (g
   knows_it : (t : Part) → In t (all_parts (logs w)) → ComesTo w m t → IsKnown new.known (pair_of t)
   knows_it t i c = record {
     from_one = (from_all_parts (logs w) t i).there.from_one;
-    to_known = subst (λ (v : List ℕ). t.seq ≤ get_or v t.publisher 0) (sym known_is) c.told;
+    to_known = subst (λ (v : List ℕ). t.seq ≤ get_or v t.publisher 0) (sym known_is) c.reported;
   }
 
   not_hidden : (t : Part) → ComesTo w m t → member_hides new (pair_of t) ≡ false
@@ -119,7 +119,7 @@ module _ (w : World) (j : ℕ) (new : Member) (within : j < length w.members) (g
   comes_new t h fresh =
       let held = sound.held t h in
       comes_from w m t (record {
-        told = subst (λ (v : List ℕ). t.seq ≤ get_or v t.publisher 0) known_is held.known.to_known;
+        reported = subst (λ (v : List ℕ). t.seq ≤ get_or v t.publisher 0) known_is held.known.to_known;
         not_hidden = elim (cases_Bool (member_hides m (pair_of t))) [
           | inl on ↦
               absurd (true≢false (sym h ∙ (sound.hidden (pair_of t) (hides_same (pair_of t) ∙ on)).none_held t.part))

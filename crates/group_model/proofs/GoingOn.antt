@@ -6,7 +6,7 @@ use Rattle.std.proofs.lemmas.Bool.{or_right, or_left, cases_Bool, and_from, not_
 use Rattle.std.proofs.lemmas.List.{length-set, get_or-map}
 use Rattle.std.specs.Ordering.{eq_by_cmp}
 use Rattle.repo_plan.specs.declared.part.Part.{Part}
-use Rattle.repo_plan.specs.Parts.{parts_behind, Pair, pair_cmp, part_cmp, pair_of, parts_of}
+use Rattle.repo_plan.specs.Parts.{parts_after, Pair, pair_cmp, part_cmp, pair_of, parts_of}
 use Rattle.sorted_lists.specs.SortedList.{contains}
 use Rattle.repo_plan.specs.Plan.{is_in}
 use Rattle.repo_plan.proofs.Orders.{exact_parts, exact_pairs}
@@ -18,7 +18,7 @@ use Rattle.group_model.specs.Publications.{object_in}
 use Rattle.group_model.specs.Member.{Member, member_holds, member_hides, catalogued_under, member_hides_too}
 use Rattle.group_model.specs.Member.{member_hides_all, catalogued, is_listed}
 use Rattle.group_model.specs.Changes.{publishes}
-use Rattle.group_model.specs.World.{Outside, World, no_member, member, logs, logs_of}
+use Rattle.group_model.specs.World.{Environment, World, no_member, member, logs, logs_of}
 use Rattle.group_model.specs.Steps.{drawn, after_publish}
 use Rattle.group_model.specs.Sound.{IsSoundGroup}
 use Rattle.group_model.specs.Lasting.{Lasts, AllLast}
@@ -33,16 +33,16 @@ use Rattle.std.specs.Prelude.{is_some}
 
 -- ---- a member
 
-front_trans : {A : Type 0} → (a b c : List A) → take (length a) b ≡ a → take (length b) c ≡ b → take (length a) c ≡ a
-front_trans [] b c p q = refl
-front_trans (x ∷ a) [] c p q = absurd cc
-front_trans (x ∷ a) (y ∷ b) [] p q = absurd cc
-front_trans {A} (x ∷ a) (y ∷ b) (z ∷ c) p q =
+prefix_trans : {A : Type 0} → (a b c : List A) → take (length a) b ≡ a → take (length b) c ≡ b → take (length a) c ≡ a
+prefix_trans [] b c p q = refl
+prefix_trans (x ∷ a) [] c p q = absurd cc
+prefix_trans (x ∷ a) (y ∷ b) [] p q = absurd cc
+prefix_trans {A} (x ∷ a) (y ∷ b) (z ∷ c) p q =
     let h : y ≡ x = cc in
     let k : z ≡ y = cc in
     let t : take (length a) b ≡ a = cc in
     let u : take (length b) c ≡ b = cc in
-    let v : take (length a) c ≡ a = front_trans a b c t u in
+    let v : take (length a) c ≡ a = prefix_trans a b c t u in
     λ i. (k ∙ h) i ∷ v i
 
 -- a change that takes nothing back
@@ -60,7 +60,7 @@ lasts_refl m = lasts_with m m refl (λ p. omega arith) refl (λ t h. h)
 
 lasts_trans : (a b c : Member) → Lasts a b → Lasts b c → Lasts a c
 lasts_trans a b c x y = record {
-  log = front_trans a.log b.log c.log x.log y.log;
+  log = prefix_trans a.log b.log c.log x.log y.log;
   known = λ p.
       let u : get_or a.known p 0 ≤ get_or b.known p 0 = x.known p in
       let v : get_or b.known p 0 ≤ get_or c.known p 0 = y.known p in omega (arith, u, v);
@@ -135,11 +135,11 @@ lasts_beside m new l k x h =
     lasts_with m new l (λ p. subst (λ (v : List ℕ). get_or m.known p 0 ≤ get_or v p 0) (sym k) (omega arith)) x
     (λ t y. ap (λ (held : List Part). contains part_cmp held t) h ∙ y)
 
-pub lasts_publish : (out : Outside) (w : World) (j : ℕ) (o : Post) → j < length w.members → IsSoundGroup w
+pub lasts_publish : (out : Environment) (w : World) (j : ℕ) (o : Post) → j < length w.members → IsSoundGroup w
     → AllLast w (after_publish out w j o)
 lasts_publish out w j o l s =
     let m : Member = member w j in
-    let new : Member = publishes (drawn out w j) w.moment j o m in
+    let new : Member = publishes (drawn out w j) w.time j o m in
     let own : get_or m.known j 0 ≡ last_of (logs w) j = (s.members j l).own in
     let log : length m.log ≡ last_of (logs w) j =
     sym (ap length (get_or-map (λ (x : Member). x.log) w.members j no_member [] l)) in
@@ -147,7 +147,7 @@ lasts_publish out w j o l s =
       log = take-append_seam m.log (o ∷ []);
       known = λ p. at_set_number m.known j (length m.log + 1) p (omega (arith, own, log));
       hidden = λ pair h. h;
-      held = λ t h. inl (held_too (parts_of (j, length m.log + 1) (parts_behind (shape_in o))) m t h);
+      held = λ t h. inl (held_too (parts_of (j, length m.log + 1) (parts_after (shape_in o))) m t h);
     })
 
 -- ---- what an event publishes

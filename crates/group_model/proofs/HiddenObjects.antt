@@ -9,7 +9,7 @@ use Rattle.svs_sync.specs.Suppression.{periodic}
 use Rattle.group_model.specs.Publications.{Logs, last_of}
 use Rattle.group_model.specs.Member.{Member}
 use Rattle.group_model.specs.Events.{Event}
-use Rattle.group_model.specs.World.{Outside, World, no_member, member, logs, logs_of, opening_world}
+use Rattle.group_model.specs.World.{Environment, World, no_member, member, logs, logs_of, opening_world}
 use Rattle.group_model.specs.Steps.{after_event, after_events}
 use Rattle.group_model.specs.Refusals.{EventsAreTaken}
 use Rattle.group_model.specs.Sound.{IsSoundGroup, IsSoundMember, IsPublished}
@@ -66,7 +66,7 @@ begins_with_objects_hidden out n j pair l h =
     nothing_published f (numbers_from 0 n) pair.0 (λ x. refl) in
     absurd (omega (arith, none, there.from_one, there.to_last))
 
-all_with_objects_hidden : (out : Outside) (es : List Event) (w : World) → EventsAreTaken out w es → IsSoundGroup w
+all_with_objects_hidden : (out : Environment) (es : List Event) (w : World) → EventsAreTaken out w es → IsSoundGroup w
     → OnlyObjectsHidden w → OnlyObjectsHidden (after_events out w es)
 all_with_objects_hidden out [] w h s only = only
 all_with_objects_hidden out (e ∷ es) w h s only =

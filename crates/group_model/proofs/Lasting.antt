@@ -17,8 +17,8 @@ use Rattle.group_model.specs.Member.{Member, member_hides, catalogued_under}
 use Rattle.group_model.specs.Changes.{publishes, learns, member_starts}
 use Rattle.group_model.specs.Events.{SyncInterest, Came, Event}
 use Rattle.group_model.specs.Events.Came.{Nothing, Its, Another}
-use Rattle.group_model.specs.World.{Outside, World, member, with_member, logs, sent_at}
-use Rattle.group_model.specs.Steps.{drawn, claim_at, to_claim, passes_checks, timer_at, tells_too_much, came_from}
+use Rattle.group_model.specs.World.{Environment, World, member, with_member, logs, sent_at}
+use Rattle.group_model.specs.Steps.{drawn, claim_at, to_claim, passes_checks, timer_at, reports_too_much, came_from}
 use Rattle.group_model.specs.Steps.{came_as, fetched_parts, can_start, block_at, with_process_at, after_event}
 use Rattle.group_model.specs.Steps.{after_events, after_publish, after_deliver, after_hear, after_fire, after_claiming}
 use Rattle.group_model.specs.Steps.{after_came, after_command, after_order, after_block}
@@ -31,7 +31,7 @@ use Rattle.group_model.proofs.Parts.{publisher_within}
 use Rattle.group_model.proofs.Plans.{IsWanted, wanted_parts}
 use Rattle.group_model.proofs.Members.{join_more, known_published}
 use Rattle.group_model.proofs.Gains.{held_too}
-use Rattle.group_model.proofs.Settles.{settles, told_by, keeps_held, length_settled, member_settled, logs_settled}
+use Rattle.group_model.proofs.Settles.{settles, reported_by, keeps_held, length_settled, member_settled, logs_settled}
 use Rattle.group_model.proofs.Worlds.{sound_process, sound_after}
 use Rattle.group_model.specs.Replies.{Reply}
 use Rattle.group_model.specs.Reached.{InSoundGroups}
@@ -43,11 +43,11 @@ use Rattle.group_model.proofs.GoingOn.{then_hide, then_quiet, hides_at, lasts_pu
 
 -- ---- each event
 
-publish_hides : (out : Outside) (w : World) (j : ℕ) (o : Post) → AllHideObjects w (after_publish out w j o)
+publish_hides : (out : Environment) (w : World) (j : ℕ) (o : Post) → AllHideObjects w (after_publish out w j o)
 publish_hides out w j o i l =
-    hides_at (logs w) w.members j (publishes (drawn out w j) w.moment j o (member w j)) (λ pair h. inl h) i
+    hides_at (logs w) w.members j (publishes (drawn out w j) w.time j o (member w j)) (λ pair h. inl h) i
 
-goes_publish : (out : Outside) (w : World) (j : ℕ) (o : Post) (quiet : Type 0) → (quiet → ⊥) → j < length w.members
+goes_publish : (out : Environment) (w : World) (j : ℕ) (o : Post) (quiet : Type 0) → (quiet → ⊥) → j < length w.members
     → CanPost (member w j).log o → IsSoundGroup w → GoesOn w (after_publish out w j o) quiet
 goes_publish out w j o quiet loud l allowed s = record {
   last = lasts_publish out w j o l s;
@@ -56,7 +56,7 @@ goes_publish out w j o quiet loud l allowed s = record {
     before = w.members;
     publisher = j;
     post = o;
-    changed = publishes (drawn out w j) w.moment j o (member w j);
+    changed = publishes (drawn out w j) w.time j o (member w j);
     loud = loud;
     inside = l;
     allowed = allowed;
@@ -79,7 +79,7 @@ quiet_claim w j f None = quiet_same w w refl
 quiet_claim w j f (Some t) =
     quiet_set w (after_claiming w j f (Some t)) j _ refl refl (moves_beside (logs w) (member w j) _ refl refl refl refl)
 
-quiet_came : (out : Outside) (w v : World) (j f : ℕ) (c : Option Part) (came : Came) → v.members ≡ w.members
+quiet_came : (out : Environment) (w v : World) (j f : ℕ) (c : Option Part) (came : Came) → v.members ≡ w.members
     → Quietly w (after_came out v j f c came)
 quiet_came out w v j f None came e = quiet_same w v e
 quiet_came out w v j f (Some t) Nothing e = quiet_same w v e
@@ -92,22 +92,22 @@ quiet_came out w v j f (Some t) Another e =
     (quiet_set v (after_came out v j f (Some t) Another) j _ refl refl
     (moves_with (logs v) (member v j) _ refl (λ p. omega arith) refl (held_too (t ∷ []) (member v j))))
 
-quiet_fire : (out : Outside) (w : World) (j : ℕ) (f : Fired) → Quietly w (after_fire out w j f)
+quiet_fire : (out : Environment) (w : World) (j : ℕ) (f : Fired) → Quietly w (after_fire out w j f)
 quiet_fire out w j Early = quiet_same w w refl
 quiet_fire out w j Quiet =
     quiet_set w (after_fire out w j Quiet) j _ refl refl (moves_beside (logs w) (member w j) _ refl refl refl refl)
 quiet_fire out w j Send =
     quiet_set w (after_fire out w j Send) j _ refl refl (moves_beside (logs w) (member w j) _ refl refl refl refl)
 
-quiet_deliver : (out : Outside) (w : World) (j : ℕ) (told : List ℕ) → Quietly w (after_deliver out w j told)
-quiet_deliver out w j told =
-    quiet_set w (after_deliver out w j told) j _ refl refl
-    (moves_with (logs w) (member w j) (learns (drawn out w j) w.moment told (member w j)) refl
-    (join_more (member w j).known told) refl (λ t h. h))
+quiet_deliver : (out : Environment) (w : World) (j : ℕ) (reported : List ℕ) → Quietly w (after_deliver out w j reported)
+quiet_deliver out w j reported =
+    quiet_set w (after_deliver out w j reported) j _ refl refl
+    (moves_with (logs w) (member w j) (learns (drawn out w j) w.time reported (member w j)) refl
+    (join_more (member w j).known reported) refl (λ t h. h))
 
-quiet_hear : (out : Outside) (w : World) (j : ℕ) (read : Option SyncInterest) → Quietly w (after_hear out w j read)
+quiet_hear : (out : Environment) (w : World) (j : ℕ) (read : Option SyncInterest) → Quietly w (after_hear out w j read)
 quiet_hear out w j None = quiet_same w w refl
-quiet_hear out w j (Some sync) = go (tells_too_much w j sync) where
+quiet_hear out w j (Some sync) = go (reports_too_much w j sync) where
   go : (b : Bool) → Quietly w (cond b w (after_deliver out w j sync.vector))
   go true = quiet_same w w refl
   go false = quiet_deliver out w j sync.vector
@@ -135,7 +135,8 @@ quiet_process : (w : World) (j number : ℕ) (p : Process) → Quietly w (with_p
 quiet_process w j number p =
     quiet_set w (with_process_at w j number p) j _ refl refl (moves_beside (logs w) (member w j) _ refl refl refl refl)
 
-goes_block : (out : Outside) (w : World) (j process : ℕ) (state : BlockState) → j < length w.members → IsSoundGroup w
+goes_block : (out : Environment) (w : World) (j process : ℕ) (state : BlockState) → j < length w.members
+    → IsSoundGroup w
     → GoesOn w (after_block out w j process state) (IsNotWhole state)
 goes_block out w j process Unknown l s = quietly (quiet_same w w refl)
 goes_block out w j process Already l s = quietly (quiet_same w w refl)
@@ -152,7 +153,7 @@ goes_block out w j process (Whole p) l s =
         before = v.members;
         publisher = j;
         post = o;
-        changed = publishes (drawn out v j) v.moment j o (member v j);
+        changed = publishes (drawn out v j) v.time j o (member v j);
         loud = λ q. q;
         inside = inside;
         allowed = tt;
@@ -162,7 +163,7 @@ goes_block out w j process (Whole p) l s =
       });
     }
 
-pub goes_on : (out : Outside) (w : World) (e : Event) → EventIsTaken out w e → IsSoundGroup w
+pub goes_on : (out : Environment) (w : World) (e : Event) → EventIsTaken out w e → IsSoundGroup w
     → GoesOn w (after_event out w e) (IsQuiet w e)
 goes_on out w (Event.Publish j o) h s = goes_publish out w j (Offers o) ⊥ (λ q. q) h.named tt s
 goes_on out w (Event.Withdraw j seq) h s =
@@ -191,7 +192,7 @@ goes_on out w Event.Settle h s = record {
     width = length_settled out w 0 w.members;
     members =
         λ j l. subst (Lasts (member w j)) (sym (member_settled out w j l))
-        (lasts_with (member w j) (settles out w j (member w j)) refl (λ p. told_by w s j l j p l) refl
+        (lasts_with (member w j) (settles out w j (member w j)) refl (λ p. reported_by w s j l j p l) refl
         (keeps_held w s j l));
   };
   hides =
@@ -213,11 +214,11 @@ goes_on out w Event.Traffic h s = quietly (quiet_same w w refl)
 
 -- ---- what no event takes back
 
-pub lasts : (out : Outside) (w : World) (e : Event) → EventIsTaken out w e → IsSoundGroup w
+pub lasts : (out : Environment) (w : World) (e : Event) → EventIsTaken out w e → IsSoundGroup w
     → AllLast w (after_event out w e)
 lasts out w e h s = (goes_on out w e h s).last
 
-lasts_all : (out : Outside) (es : List Event) (w : World) → EventsAreTaken out w es → IsSoundGroup w
+lasts_all : (out : Environment) (es : List Event) (w : World) → EventsAreTaken out w es → IsSoundGroup w
     → AllLast w (after_events out w es)
 lasts_all out [] w h s = lasts_same w w refl
 lasts_all out (e ∷ es) w h s =
@@ -239,14 +240,14 @@ publisher_holds out w s j t l want =
       | inr f ↦ inl (f t.part u.counted)
     ]
 
-pub answers_are_kept : (out : Outside) (w : World) → AnswersAreKept out w
+pub answers_are_kept : (out : Environment) (w : World) → AnswersAreKept out w
 answers_are_kept out w j f q t claim gives =
     let came : came_from out w q (claim_at w j f) ≡ Its = ap (came_from out w q) claim ∙ gives in
     record {
       taken =
           ap (λ (c : Option Part). if_idle_or_foreign c (came_from out w q (claim_at w j f))) claim
           ∙ ap (if_idle_or_foreign (Some t)) came;
-      told = ap (λ (c : Came). Reply.Answered (passes_checks c)) came;
+      reported = ap (λ (c : Came). Reply.Answered (passes_checks c)) came;
     }
 
 pub publisher_can_answer : InSoundGroups PublisherCanAnswer

@@ -28,9 +28,9 @@ use Rattle.group_model.specs.Changes.{publishes, learns, resets, restarts, takes
 use Rattle.group_model.specs.Changes.{member_with_process, member_starts}
 use Rattle.group_model.specs.Events.{SyncInterest, Came, Event}
 use Rattle.group_model.specs.Events.Came.{Nothing, Its, Another}
-use Rattle.group_model.specs.World.{Tally, Issued, World, Outside, no_member, member, with_member, logs, logs_of}
+use Rattle.group_model.specs.World.{Tally, Issued, World, Environment, no_member, member, with_member, logs, logs_of}
 use Rattle.group_model.specs.World.{sent_at}
-use Rattle.group_model.specs.Steps.{drawn, claim_at, to_claim, open_at, timer_at, tells_too_much, came_from, came_as}
+use Rattle.group_model.specs.Steps.{drawn, claim_at, to_claim, open_at, timer_at, reports_too_much, came_from, came_as}
 use Rattle.group_model.specs.Steps.{new_parts, settled_member, after_gathering, syncs_of, planned_parts, fetched_parts}
 use Rattle.group_model.specs.Steps.{attempts_for, attempts_made, fetches, can_start, block_at, with_process_at}
 use Rattle.group_model.specs.Steps.{after_event, after_events, after_publish, after_deliver, after_hear, after_fire}
@@ -80,11 +80,11 @@ within_set : (old new : ℕ) (w : World) (j : ℕ) (m : Member) (sent : List Syn
     → old ≤ new → m.log ≡ (member w j).log → IsMemberWithin new m → length sent ≤ new * 16 → IsTallyWithin new tally
     → IsWithinSteps old w
     → IsWithinSteps new
-    (record { members = set w.members j m; sent = sent; moment = w.moment; issued = issued; tally = tally })
+    (record { members = set w.members j m; sent = sent; time = w.time; issued = issued; tally = tally })
 within_set old new w j m sent issued tally l e h few t s =
     let same : logs_of (set w.members j m) ≡ logs w = same_logs w.members j m e in
     record {
-      moment = let x : w.moment ≤ old * 1000000000 = s.moment in omega (arith, x, l);
+      time = let x : w.time ≤ old * 1000000000 = s.time in omega (arith, x, l);
       sent = few;
       published =
           let x : length (published (logs w)) ≤ old = s.published in
@@ -95,11 +95,11 @@ within_set old new w j m sent issued tally l e h few t s =
     }
 
 -- the members stay as they are
-within_same : (old new : ℕ) (w : World) (moment : ℕ) (issued : List Issued) (tally : Tally) → old ≤ new
-    → moment ≤ new * 1000000000 → IsTallyWithin new tally → IsWithinSteps old w
-    → IsWithinSteps new (record { members = w.members; sent = w.sent; moment = moment; issued = issued; tally = tally })
-within_same old new w moment issued tally l m t s = record {
-  moment = m;
+within_same : (old new : ℕ) (w : World) (time : ℕ) (issued : List Issued) (tally : Tally) → old ≤ new
+    → time ≤ new * 1000000000 → IsTallyWithin new tally → IsWithinSteps old w
+    → IsWithinSteps new (record { members = w.members; sent = w.sent; time = time; issued = issued; tally = tally })
+within_same old new w time issued tally l m t s = record {
+  time = m;
   sent = let x : length w.sent ≤ old * 16 = s.sent in omega (arith, x, l);
   published = let x : length (published (logs w)) ≤ old = s.published in omega (arith, x, l);
   segments = s.segments;
@@ -109,8 +109,8 @@ within_same old new w moment issued tally l m t s = record {
 
 within_stays : (s : ℕ) (w : World) → IsWithinSteps s w → IsWithinSteps (s + 1) w
 within_stays s w h =
-    within_same s (s + 1) w w.moment w.issued w.tally (omega arith)
-    (let x : w.moment ≤ s * 1000000000 = h.moment in omega (arith, x))
+    within_same s (s + 1) w w.time w.issued w.tally (omega arith)
+    (let x : w.time ≤ s * 1000000000 = h.time in omega (arith, x))
     (tally_more s (s + 1) w.tally (omega arith) h.tally) h
 
 more_sent : (s : ℕ) (w : World) (x : SyncInterest) → IsWithinSteps s w → length (w.sent ++ x ∷ []) ≤ (s + 1) * 16
@@ -126,12 +126,12 @@ more_tally s w h = tally_more s (s + 1) w.tally (omega arith) h.tally
 
 -- ---- each event
 
-within_publish : (out : Outside) (s : ℕ) (w : World) (j : ℕ) (o : Post) → HasFew o → IsWithinSteps s w
+within_publish : (out : Environment) (s : ℕ) (w : World) (j : ℕ) (o : Post) → HasFew o → IsWithinSteps s w
     → IsWithinSteps (s + 1) (after_publish out w j o)
 within_publish out s w j o few h =
-    let m : Member = publishes (drawn out w j) w.moment j o (member w j) in
+    let m : Member = publishes (drawn out w j) w.time j o (member w j) in
     record {
-      moment = let x : w.moment ≤ s * 1000000000 = h.moment in omega (arith, x);
+      time = let x : w.time ≤ s * 1000000000 = h.time in omega (arith, x);
       sent = more_sent s w _ h;
       published =
           let x : length (published (logs w)) ≤ s = h.published in
@@ -154,7 +154,7 @@ within_claim s w j f (Some t) h =
     (more_tally s w h) h
 
 -- one part came, and perhaps one attempt was made
-within_part : (out : Outside) (s : ℕ) (w : World) (j f : ℕ) (t : Part) (made : ℕ) → made ≤ 1 → HasSmallPackets out w
+within_part : (out : Environment) (s : ℕ) (w : World) (j f : ℕ) (t : Part) (made : ℕ) → made ≤ 1 → HasSmallPackets out w
     → IsWithinSteps s w
     → IsWithinSteps (s + 1)
     (after_part out (record w { tally = record w.tally { attempts = w.tally.attempts + made } }) j f t)
@@ -172,15 +172,15 @@ within_part out s w j f t made one size h =
 within_tried : (s : ℕ) (w : World) (made : ℕ) → made ≤ 1 → IsWithinSteps s w
     → IsWithinSteps (s + 1) (record w { tally = record w.tally { attempts = w.tally.attempts + made } })
 within_tried s w made one h =
-    within_same s (s + 1) w w.moment w.issued _ (omega arith)
-    (let x : w.moment ≤ s * 1000000000 = h.moment in omega (arith, x)) (record {
+    within_same s (s + 1) w w.time w.issued _ (omega arith)
+    (let x : w.time ≤ s * 1000000000 = h.time in omega (arith, x)) (record {
       delivered = let x : w.tally.delivered ≤ s * 240 = h.tally.delivered in omega (arith, x);
       attempts = let x : w.tally.attempts ≤ s * 65536 = h.tally.attempts in omega (arith, x, one);
       parts = let x : w.tally.parts ≤ s * s * 160808 = h.tally.parts in omega (arith, x, next_square s);
       octets = let x : w.tally.octets ≤ s * s * 1415110400 = h.tally.octets in omega (arith, x, next_square s);
     }) h
 
-within_came : (out : Outside) (s : ℕ) (w : World) (j f : ℕ) (c : Option Part) (came : Came) (made : ℕ) → made ≤ 1
+within_came : (out : Environment) (s : ℕ) (w : World) (j f : ℕ) (c : Option Part) (came : Came) (made : ℕ) → made ≤ 1
     → HasSmallPackets out w → IsWithinSteps s w
     → IsWithinSteps (s + 1)
     (after_came out (record w { tally = record w.tally { attempts = w.tally.attempts + made } }) j f c came)
@@ -189,35 +189,35 @@ within_came out s w j f (Some t) Nothing made one size h = within_tried s w made
 within_came out s w j f (Some t) Its made one size h = within_part out s w j f t made one size h
 within_came out s w j f (Some t) Another made one size h = within_part out s w j f t made one size h
 
-within_reset : (out : Outside) (s : ℕ) (w : World) (j : ℕ) (sent : List SyncInterest) → length sent ≤ (s + 1) * 16
+within_reset : (out : Environment) (s : ℕ) (w : World) (j : ℕ) (sent : List SyncInterest) → length sent ≤ (s + 1) * 16
     → IsWithinSteps s w → IsWithinSteps (s + 1) (record (after_reset out w j) { sent = sent })
 within_reset out s w j sent few h =
-    within_set s (s + 1) w j (resets (drawn out w j) w.moment (member w j)) sent w.issued w.tally (omega arith) refl
+    within_set s (s + 1) w j (resets (drawn out w j) w.time (member w j)) sent w.issued w.tally (omega arith) refl
     (mem_machine s (member w j) _ (omega arith) refl (h.members j).blocks (h.members j)) few (more_tally s w h) h
 
-within_fire : (out : Outside) (s : ℕ) (w : World) (j : ℕ) (f : Fired) → IsWithinSteps s w
+within_fire : (out : Environment) (s : ℕ) (w : World) (j : ℕ) (f : Fired) → IsWithinSteps s w
     → IsWithinSteps (s + 1) (after_fire out w j f)
 within_fire out s w j Early h = within_stays s w h
 within_fire out s w j Quiet h = within_reset out s w j w.sent (same_sent s w h) h
 within_fire out s w j Send h = within_reset out s w j _ (more_sent s w _ h) h
 
-one_draw : (moment : ℕ) (told known : List ℕ) (draw : ℕ) (k : Keeper) (heard : Option (List ℕ))
-    → (hears_kept moment told known draw k heard).draws ≤ k.draws + 1
-one_draw moment told known draw k None = go (covers told known) _ where
+one_draw : (time : ℕ) (reported known : List ℕ) (draw : ℕ) (k : Keeper) (heard : Option (List ℕ))
+    → (hears_kept time reported known draw k heard).draws ≤ k.draws + 1
+one_draw time reported known draw k None = go (covers reported known) _ where
   go : (b : Bool) (deadline : ℕ)
-      → (cond b (steady_kept moment draw k)
-      (record k { heard = Some told; deadline = deadline; draws = k.draws + 1 })).draws
+      → (cond b (steady_kept time draw k)
+      (record k { heard = Some reported; deadline = deadline; draws = k.draws + 1 })).draws
       ≤ k.draws + 1
   go true deadline = omega arith
   go false deadline = omega arith
-one_draw moment told known draw k (Some v) = omega arith
+one_draw time reported known draw k (Some v) = omega arith
 
-within_deliver : (out : Outside) (s : ℕ) (w : World) (j : ℕ) (told : List ℕ) → IsWithinSteps s w
-    → IsWithinSteps (s + 1) (after_deliver out w j told)
-within_deliver out s w j told h =
+within_deliver : (out : Environment) (s : ℕ) (w : World) (j : ℕ) (reported : List ℕ) → IsWithinSteps s w
+    → IsWithinSteps (s + 1) (after_deliver out w j reported)
+within_deliver out s w j reported h =
     let m : Member = member w j in
-    within_set s (s + 1) w j (learns (drawn out w j) w.moment told m) w.sent w.issued _ (omega arith) refl
-    (mem_machine s m _ (one_draw w.moment told m.known (drawn out w j) m.machine m.machine.heard) refl
+    within_set s (s + 1) w j (learns (drawn out w j) w.time reported m) w.sent w.issued _ (omega arith) refl
+    (mem_machine s m _ (one_draw w.time reported m.known (drawn out w j) m.machine m.machine.heard) refl
     (h.members j).blocks (h.members j)) (same_sent s w h) (record {
       delivered = let x : w.tally.delivered ≤ s * 240 = h.tally.delivered in omega (arith, x);
       attempts = let x : w.tally.attempts ≤ s * 65536 = h.tally.attempts in omega (arith, x);
@@ -225,10 +225,10 @@ within_deliver out s w j told h =
       octets = let x : w.tally.octets ≤ s * s * 1415110400 = h.tally.octets in omega (arith, x, next_square s);
     }) h
 
-within_hear : (out : Outside) (s : ℕ) (w : World) (j : ℕ) (read : Option SyncInterest) → IsWithinSteps s w
+within_hear : (out : Environment) (s : ℕ) (w : World) (j : ℕ) (read : Option SyncInterest) → IsWithinSteps s w
     → IsWithinSteps (s + 1) (after_hear out w j read)
 within_hear out s w j None h = within_stays s w h
-within_hear out s w j (Some sync) h = go (tells_too_much w j sync) where
+within_hear out s w j (Some sync) h = go (reports_too_much w j sync) where
   go : (b : Bool) → IsWithinSteps (s + 1) (cond b w (after_deliver out w j sync.vector))
   go true = within_stays s w h
   go false = within_deliver out s w j sync.vector h
@@ -246,8 +246,8 @@ within_command : (s : ℕ) (w : World) (issued : List Issued) (j : ℕ) (command
 within_command s w issued j (Insert name first last) short h = go (can_start (member w j)) where
   stays : IsWithinSteps (s + 1) (record w { issued = issued })
   stays =
-      within_same s (s + 1) w w.moment issued w.tally (omega arith)
-      (let x : w.moment ≤ s * 1000000000 = h.moment in omega (arith, x)) (more_tally s w h) h
+      within_same s (s + 1) w w.time issued w.tally (omega arith)
+      (let x : w.time ≤ s * 1000000000 = h.time in omega (arith, x)) (more_tally s w h) h
 
   few : length (indexes (starting name first last)) ≤ 200
   few =
@@ -266,8 +266,8 @@ within_command s w issued j (Insert name first last) short h = go (can_start (me
       (h.members j).blocks) (omega arith) (h.members j)) (same_sent s w h) (more_tally s w h) h
   go false = stays
 within_command s w issued j (Check process) short h =
-    within_same s (s + 1) w w.moment issued w.tally (omega arith)
-    (let x : w.moment ≤ s * 1000000000 = h.moment in omega (arith, x)) (more_tally s w h) h
+    within_same s (s + 1) w w.time issued w.tally (omega arith)
+    (let x : w.time ≤ s * 1000000000 = h.time in omega (arith, x)) (more_tally s w h) h
 within_command s w issued j (Delete name) short h =
     let m : Member = member w j in
     let b = hides_beside (catalogued_under (logs w) m name) m in
@@ -287,7 +287,7 @@ within_process old new w j number p l few h =
     (short_process (member w j).processes number p few (h.members j).blocks) l (h.members j))
     (let a : length w.sent ≤ old * 16 = h.sent in omega (arith, a, l)) (tally_more old new w.tally l h.tally) h
 
-within_block : (out : Outside) (s : ℕ) (w : World) (j process : ℕ) (state : BlockState) → HasFewBlocks state
+within_block : (out : Environment) (s : ℕ) (w : World) (j process : ℕ) (state : BlockState) → HasFewBlocks state
     → IsWithinSteps s w → IsWithinSteps (s + 1) (after_block out w j process state)
 within_block out s w j process Unknown few h = within_stays s w h
 within_block out s w j process Already few h = within_stays s w h
@@ -306,7 +306,7 @@ length_syncs : (k : ℕ) (ms : List Member) → length (syncs_of k ms) ≡ lengt
 length_syncs k [] = refl
 length_syncs k (m ∷ ms) = ap suc (length_syncs (k + 1) ms)
 
-each_settled : (out : Outside) (w : World) (s k : ℕ) (ms : List Member)
+each_settled : (out : Environment) (w : World) (s k : ℕ) (ms : List Member)
     → ((j : ℕ) → IsMemberWithin s (get_or ms j no_member)) → (j : ℕ)
     → IsMemberWithin (s + 1) (get_or (settle_each out w k ms) j no_member)
 each_settled out w s k [] each j = mem_more s (s + 1) no_member (omega arith) (each j)
@@ -321,7 +321,7 @@ pairs_of : (n : ℕ) → n ≤ 16 → n * (n - 1) ≤ 240
 pairs_of n l = let a : n * (n - 1) ≤ 16 * 15 = mul-le n (n - 1) 16 15 l (omega (arith, l)) in omega (arith, a)
 
 -- after a settle, with machines that were reset or not
-within_settled : (out : Outside) (s : ℕ) (w : World) (ms : List Member) → s ≤ 100000 → length w.members ≤ 16
+within_settled : (out : Environment) (s : ℕ) (w : World) (ms : List Member) → s ≤ 100000 → length w.members ≤ 16
     → HasSmallPackets out w → IsWithinSteps s w → logs_of ms ≡ logs w
     → ((j : ℕ) → IsMemberWithin (s + 1) (get_or ms j no_member))
     → IsWithinSteps (s + 1) (record (after_gathering out w) { members = ms })
@@ -337,7 +337,7 @@ within_settled out s w ms l few size h same each =
     at_most (length w.members) (s * 176888800) few
     (sized (λ (m : Member). sum_by (out.size (logs w)) (new_parts w m)) (s * 176888800) w.members octets_of) in
     record {
-      moment = let x : w.moment ≤ s * 1000000000 = h.moment in omega (arith, x);
+      time = let x : w.time ≤ s * 1000000000 = h.time in omega (arith, x);
       sent =
           let a : length w.sent ≤ s * 16 = h.sent in
           let b : length (w.sent ++ syncs_of 0 w.members) ≡ length w.sent + length (syncs_of 0 w.members) =
@@ -362,7 +362,7 @@ within_settled out s w ms l few size h same each =
       };
     }
 
-within_settle : (out : Outside) (s : ℕ) (w : World) → s ≤ 100000 → length w.members ≤ 16 → HasSmallPackets out w
+within_settle : (out : Environment) (s : ℕ) (w : World) → s ≤ 100000 → length w.members ≤ 16 → HasSmallPackets out w
     → IsWithinSteps s w → IsWithinSteps (s + 1) (after_settle out w)
 within_settle out s w l few size h =
     within_settled out s w (settle_each out w 0 w.members) l few size h (logs_settled out w 0 w.members)
@@ -380,7 +380,7 @@ gathering_within out s w l few size h =
     within_settled out s w (map (settled_member w) w.members) l few size h (logs_gathered w w.members)
     (each_gathered w s w.members h.members)
 
-within_fetch : (out : Outside) (s : ℕ) (w : World) (j tries loss : ℕ) → tries ≤ 16 → HasSmallPackets out w
+within_fetch : (out : Environment) (s : ℕ) (w : World) (j tries loss : ℕ) → tries ≤ 16 → HasSmallPackets out w
     → IsWithinSteps s w → IsWithinSteps (s + 1) (after_fetch out w j tries loss)
 within_fetch out s w j tries loss l size h =
     let m : Member = member w j in
@@ -416,11 +416,11 @@ within_after out s w (Event.Withdraw j seq) l few size r h = within_publish out 
 within_after out s w (Event.Deliver k j) l few size r h = within_deliver out s w j (sent_at w k).vector h
 within_after out s w (Event.Sync k) l few size r h = within_stays s w h
 within_after out s w (Event.Advance ms) l few size r h =
-    within_same s (s + 1) w (w.moment + ms) w.issued w.tally (omega arith)
-    (let x : w.moment ≤ s * 1000000000 = h.moment in omega (arith, x, r)) (more_tally s w h) h
+    within_same s (s + 1) w (w.time + ms) w.issued w.tally (omega arith)
+    (let x : w.time ≤ s * 1000000000 = h.time in omega (arith, x, r)) (more_tally s w h) h
 within_after out s w (Event.Fire j) l few size r h = within_fire out s w j (timer_at w j) h
 within_after out s w (Event.Restart j) l few size r h =
-    within_set s (s + 1) w j (restarts (drawn out w j) w.moment (member w j)) w.sent w.issued w.tally (omega arith) refl
+    within_set s (s + 1) w j (restarts (drawn out w j) w.time (member w j)) w.sent w.issued w.tally (omega arith) refl
     (mem_machine s (member w j) _ (omega arith) refl (λ i p e. absurd cc) (h.members j)) (same_sent s w h)
     (more_tally s w h) h
 within_after out s w (Event.Vector j) l few size r h = within_stays s w h
@@ -453,7 +453,7 @@ within_after out s w Event.Traffic l few size r h = within_stays s w h
 
 pub more_within : MoreIsWithin
 more_within s more w l h = record {
-  moment = let x : w.moment ≤ s * 1000000000 = h.moment in omega (arith, x, l);
+  time = let x : w.time ≤ s * 1000000000 = h.time in omega (arith, x, l);
   sent = let x : length w.sent ≤ s * 16 = h.sent in omega (arith, x, l);
   published = let x : length (published (logs w)) ≤ s = h.published in omega (arith, x, l);
   segments = h.segments;

@@ -3,7 +3,7 @@ use Rattle.std.proofs.Common.{◌≡◌, inl, inr, ℕ, ◌-◌, ◌≤◌, ◌<
 use Rattle.std.proofs.Common.{arith}
 use Rattle.std.proofs.lemmas.Bool.{true≢false, cases_Bool}
 use Rattle.std.proofs.lemmas.List.{get_or-take, get_or-map, length-take}
-use Rattle.repo_plan.specs.Parts.{Pair, part_of, parts_behind}
+use Rattle.repo_plan.specs.Parts.{Pair, part_of, parts_after}
 use Rattle.repo_object.specs.Objects.{Post, offered, shape_in}
 use Rattle.std.specs.Prelude.{is_some}
 use Rattle.group_model.specs.Publications.{published, last_of, post_at, no_post}
@@ -74,7 +74,7 @@ entries_stay out w s es j pair taken l is_listed =
             published = record { from_one = was.published.from_one; to_last = longer w new last pair was.published };
             object = ap (λ (o : Post). is_some (offered o)) same ∙ was.object;
             held = λ x le. elim ((last.members j l).held (part_of pair x)
-                (was.held x (subst (λ (o : Post). x ≤ parts_behind (shape_in o)) same le))) [
+                (was.held x (subst (λ (o : Post). x ≤ parts_after (shape_in o)) same le))) [
                   | inl held ↦ held
                   | inr hid ↦ absurd (true≢false (sym hid ∙ free))
                 ];

@@ -26,8 +26,9 @@ use Rattle.group_model.specs.Member.{Member, catalogued_under, member_hides_too,
 use Rattle.group_model.specs.Changes.{publishes, learns, member_starts}
 use Rattle.group_model.specs.Events.{SyncInterest, Came, Event}
 use Rattle.group_model.specs.Events.Came.{Nothing, Its, Another}
-use Rattle.group_model.specs.World.{Outside, World, no_member, member, with_member, logs, sent_at, opening_world}
-use Rattle.group_model.specs.Steps.{drawn, claim_at, to_claim, timer_at, tells_too_much, came_from, came_as, can_start}
+use Rattle.group_model.specs.World.{Environment, World, no_member, member, with_member, logs, sent_at, opening_world}
+use Rattle.group_model.specs.Steps.{drawn, claim_at, to_claim, timer_at, reports_too_much, came_from, came_as}
+use Rattle.group_model.specs.Steps.{can_start}
 use Rattle.group_model.specs.Steps.{block_at, with_process_at, after_event, after_events, after_hear, after_fire}
 use Rattle.group_model.specs.Steps.{after_claiming, after_came, after_settle, after_command, after_order, after_block}
 use Rattle.group_model.specs.Steps.{after_deliver, after_publish}
@@ -104,7 +105,7 @@ makes_claim : (w : World) (i f : ℕ) (c : Option Part) (j : ℕ)
 makes_claim w i f None j = makes_none (member w j)
 makes_claim w i f (Some t) j = makes_beside w.members i _ j refl
 
-makes_came : (out : Outside) (w v : World) (i f : ℕ) (c : Option Part) (came : Came) (j : ℕ) → v.members ≡ w.members
+makes_came : (out : Environment) (w v : World) (i f : ℕ) (c : Option Part) (came : Came) (j : ℕ) → v.members ≡ w.members
     → Makes [] (member w j) (member (after_came out v i f c came) j)
 makes_came out w v i f None came j e =
     ap (λ (ms : List Member). (get_or ms j no_member).machine) e ∙ makes_none (member w j)
@@ -134,34 +135,34 @@ makes_order : (w : World) (i : ℕ) (read : Result (ℕ × Command) ℕ) (j : �
 makes_order w i (Ok order) j = makes_command w w i order.1 j refl
 makes_order w i (Err code) j = makes_none (member w j)
 
-makes_publish : (out : Outside) (w : World) (i : ℕ) (o : Post) (j : ℕ) → j < length w.members
-    → Makes (only_at i j (published w.moment (drawn out w i))) (member w j) (member (after_publish out w i o) j)
+makes_publish : (out : Environment) (w : World) (i : ℕ) (o : Post) (j : ℕ) → j < length w.members
+    → Makes (only_at i j (published w.time (drawn out w i))) (member w j) (member (after_publish out w i o) j)
 unfolding after_kept
 makes_publish out w i o j l =
-    makes_set w i (publishes (drawn out w i) w.moment i o (member w i)) (published w.moment (drawn out w i)) j l refl
+    makes_set w i (publishes (drawn out w i) w.time i o (member w i)) (published w.time (drawn out w i)) j l refl
 
-makes_deliver : (out : Outside) (w : World) (i : ℕ) (told : List ℕ) (j : ℕ) → j < length w.members
-    → Makes (hears_of out w i j told) (member w j) (member (after_deliver out w i told) j)
+makes_deliver : (out : Environment) (w : World) (i : ℕ) (reported : List ℕ) (j : ℕ) → j < length w.members
+    → Makes (hears_of out w i j reported) (member w j) (member (after_deliver out w i reported) j)
 unfolding after_kept
-makes_deliver out w i told j l =
-    makes_set w i (learns (drawn out w i) w.moment told (member w i))
-    (heard w.moment told (member w i).known (drawn out w i)) j l refl
+makes_deliver out w i reported j l =
+    makes_set w i (learns (drawn out w i) w.time reported (member w i))
+    (heard w.time reported (member w i).known (drawn out w i)) j l refl
 
-makes_hear : (out : Outside) (w : World) (i : ℕ) (read : Option SyncInterest) (j : ℕ) → j < length w.members
+makes_hear : (out : Environment) (w : World) (i : ℕ) (read : Option SyncInterest) (j : ℕ) → j < length w.members
     → Makes (befalls_read out w i j read) (member w j) (member (after_hear out w i read) j)
 makes_hear out w i None j l = makes_none (member w j)
-makes_hear out w i (Some sync) j l = go (tells_too_much w i sync) where
+makes_hear out w i (Some sync) j l = go (reports_too_much w i sync) where
   go : (b : Bool)
       → Makes (cond b [] (hears_of out w i j sync.vector)) (member w j)
       (member (cond b w (after_deliver out w i sync.vector)) j)
   go true = makes_none (member w j)
   go false = makes_deliver out w i sync.vector j l
 
-makes_reset : (out : Outside) (w : World) (i : ℕ) (j : ℕ) (m : Member) → j < length w.members
-    → m.machine ≡ steady_kept w.moment (drawn out w i) (member w i).machine
-    → Makes (only_at i j (reset w.moment (drawn out w i))) (member w j) (get_or (set w.members i m) j no_member)
+makes_reset : (out : Environment) (w : World) (i : ℕ) (j : ℕ) (m : Member) → j < length w.members
+    → m.machine ≡ steady_kept w.time (drawn out w i) (member w i).machine
+    → Makes (only_at i j (reset w.time (drawn out w i))) (member w j) (get_or (set w.members i m) j no_member)
 unfolding after_kept
-makes_reset out w i j m l e = makes_set w i m (reset w.moment (drawn out w i)) j l e
+makes_reset out w i j m l e = makes_set w i m (reset w.time (drawn out w i)) j l e
 
 -- a member stays as it is, which is what befell its machine makes of it
 makes_same : (w : World) (i : ℕ) (e : Suppression.SyncEvent) (j : ℕ)
@@ -199,24 +200,24 @@ fired_early : (now : ℕ) (known : List ℕ) (draw : ℕ) (k : Keeper) → ltb n
 unfolding after_kept
 fired_early now known draw k e = ap (λ (b : Bool). cond b k (steady_kept now draw k)) e
 
-makes_fire : (out : Outside) (w : World) (i j : ℕ) → j < length w.members
-    → Makes (only_at i j (fired w.moment (member w i).known (drawn out w i))) (member w j)
+makes_fire : (out : Environment) (w : World) (i j : ℕ) → j < length w.members
+    → Makes (only_at i j (fired w.time (member w i).known (drawn out w i))) (member w j)
     (member (after_fire out w i (timer_at w i)) j)
 makes_fire out w i j l =
-    go (ltb w.moment (member w i).machine.deadline) refl (due_kept (member w i).known (member w i).machine.heard)
+    go (ltb w.time (member w i).machine.deadline) refl (due_kept (member w i).known (member w i).machine.heard)
     (due (member w i).known (member w i).machine.heard) where
-      go : (b : Bool) → ltb w.moment (member w i).machine.deadline ≡ b → (f : Fired) → IsDue f
-          → Makes (only_at i j (fired w.moment (member w i).known (drawn out w i))) (member w j)
+      go : (b : Bool) → ltb w.time (member w i).machine.deadline ≡ b → (f : Fired) → IsDue f
+          → Makes (only_at i j (fired w.time (member w i).known (drawn out w i))) (member w j)
           (member (after_fire out w i (cond b Early f)) j)
       go true e f d =
-          makes_same w i _ j (sym (fired_early w.moment (member w i).known (drawn out w i) (member w i).machine e))
+          makes_same w i _ j (sym (fired_early w.time (member w i).known (drawn out w i) (member w i).machine e))
       go false e Early d = absurd d
       go false e Quiet d =
-          makes_set w i _ _ j l (sym (fired_then w.moment (member w i).known (drawn out w i) (member w i).machine e))
+          makes_set w i _ _ j l (sym (fired_then w.time (member w i).known (drawn out w i) (member w i).machine e))
       go false e Send d =
-          makes_set w i _ _ j l (sym (fired_then w.moment (member w i).known (drawn out w i) (member w i).machine e))
+          makes_set w i _ _ j l (sym (fired_then w.time (member w i).known (drawn out w i) (member w i).machine e))
 
-makes_block : (out : Outside) (w : World) (i process : ℕ) (state : BlockState) (j : ℕ) → i < length w.members
+makes_block : (out : Environment) (w : World) (i process : ℕ) (state : BlockState) (j : ℕ) → i < length w.members
     → j < length w.members
     → Makes (befalls_block out w i j state) (member w j) (member (after_block out w i process state) j)
 makes_block out w i process Unknown j li l = makes_none (member w j)
@@ -230,15 +231,15 @@ makes_block out w i process (Whole p) j li l =
     makes_beside w.members i _ j refl ∙ none (member w j).machine in
     let same : drawn out v i ≡ drawn out w i = ap (λ (k : Keeper). out.draw i k.draws) here in
     makes_publish out v i (Offers (object_of p)) j (subst (λ (n : ℕ). j < n) (sym (length-set w.members i _)) l)
-    ∙ ap (λ (d : ℕ). after_all_kept (only_at i j (published w.moment d)) (member v j).machine) same
-    ∙ ap (λ (k : Keeper). after_all_kept (only_at i j (published w.moment (drawn out w i))) k) there
+    ∙ ap (λ (d : ℕ). after_all_kept (only_at i j (published w.time d)) (member v j).machine) same
+    ∙ ap (λ (k : Keeper). after_all_kept (only_at i j (published w.time (drawn out w i))) k) there
 
-makes_settle : (out : Outside) (w : World) (j : ℕ) → j < length w.members
-    → Makes (reset w.moment (drawn out w j) ∷ []) (member w j) (member (after_settle out w) j)
+makes_settle : (out : Environment) (w : World) (j : ℕ) → j < length w.members
+    → Makes (reset w.time (drawn out w j) ∷ []) (member w j) (member (after_settle out w) j)
 unfolding after_all_kept after_kept
 makes_settle out w j l = ap (λ (m : Member). m.machine) (member_settled out w j l)
 
-makes : (out : Outside) (w : World) (e : Event) (j : ℕ) → EventIsTaken out w e → j < length w.members
+makes : (out : Environment) (w : World) (e : Event) (j : ℕ) → EventIsTaken out w e → j < length w.members
     → Makes (befalls out w j e) (member w j) (member (after_event out w e) j)
 makes out w (Event.Publish i o) j h l = makes_publish out w i (Offers o) j l
 makes out w (Event.Withdraw i seq) j h l = makes_publish out w i (Withdraws seq) j l
@@ -269,7 +270,7 @@ makes out w Event.Traffic j h l = makes_none (member w j)
 
 -- ---- whole runs
 
-makes_all : (out : Outside) (es : List Event) (w : World) (j : ℕ) → EventsAreTaken out w es → IsSoundGroup w
+makes_all : (out : Environment) (es : List Event) (w : World) (j : ℕ) → EventsAreTaken out w es → IsSoundGroup w
     → j < length w.members → Makes (befall out w j es) (member w j) (member (after_events out w es) j)
 makes_all out [] w j h s l = makes_none (member w j)
 makes_all out (e ∷ es) w j h s l =
@@ -289,8 +290,8 @@ machines_follow_table out w s es n j first h l e =
       machine = same;
       timer =
           let last : World = after_events out w es in
-          ap (fires_kept last.moment (member last j).known) same
-          ∙ fires_same n last.moment (member last j).known (Suppression.after_sync_events (befall out w j es) first);
+          ap (fires_kept last.time (member last j).known) same
+          ∙ fires_same n last.time (member last j).known (Suppression.after_sync_events (befall out w j es) first);
     }
 
 pub machines_begin : MachinesBegin

@@ -4,7 +4,7 @@ use Rattle.std.proofs.Common.{length, get_or, refl, sym, ap, ◌∙◌, subst, a
 use Rattle.std.proofs.lemmas.List.{length-set}
 use Rattle.repo_plan.specs.declared.part.Part.{Part}
 use Rattle.sorted_lists.specs.SortedList.{contains}
-use Rattle.repo_plan.specs.Parts.{Pair, pair_cmp, pair_of, record_of, parent, parts_behind}
+use Rattle.repo_plan.specs.Parts.{Pair, pair_cmp, pair_of, record_of, parent, parts_after}
 use Rattle.repo_plan.specs.declared.shape.Shape.{Shape}
 use Rattle.repo_plan.specs.Plan.{is_wanted, is_claimed}
 use Rattle.repo_plan.proofs.Changes.{at_set, unclaimed_at}
@@ -15,11 +15,12 @@ use Rattle.group_model.specs.Publications.{Logs, last_of, count, shape_at}
 use Rattle.repo_process.specs.Processes.{Process}
 use Rattle.group_model.specs.Member.{Member, member_holds, plan_of}
 use Rattle.group_model.specs.Changes.{learns, member_with_claim}
-use Rattle.group_model.specs.Sound.{IsSoundMember, IsPublished, IsKnown, TellsNoMore, IsTrueVector, HeardTruly}
+use Rattle.group_model.specs.Sound.{IsSoundMember, IsPublished, IsKnown, ReportsNoMore, IsConsistentVector}
+use Rattle.group_model.specs.Sound.{HeardConsistently}
 use Rattle.group_model.specs.Sound.{IsHeldSoundly, IsHiddenSoundly}
 use Rattle.group_model.proofs.Plans.{IsWanted, wanted_parts, wanted_from}
 
-pub known_published : (ls : Logs) (v : List ℕ) (pair : Pair) → TellsNoMore ls v → IsKnown v pair → IsPublished ls pair
+pub known_published : (ls : Logs) (v : List ℕ) (pair : Pair) → ReportsNoMore ls v → IsKnown v pair → IsPublished ls pair
 known_published ls v pair t k = record {
   from_one = k.from_one;
   to_last = let h : get_or v pair.0 0 ≤ last_of ls pair.0 = t pair.0 in omega (arith, h, k.to_known);
@@ -40,19 +41,21 @@ pub record Grows (old new : Logs) : Type 0 where
 
 pub counts_grown : (old new : Logs) → Grows old new → (pair : Pair) → IsPublished old pair
     → count new pair ≡ count old pair
-counts_grown old new g pair p = ap parts_behind (g.shapes pair p)
+counts_grown old new g pair p = ap parts_after (g.shapes pair p)
 
-pub no_more_grown : (old new : Logs) (v : List ℕ) → Grows old new → TellsNoMore old v → TellsNoMore new v
+pub no_more_grown : (old new : Logs) (v : List ℕ) → Grows old new → ReportsNoMore old v → ReportsNoMore new v
 no_more_grown old new v g t p =
     let a : get_or v p 0 ≤ last_of old p = t p in
     let b : last_of old p ≤ last_of new p = g.last p in omega (arith, a, b)
 
-pub true_grown : (old new : Logs) (v : List ℕ) → Grows old new → IsTrueVector old v → IsTrueVector new v
-true_grown old new v g t = record { width = t.width ∙ sym g.width; no_more = no_more_grown old new v g t.no_more }
+pub consistent_grown : (old new : Logs) (v : List ℕ) → Grows old new → IsConsistentVector old v
+    → IsConsistentVector new v
+consistent_grown old new v g t = record { width = t.width ∙ sym g.width; no_more = no_more_grown old new v g t.no_more }
 
-heard_grown : (old new : Logs) (heard : Option (List ℕ)) → Grows old new → HeardTruly old heard → HeardTruly new heard
+heard_grown : (old new : Logs) (heard : Option (List ℕ)) → Grows old new → HeardConsistently old heard
+    → HeardConsistently new heard
 heard_grown old new None g h = tt
-heard_grown old new (Some v) g h = true_grown old new v g h
+heard_grown old new (Some v) g h = consistent_grown old new v g h
 
 -- ---- a wanted part stays wanted until it is held
 
@@ -69,7 +72,7 @@ wanted_kept ls more old new t k same h out =
     let w : IsWanted ls old t = wanted_parts ls old t h in
     wanted_from more new t (record {
       known = known_more old.known new.known (pair_of t) k.knows w.known;
-      counted = subst (λ (n : ℕ). t.part ≤ n) (sym (ap parts_behind same)) w.counted;
+      counted = subst (λ (n : ℕ). t.part ≤ n) (sym (ap parts_after same)) w.counted;
       with_record = elim w.with_record [
         | inl e ↦ inl e
         | inr r ↦ inr (record {
@@ -124,7 +127,7 @@ grown old new j m g own s = record {
 
 -- a change of the machine and of insertion processes alone
 pub with_machine : (ls : Logs) (j : ℕ) (m : Member) (machine : Keeper) (processes : List (ℕ × Process)) (next : ℕ)
-    → IsSoundMember ls j m → HeardTruly ls machine.heard
+    → IsSoundMember ls j m → HeardConsistently ls machine.heard
     → IsSoundMember ls j (record m { machine = machine; processes = processes; next_process = next })
 with_machine ls j m machine processes next s h = record {
   width = s.width;
@@ -148,7 +151,7 @@ with_machine ls j m machine processes next s h = record {
 
 -- ---- a member is told of a vector
 
-pub no_more_join : (ls : Logs) (v w : List ℕ) → TellsNoMore ls v → TellsNoMore ls w → TellsNoMore ls (join v w)
+pub no_more_join : (ls : Logs) (v w : List ℕ) → ReportsNoMore ls v → ReportsNoMore ls w → ReportsNoMore ls (join v w)
 no_more_join ls v w a b p =
     let x : get_or v p 0 ≤ last_of ls p = a p in
     let y : get_or w p 0 ≤ last_of ls p = b p in
@@ -157,30 +160,32 @@ no_more_join ls v w a b p =
 pub join_more : (v w : List ℕ) (p : ℕ) → get_or v p 0 ≤ get_or (join v w) p 0
 join_more v w p = let e : get_or (join v w) p 0 ≡ max (get_or v p 0) (get_or w p 0) = join-at v w p in omega (arith, e)
 
-pub true_join : (ls : Logs) (v w : List ℕ) → IsTrueVector ls v → IsTrueVector ls w → IsTrueVector ls (join v w)
-true_join ls v w a b = record {
+pub consistent_join : (ls : Logs) (v w : List ℕ) → IsConsistentVector ls v → IsConsistentVector ls w
+    → IsConsistentVector ls (join v w)
+consistent_join ls v w a b = record {
   width = length-join v w (a.width ∙ sym b.width) ∙ a.width;
   no_more = no_more_join ls v w a.no_more b.no_more;
 }
 
-heard_hears : (ls : Logs) (moment draw : ℕ) (told known : List ℕ) (k : Keeper) (heard : Option (List ℕ))
-    → IsTrueVector ls told → HeardTruly ls heard → HeardTruly ls (hears_kept moment told known draw k heard).heard
-heard_hears ls moment draw told known k None t h = go (covers told known) _ _ where
+heard_hears : (ls : Logs) (time draw : ℕ) (reported known : List ℕ) (k : Keeper) (heard : Option (List ℕ))
+    → IsConsistentVector ls reported → HeardConsistently ls heard
+    → HeardConsistently ls (hears_kept time reported known draw k heard).heard
+heard_hears ls time draw reported known k None t h = go (covers reported known) _ _ where
   go : (b : Bool) (deadline draws : ℕ)
-      → HeardTruly ls
-      (cond b (steady_kept moment draw k) (record k { heard = Some told; deadline = deadline; draws = draws })).heard
+      → HeardConsistently ls
+      (cond b (steady_kept time draw k) (record k { heard = Some reported; deadline = deadline; draws = draws })).heard
   go true deadline draws = tt
   go false deadline draws = t
-heard_hears ls moment draw told known k (Some v) t h = true_join ls v told h t
+heard_hears ls time draw reported known k (Some v) t h = consistent_join ls v reported h t
 
-pub sound_learns : (draw moment : ℕ) (ls : Logs) (j : ℕ) (told : List ℕ) (m : Member) → IsTrueVector ls told
-    → IsSoundMember ls j m → IsSoundMember ls j (learns draw moment told m)
-sound_learns draw moment ls j told m t s =
-    let new : Member = learns draw moment told m in
-    let more : (p : ℕ) → get_or m.known p 0 ≤ get_or (join m.known told) p 0 = join_more m.known told in
+pub sound_learns : (draw time : ℕ) (ls : Logs) (j : ℕ) (reported : List ℕ) (m : Member) → IsConsistentVector ls reported
+    → IsSoundMember ls j m → IsSoundMember ls j (learns draw time reported m)
+sound_learns draw time ls j reported m t s =
+    let new : Member = learns draw time reported m in
+    let more : (p : ℕ) → get_or m.known p 0 ≤ get_or (join m.known reported) p 0 = join_more m.known reported in
     let keeps : Keeps m new = record { knows = more; held = λ t h. h; hidden = refl } in
     record {
-      width = length-join m.known told (s.width ∙ sym t.width) ∙ s.width;
+      width = length-join m.known reported (s.width ∙ sym t.width) ∙ s.width;
       fetchers = s.fetchers;
       in_order = record {
         held = s.in_order.held;
@@ -188,14 +193,14 @@ sound_learns draw moment ls j told m t s =
         attempts = s.in_order.attempts;
         tried = s.in_order.tried;
       };
-      known = no_more_join ls m.known told s.known t.no_more;
+      known = no_more_join ls m.known reported s.known t.no_more;
       own =
           let a : get_or m.known j 0 ≡ last_of ls j = s.own in
-          let b : get_or told j 0 ≤ last_of ls j = t.no_more j in
-          let c : get_or (join m.known told) j 0 ≡ max (get_or m.known j 0) (get_or told j 0) =
-          join-at m.known told j in
+          let b : get_or reported j 0 ≤ last_of ls j = t.no_more j in
+          let c : get_or (join m.known reported) j 0 ≡ max (get_or m.known j 0) (get_or reported j 0) =
+          join-at m.known reported j in
           omega (arith, a, b, c);
-      heard = heard_hears ls moment draw told m.known m.machine m.machine.heard t s.heard;
+      heard = heard_hears ls time draw reported m.known m.machine m.machine.heard t s.heard;
       held = λ u h.
           let r : IsHeldSoundly ls m.known m.held u = s.held u h in
           record {

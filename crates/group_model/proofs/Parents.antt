@@ -3,7 +3,7 @@ use Rattle.std.proofs.Common.{◌≡◌, ℕ, ◌+◌, ◌-◌, ◌/◌, ◌≤�
 use Rattle.std.proofs.lemmas.Bool.{or_parts, leb-false, eqb-false}
 use Rattle.std.specs.Prelude.{nat_le, ◌==◌}
 use Rattle.repo_plan.specs.declared.part.Part.{Part}
-use Rattle.repo_plan.specs.Parts.{most_listed, index_packets, shape_of_segments, parts_behind, parent_number, parent}
+use Rattle.repo_plan.specs.Parts.{most_listed, index_packets, shape_of_segments, parts_after, parent_number, parent}
 use Rattle.repo_plan.specs.Parts.{pair_of, part_of}
 use Rattle.repo_plan.specs.declared.shape.Shape.{Shape}
 use Rattle.repo_plan.proofs.Parents.{by_record}
@@ -23,12 +23,12 @@ bounded index segments x e l some = go (nat_le segments most_listed) refl where
   go false h =
       let many : index ≡ (segments + 200 - 1) / 200 =
       e ∙ ap (λ (b : Bool). cond b 0 ((segments + most_listed - 1) / most_listed)) h in
-      let behind : 200 < segments = leb-false segments 200 h in omega (arith, many, l, behind)
+      let after : 200 < segments = leb-false segments 200 h in omega (arith, many, l, after)
 
 -- what lists a part is a record or an index packet
-parent_in_front : (segments x : ℕ) → x ≤ parts_behind (shape_of_segments segments)
+parent_before : (segments x : ℕ) → x ≤ parts_after (shape_of_segments segments)
     → parent_number (shape_of_segments segments) x ≤ index_packets segments
-parent_in_front segments x l = go (index_packets segments == 0 || nat_le x (index_packets segments)) refl where
+parent_before segments x l = go (index_packets segments == 0 || nat_le x (index_packets segments)) refl where
   go : (b : Bool) → (index_packets segments == 0 || nat_le x (index_packets segments)) ≡ b
       → cond b 0 (1 + (x - index_packets segments - 1) / most_listed) ≤ index_packets segments
   go true h = omega arith
@@ -37,14 +37,15 @@ parent_in_front segments x l = go (index_packets segments == 0 || nat_le x (inde
       (or_parts (index_packets segments == 0) (nat_le x (index_packets segments)) h).0
 
 -- and so one of the publication's parts
-pub parent_within : (segments x : ℕ) → x ≤ parts_behind (shape_of_segments segments)
-    → parent_number (shape_of_segments segments) x ≤ parts_behind (shape_of_segments segments)
+pub parent_within : (segments x : ℕ) → x ≤ parts_after (shape_of_segments segments)
+    → parent_number (shape_of_segments segments) x ≤ parts_after (shape_of_segments segments)
 parent_within segments x l =
-    let few : parent_number (shape_of_segments segments) x ≤ index_packets segments = parent_in_front segments x l in
+    let few : parent_number (shape_of_segments segments) x ≤ index_packets segments = parent_before segments x l in
     omega (arith, few)
 
 -- what lists a part is listed by the record
-pub parent_of_parent : (segments x : ℕ) → x ≤ parts_behind (shape_of_segments segments)
+pub parent_of_parent : (segments x : ℕ) → x ≤ parts_after (shape_of_segments segments)
     → parent_number (shape_of_segments segments) (parent_number (shape_of_segments segments) x) ≡ 0
 parent_of_parent segments x l =
-    by_record (shape_of_segments segments) (parent_number (shape_of_segments segments) x) (parent_in_front segments x l)
+    by_record (shape_of_segments segments) (parent_number (shape_of_segments segments) x)
+    (parent_before segments x l)

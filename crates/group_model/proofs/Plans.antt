@@ -13,7 +13,7 @@ use Rattle.repo_plan.specs.Plan.{is_wanted, shape_of, can_be_asked}
 use Rattle.repo_plan.proofs.Orders.{exact_parts, exact_pairs}
 use Rattle.sorted_lists.proofs.Sets.{eq_same}
 use Rattle.group_model.specs.Publications.{Logs, count, shape_at}
-use Rattle.group_model.specs.Member.{Member, member_holds, member_hides, told_by, plan_of}
+use Rattle.group_model.specs.Member.{Member, member_holds, member_hides, reported_by, plan_of}
 use Rattle.group_model.specs.Sound.{IsKnown}
 use Rattle.repo_plan.specs.Plan
 use Rattle.repo_plan.proofs.Changes
@@ -26,14 +26,14 @@ other_part pair t z =
     false_from_ne_true (eq_by_cmp part_cmp (part_of pair 0) t)
     (λ e. true≢false (ap (λ (u : Part). u.part == 0) (eq_same exact_parts (part_of pair 0) t e) ∙ z))
 
-pub told-at : (ls : Logs) (held : List Part) (pair : Pair)
-    → value_of pair_cmp (told_by ls held) pair
+pub reported-at : (ls : Logs) (held : List Part) (pair : Pair)
+    → value_of pair_cmp (reported_by ls held) pair
     ≡ cond (contains part_cmp held (part_of pair 0)) (Some (shape_at ls pair)) None
-told-at ls [] pair = refl
-told-at ls (t ∷ ts) pair = go (told-at ls ts pair) (t.part == 0) refl where
+reported-at ls [] pair = refl
+reported-at ls (t ∷ ts) pair = go (reported-at ls ts pair) (t.part == 0) refl where
   here : (b : Bool) → eq_by_cmp pair_cmp pair (pair_of t) ≡ b
-      → cond b (Some (shape_at ls (pair_of t))) (value_of pair_cmp (told_by ls ts) pair)
-      ≡ cond b (Some (shape_at ls pair)) (value_of pair_cmp (told_by ls ts) pair)
+      → cond b (Some (shape_at ls (pair_of t))) (value_of pair_cmp (reported_by ls ts) pair)
+      ≡ cond b (Some (shape_at ls pair)) (value_of pair_cmp (reported_by ls ts) pair)
   here true e = ap (λ (q : Pair). Some (shape_at ls q)) (sym (eq_same exact_pairs pair (pair_of t) e))
   here false e = refl
 
@@ -41,7 +41,7 @@ told-at ls (t ∷ ts) pair = go (told-at ls ts pair) (t.part == 0) refl where
   either true b x = refl
   either false b x = refl
 
-  go : value_of pair_cmp (told_by ls ts) pair
+  go : value_of pair_cmp (reported_by ls ts) pair
       ≡ cond (contains part_cmp ts (part_of pair 0)) (Some (shape_at ls pair)) None
       → (z : Bool) → (t.part == 0) ≡ z
       → value_of pair_cmp
@@ -94,9 +94,9 @@ wanted_parts ls m t h =
     × (can_be_asked m.held (shape_of (plan_of ls m) (pair_of t)) t ≡ true) =
     and_parts (Plan.knows (plan_of ls m) (pair_of t)) _ w.asked in
     let can : can_be_asked m.held (cond (member_holds m (record_of t)) (Some (shape_at ls (pair_of t))) None) t ≡ true =
-    subst (λ (s : Option Shape). can_be_asked m.held s t ≡ true) (told-at ls m.held (pair_of t)) asked.1 in
+    subst (λ (s : Option Shape). can_be_asked m.held s t ≡ true) (reported-at ls m.held (pair_of t)) asked.1 in
     let both : (t.part ≤ count ls (pair_of t)) × ((t.part ≡ 0) ⊎ IsListedIn ls m t) =
-    told (member_holds m (record_of t)) refl can in
+    reported (member_holds m (record_of t)) refl can in
     record {
       known = known_from m.known (pair_of t) asked.0;
       counted = both.0;
@@ -104,10 +104,10 @@ wanted_parts ls m t h =
       not_held = w.not_held;
       not_hidden = w.not_hidden;
     } where
-      told : (b : Bool) → member_holds m (record_of t) ≡ b
+      reported : (b : Bool) → member_holds m (record_of t) ≡ b
           → can_be_asked m.held (cond b (Some (shape_at ls (pair_of t))) None) t ≡ true
           → (t.part ≤ count ls (pair_of t)) × ((t.part ≡ 0) ⊎ IsListedIn ls m t)
-      told true e c = elim (or_cases (t.part == 0) _ c) [
+      reported true e c = elim (or_cases (t.part == 0) _ c) [
         | inl z ↦ let n : t.part ≡ 0 = eqb-true t.part 0 z in (omega (arith, n), inl n)
         | inr r ↦
             let both : (nat_le t.part (count ls (pair_of t)) ≡ true)
@@ -117,7 +117,7 @@ wanted_parts ls m t h =
               inr (record { with_record = e; with_parent = both.1 }),
             )
       ]
-      told false e c = let n : t.part ≡ 0 = eqb-true t.part 0 c in (omega (arith, n), inl n)
+      reported false e c = let n : t.part ≡ 0 = eqb-true t.part 0 c in (omega (arith, n), inl n)
 
 pub wanted_from : (ls : Logs) (m : Member) (t : Part) → IsWanted ls m t → is_wanted (plan_of ls m) t ≡ true
 wanted_from ls m t w =
@@ -126,7 +126,7 @@ wanted_from ls m t w =
     Changes.wanted_from (plan_of ls m) t (record {
       asked =
           and_from (Plan.knows (plan_of ls m) (pair_of t)) _ (knows_from m.known (pair_of t) w.known)
-          (subst (λ (s : Option Shape). can_be_asked m.held s t ≡ true) (sym (told-at ls m.held (pair_of t))) can);
+          (subst (λ (s : Option Shape). can_be_asked m.held s t ≡ true) (sym (reported-at ls m.held (pair_of t))) can);
       not_held = w.not_held;
       not_hidden = w.not_hidden;
     }) where

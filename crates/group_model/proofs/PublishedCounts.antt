@@ -4,7 +4,7 @@ use Rattle.std.proofs.Common.{length, get_or, set, refl, sym, ap, ◌∙◌, sub
 use Rattle.std.proofs.lemmas.List.{length-map, length-append, length_push}
 use Rattle.std.proofs.lemmas.List.Sums.{sum_by-le}
 use Rattle.std.proofs.lemmas.List.Concat.{length-flat_map}
-use Rattle.repo_plan.specs.Parts.{parts_behind}
+use Rattle.repo_plan.specs.Parts.{parts_after}
 use Rattle.sorted_lists.specs.Range.{numbers_from}
 use Rattle.sorted_lists.proofs.Sets.{In}
 use Rattle.sorted_lists.proofs.Ranges.{length-numbers}
@@ -86,9 +86,9 @@ few_parts_in w s h q i =
     let there = in_published (logs w) q i in
     let few : length (contents_of q.post) ≤ 20000 =
     subst HasFew (sym there.post) (h.segments q.publisher (q.seq - 1)) in
-    let size : length (parts_in q) ≡ parts_behind (shape_in q.post) + 1 =
-    length-map (numbers_from 0 (parts_behind (shape_in q.post) + 1)) _
-    ∙ length-numbers 0 (parts_behind (shape_in q.post) + 1) in
+    let size : length (parts_in q) ≡ parts_after (shape_in q.post) + 1 =
+    length-map (numbers_from 0 (parts_after (shape_in q.post) + 1)) _
+    ∙ length-numbers 0 (parts_after (shape_in q.post) + 1) in
     omega (arith, few, index_few (length (contents_of q.post)) few, size)
 
 all_few : (w : World) (s : ℕ) → IsWithinSteps s w → length (all_parts (logs w)) ≤ s * 20101

@@ -42,7 +42,7 @@ within_opening out n =
       machine = record { members = n; heard = None; deadline = periodic (out.draw j 0); draws = 1 };
     } in
     record {
-      moment = omega arith;
+      time = omega arith;
       sent = omega arith;
       published =
           let e : published (logs (opening_world out n)) ≡ [] = nothing_published 0 f (numbers_from 0 n) (λ x. refl) in

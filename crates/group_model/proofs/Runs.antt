@@ -13,11 +13,11 @@ use Rattle.group_model.specs.Publications.{Logs, last_of}
 use Rattle.group_model.specs.Member.{Member}
 use Rattle.group_model.specs.Changes.{learns}
 use Rattle.group_model.specs.Events.{Event}
-use Rattle.group_model.specs.World.{World, Outside, no_member, member, logs, logs_of, sent_at, opening_world}
+use Rattle.group_model.specs.World.{World, Environment, no_member, member, logs, logs_of, sent_at, opening_world}
 use Rattle.group_model.specs.Steps.{drawn, after_event, after_events, after_deliver}
 use Rattle.group_model.specs.Sound.{IsSoundGroup, IsSoundMember}
 use Rattle.group_model.specs.Reached.{InSoundGroups, InReachedGroups, BeginsSound}
-use Rattle.group_model.specs.Laws.{IsQuiet, AreQuiet, TellsInEvent, TellsInRun, JoinsWhereAllAreTold}
+use Rattle.group_model.specs.Laws.{IsQuiet, AreQuiet, ReportsInEvent, ReportsInRun, JoinsWhereAllAreInformed}
 use Rattle.group_model.proofs.Settles.{no_claim}
 use Rattle.group_model.proofs.OneMember.{joins_by_itself}
 use Rattle.group_model.specs.Refusals.{EventIsTaken, EventsAreTaken}
@@ -82,7 +82,7 @@ pub reached : InReachedGroups (λ out w. IsSoundGroup w)
 reached out n es h = sound_after_all out es (opening_world out n) h (sound_opening out n)
 
 -- what holds of every sound group holds of those that events can reach
-pub when_reached : (P : Outside → World → Type 0) → InSoundGroups P → InReachedGroups P
+pub when_reached : (P : Environment → World → Type 0) → InSoundGroups P → InReachedGroups P
 when_reached P law out n es h = law out (after_events out (opening_world out n) es) (reached out n es h)
 
 -- ---- what an event that publishes nothing leaves
@@ -96,7 +96,7 @@ record Goes (old new : World) : Type 0 where
   logs : logs new ≡ logs old
   known : (j p : ℕ) → j < length old.members → known_of old.members j p ≤ known_of new.members j p
 
-goes : (out : Outside) (w : World) (e : Event) → EventIsTaken out w e → IsSoundGroup w → IsQuiet w e
+goes : (out : Environment) (w : World) (e : Event) → EventIsTaken out w e → IsSoundGroup w → IsQuiet w e
     → Goes w (after_event out w e)
 goes out w e h s q =
     let g : GoesOn w (after_event out w e) (IsQuiet w e) = goes_on out w e h s in
@@ -106,7 +106,8 @@ goes out w e h s q =
       known = λ j p l. (g.last.members j l).known p;
     }
 
-goes_all : (out : Outside) (es : List Event) (w : World) → EventsAreTaken out w es → IsSoundGroup w → AreQuiet out w es
+goes_all : (out : Environment) (es : List Event) (w : World) → EventsAreTaken out w es → IsSoundGroup w
+    → AreQuiet out w es
     → Goes w (after_events out w es)
 goes_all out [] w h s q = record { width = refl; logs = refl; known = λ j p l. omega arith }
 goes_all out (e ∷ es) w h s q =
@@ -126,60 +127,63 @@ goes_all out (e ∷ es) w h s q =
 
 -- ---- who is told of what
 
-told_deliver : (out : Outside) (w : World) (i : ℕ) (told : List ℕ) (j p : ℕ) → j < length w.members → i ≡ j
-    → get_or told p 0 ≡ last_of (logs w) p → last_of (logs w) p ≤ known_of (after_deliver out w i told).members j p
-told_deliver out w i told j p l same e =
-    let m : Member = learns (drawn out w i) w.moment told (member w i) in
+reported_deliver : (out : Environment) (w : World) (i : ℕ) (reported : List ℕ) (j p : ℕ) → j < length w.members → i ≡ j
+    → get_or reported p 0 ≡ last_of (logs w) p → last_of (logs w) p
+    ≤ known_of (after_deliver out w i reported).members j p
+reported_deliver out w i reported j p l same e =
+    let m : Member = learns (drawn out w i) w.time reported (member w i) in
     let at : get_or (set w.members i m) j no_member ≡ m =
     ap (λ (n : ℕ). get_or (set w.members i m) n no_member) (sym same)
     ∙ get_or-set_same w.members i m no_member (subst (λ (n : ℕ). n < length w.members) (sym same) l) in
-    let joined : get_or (join (member w i).known told) p 0 ≡ max (get_or (member w i).known p 0) (get_or told p 0) =
-    join-at (member w i).known told p in
+    let joined : get_or (join (member w i).known reported) p 0
+    ≡ max (get_or (member w i).known p 0) (get_or reported p 0) =
+    join-at (member w i).known reported p in
     subst (λ (x : Member). last_of (logs w) p ≤ get_or x.known p 0) (sym at) (omega (arith, joined, e))
 
-told_now : (out : Outside) (w : World) (e : Event) (j p : ℕ) → j < length w.members → TellsInEvent w e j p
+reported_now : (out : Environment) (w : World) (e : Event) (j p : ℕ) → j < length w.members → ReportsInEvent w e j p
     → last_of (logs w) p ≤ known_of (after_event out w e).members j p
-told_now out w (Event.Deliver k i) j p l t = told_deliver out w i (sent_at w k).vector j p l t.0 t.1
-told_now out w (Event.Hear i (Some sync)) j p l t =
+reported_now out w (Event.Deliver k i) j p l t = reported_deliver out w i (sent_at w k).vector j p l t.0 t.1
+reported_now out w (Event.Hear i (Some sync)) j p l t =
     subst (λ (b : Bool). last_of (logs w) p ≤ known_of (cond b w (after_deliver out w i sync.vector)).members j p)
-    (sym t.1) (told_deliver out w i sync.vector j p l t.0 t.2)
-told_now out w _ j p l t = absurd t
+    (sym t.1) (reported_deliver out w i sync.vector j p l t.0 t.2)
+reported_now out w _ j p l t = absurd t
 
-told_in_the_end : (out : Outside) (es : List Event) (w : World) (j p : ℕ) → j < length w.members
-    → EventsAreTaken out w es → IsSoundGroup w → AreQuiet out w es → TellsInRun out w es j p
+reported_in_the_end : (out : Environment) (es : List Event) (w : World) (j p : ℕ) → j < length w.members
+    → EventsAreTaken out w es → IsSoundGroup w → AreQuiet out w es → ReportsInRun out w es j p
     → last_of (logs w) p ≤ known_of (after_events out w es).members j p
-told_in_the_end out [] w j p l h s q t = absurd t
-told_in_the_end out (e ∷ es) w j p l h s q (inl t) =
-    let a : last_of (logs w) p ≤ known_of (after_event out w e).members j p = told_now out w e j p l t in
+reported_in_the_end out [] w j p l h s q t = absurd t
+reported_in_the_end out (e ∷ es) w j p l h s q (inl t) =
+    let a : last_of (logs w) p ≤ known_of (after_event out w e).members j p = reported_now out w e j p l t in
     let b : known_of (after_event out w e).members j p
     ≤ known_of (after_events out (after_event out w e) es).members j p =
     (goes_all out es (after_event out w e) h.1 (sound_after out w e h.0 s) q.1).known j p
     (subst (λ (n : ℕ). j < n) (sym (goes out w e h.0 s q.0).width) l) in
     omega (arith, a, b)
-told_in_the_end out (e ∷ es) w j p l h s q (inr t) =
+reported_in_the_end out (e ∷ es) w j p l h s q (inr t) =
     let g : Goes w (after_event out w e) = goes out w e h.0 s q.0 in
     subst (λ (ls : Logs). last_of ls p ≤ known_of (after_events out (after_event out w e) es).members j p) g.logs
-    (told_in_the_end out es (after_event out w e) j p (subst (λ (n : ℕ). j < n) (sym g.width) l) h.1
+    (reported_in_the_end out es (after_event out w e) j p (subst (λ (n : ℕ). j < n) (sym g.width) l) h.1
     (sound_after out w e h.0 s) q.1 t)
 
 -- ---- where all are told of all
 
-pub told_of_all : InSoundGroups JoinsWhereAllAreTold
-told_of_all out w sound es k tells clear nothing =
+pub informed_of_all : InSoundGroups JoinsWhereAllAreInformed
+informed_of_all out w sound es k tells clear nothing =
     let last : World = after_events out w es in
     let s : IsSoundGroup last = sound_after_all out es w k sound in
     let g : Goes w last = goes_all out es w k sound tells.quiet in
-    let all_told : (j p : ℕ) → j < length last.members → p < length last.members
+    let all_reported : (j p : ℕ) → j < length last.members → p < length last.members
     → last_of (logs last) p ≤ known_of last.members j p =
     λ j p lj lp.
     elim (cases_eq p j) [
       | inl e ↦ let own : known_of last.members j j ≡ last_of (logs last) j = (s.members j lj).own in
           subst (λ (q : ℕ). last_of (logs last) q ≤ known_of last.members j q) (sym e) (omega (arith, own))
       | inr d ↦ subst (λ (ls : Logs). last_of ls p ≤ known_of last.members j p) (sym g.logs)
-          (told_in_the_end out es w j p (subst (λ (i : ℕ). j < i) g.width lj) k sound tells.quiet
-          (tells.told j p (subst (λ (i : ℕ). j < i) g.width lj) (subst (λ (i : ℕ). p < i) g.width lp) d))
+          (reported_in_the_end out es w j p (subst (λ (i : ℕ). j < i) g.width lj) k sound tells.quiet
+          (tells.reported j p (subst (λ (i : ℕ). j < i) g.width lj) (subst (λ (i : ℕ). p < i) g.width lp) d))
     ] in
     λ j l.
     joins_by_itself (logs last) (member last j)
-    (λ p lp. all_told j p l (subst (λ (n : ℕ). p < n) (length-map last.members (λ (m : Member). m.log)) lp)) (clear j l)
+    (λ p lp. all_reported j p l (subst (λ (n : ℕ). p < n) (length-map last.members (λ (m : Member). m.log)) lp))
+    (clear j l)
     (nothing j l)

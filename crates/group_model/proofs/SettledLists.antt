@@ -5,7 +5,7 @@ use Rattle.repo_plan.specs.declared.part.Part.{Part}
 use Rattle.repo_plan.specs.Parts.{Pair, part_of}
 use Rattle.group_model.specs.Publications.{Logs, count, last_of, all_parts, post_at}
 use Rattle.group_model.specs.Member.{Member, member_holds, member_hides}
-use Rattle.group_model.specs.World.{World, no_member, member, logs, someone_holds, Outside, opening_world}
+use Rattle.group_model.specs.World.{World, no_member, member, logs, someone_holds, Environment, opening_world}
 use Rattle.group_model.specs.Events.{Event}
 use Rattle.group_model.specs.Steps.{settled_vector, settled_member, comes_to, new_parts, after_settle, after_events}
 use Rattle.group_model.specs.Sound.{IsSoundGroup, IsPublished}
@@ -22,7 +22,8 @@ use Rattle.group_model.proofs.Lists.{from_filter, in_at}
 use Rattle.sorted_lists.proofs.Sets.{In}
 use Rattle.group_model.proofs.Parts.{publisher_within}
 use Rattle.group_model.proofs.Gains.{held_either}
-use Rattle.group_model.proofs.Settles.{someone, settles, comes, told_by, keeps_held, gets, logs_settled, length_settled}
+use Rattle.group_model.proofs.Settles.{someone, settles, comes, reported_by, keeps_held, gets, logs_settled}
+use Rattle.group_model.proofs.Settles.{length_settled}
 use Rattle.group_model.proofs.Settles.{member_settled}
 use Rattle.group_model.proofs.Catalogues.{lists_those}
 use Rattle.group_model.proofs.Among.{in_all_parts}
@@ -56,7 +57,7 @@ module _ (w : World) (s : IsSoundGroup w) (j : ℕ) (l : j < length w.members) (
       let publisher : pair.0 < length w.members = publisher_within w pair h in
       let own : get_or (member w pair.0).known pair.0 0 ≡ last_of (logs w) pair.0 = (s.members pair.0 publisher).own in
       let up : get_or (member w pair.0).known pair.0 0 ≤ get_or (settled_vector w) pair.0 0 =
-      told_by w s j l pair.0 pair.0 publisher in
+      reported_by w s j l pair.0 pair.0 publisher in
       omega (arith, own, up, h.to_last)
 
   comes_whole : IsHeldAmong w pair → member_hides old pair ≡ false → (x : ℕ) → x ≤ count (logs w) pair
@@ -66,7 +67,7 @@ module _ (w : World) (s : IsSoundGroup w) (j : ℕ) (l : j < length w.members) (
     | inr free ↦
         gets w s j l (part_of pair x)
         (in_all_parts (logs w) (part_of pair x) (record { there = h.published; counted = le })) (record {
-          told = known h.published;
+          reported = known h.published;
           not_hidden = clear;
           someones = h.parts x le;
           record_too = h.parts 0 (omega arith);
@@ -91,7 +92,7 @@ module _ (w : World) (s : IsSoundGroup w) (j : ℕ) (l : j < length w.members) (
         | inl was ↦ keeps_held w s j l t was
         | inr free ↦
             gets w s j l t (in_all_parts (logs w) t (record { there = there; counted = omega arith })) (record {
-              told = known there;
+              reported = known there;
               not_hidden = clear j l;
               someones = someone_has;
               record_too = someone_has;
@@ -143,7 +144,8 @@ no_object (Offers object) seq is h = true≢false (sym is)
 no_object (Withdraws withdrawn) seq is h = true≢false (sym h)
 
 -- each withdrawal comes to all
-withdrawal_comes : (out : Outside) (w : World) (s : IsSoundGroup w) (j : ℕ) → j < length w.members → OnlyObjectsHidden w
+withdrawal_comes : (out : Environment) (w : World) (s : IsSoundGroup w) (j : ℕ) → j < length w.members
+    → OnlyObjectsHidden w
     → (pair : Pair) (seq : ℕ) → IsPublished (logs w) pair → withdraws_number (post_at (logs w) pair) seq ≡ true
     → member_holds (member (after_settle out w) j) (part_of pair 0) ≡ true
 withdrawal_comes out w s j l only pair seq there is =

@@ -7,7 +7,7 @@ use Rattle.std.proofs.lemmas.List.{length-map, get_or-map}
 use Rattle.std.specs.Prelude.{nat_le}
 use Rattle.repo_plan.specs.declared.part.Part.{Part}
 use Rattle.sorted_lists.specs.SortedList.{contains}
-use Rattle.repo_plan.specs.Parts.{Pair, pair_cmp, pair_of, part_of, record_of, parent, parts_behind}
+use Rattle.repo_plan.specs.Parts.{Pair, pair_cmp, pair_of, part_of, record_of, parent, parts_after}
 use Rattle.repo_plan.specs.Plan.{no_claims}
 use Rattle.sorted_lists.proofs.Sets.{In, in_filter, in_flat_map, in_map, from_map}
 use Rattle.svs_vector.specs.Vectors.{join, join_all}
@@ -16,11 +16,11 @@ use Rattle.repo_object.specs.Objects.{Post, contents_of, shape_in}
 use Rattle.group_model.specs.Publications.{Logs, Publication, pair_in, parts_in, published, all_parts, published_entry}
 use Rattle.group_model.specs.Publications.{join_of, last_of, count, shape_at, post_at}
 use Rattle.group_model.specs.Member.{Member, member_holds, member_hides, holds_all, catalogue}
-use Rattle.group_model.specs.World.{Outside, World, no_member, member, logs, logs_of, someone_holds}
+use Rattle.group_model.specs.World.{Environment, World, no_member, member, logs, logs_of, someone_holds}
 use Rattle.group_model.specs.Steps.{settled_vector, settled_member, comes_to, new_parts, after_gathering, reset_each}
 use Rattle.group_model.specs.Steps.{after_settle}
 use Rattle.group_model.proofs.OneMember.{listed_whole}
-use Rattle.group_model.specs.Sound.{IsSoundGroup, IsSoundMember, IsPublishedPart, TellsNoMore}
+use Rattle.group_model.specs.Sound.{IsSoundGroup, IsSoundMember, IsPublishedPart, ReportsNoMore}
 use Rattle.group_model.proofs.Lists.{from_filter, all_in, in_at, at_in, rises_insert_keys}
 use Rattle.group_model.proofs.Parents.{parent_within}
 use Rattle.group_model.proofs.Among.{in_all_parts}
@@ -45,11 +45,11 @@ no_claim (suc n) (suc f) = no_claim n f
 
 -- ---- a member in a settle
 
-abbrev pub settles : Outside → World → ℕ → Member → Member
-settles out w j m = resets (out.draw j m.machine.draws) w.moment (settled_member w m)
+abbrev pub settles : Environment → World → ℕ → Member → Member
+settles out w j m = resets (out.draw j m.machine.draws) w.time (settled_member w m)
 
-abbrev pub settle_each : Outside → World → ℕ → List Member → List Member
-settle_each out w k ms = reset_each out w.moment k (map (settled_member w) ms)
+abbrev pub settle_each : Environment → World → ℕ → List Member → List Member
+settle_each out w k ms = reset_each out w.time k (map (settled_member w) ms)
 
 -- ---- the joined vector
 
@@ -90,7 +90,7 @@ length_join_all (w ∷ v ∷ ws) n u i each =
 
 -- a part that comes to a member, in parts
 pub record ComesTo (w : World) (m : Member) (t : Part) : Type 0 where
-  pub told : t.seq ≤ get_or (settled_vector w) t.publisher 0
+  pub reported : t.seq ≤ get_or (settled_vector w) t.publisher 0
   pub not_hidden : member_hides m (pair_of t) ≡ false
   pub someones : someone_holds w.members t ≡ true
   pub record_too : someone_holds w.members (record_of t) ≡ true
@@ -112,7 +112,7 @@ comes w m t h =
     let d : (someone_holds w.members (record_of t) ≡ true) × (not (member_holds m t) ≡ true) =
     and_parts (someone_holds w.members (record_of t)) _ c.1 in
     record {
-      told = leb-true t.seq _ a.0;
+      reported = leb-true t.seq _ a.0;
       not_hidden = not-true (member_hides m (pair_of t)) b.0;
       someones = c.0;
       record_too = d.0;
@@ -121,7 +121,7 @@ comes w m t h =
 
 pub comes_from : (w : World) (m : Member) (t : Part) → ComesTo w m t → comes_to w m t ≡ true
 comes_from w m t h =
-    and_from (nat_le t.seq (get_or (settled_vector w) t.publisher 0)) _ (le-leb t.seq _ h.told)
+    and_from (nat_le t.seq (get_or (settled_vector w) t.publisher 0)) _ (le-leb t.seq _ h.reported)
     (and_from (not (member_hides m (pair_of t))) _ (not_from_false (member_hides m (pair_of t)) h.not_hidden)
     (and_from (someone_holds w.members t) _ h.someones
     (and_from (someone_holds w.members (record_of t)) (not (member_holds m t)) h.record_too
@@ -154,12 +154,13 @@ module _ (w : World) (s : IsSoundGroup w) (j : ℕ) (within : j < length w.membe
   abbrev new : Member
   new = settled_member w old
 
-  pub told_by : (i : ℕ) (p : ℕ) → i < length w.members → get_or (member w i).known p 0 ≤ get_or (settled_vector w) p 0
-  told_by i p l =
+  pub reported_by : (i : ℕ) (p : ℕ) → i < length w.members → get_or (member w i).known p 0
+      ≤ get_or (settled_vector w) p 0
+  reported_by i p l =
       join_all_each (map (λ m. m.known) w.members) p (member w i).known
       (in_map (λ (m : Member). m.known) w.members (member w i) (in_at w.members i no_member l))
 
-  pub settled_no_more : TellsNoMore (logs w) (settled_vector w)
+  pub settled_no_more : ReportsNoMore (logs w) (settled_vector w)
   settled_no_more p = join_all_most (map (λ m. m.known) w.members) p (last_of (logs w) p) (λ u i.
       let r : (m : Member) × (In m w.members) × (u ≡ m.known) = from_map (λ (m : Member). m.known) w.members u i in
       let k : (k : ℕ) × (k < length w.members) × (r.0 ≡ get_or w.members k no_member) =
@@ -192,12 +193,12 @@ module _ (w : World) (s : IsSoundGroup w) (j : ℕ) (within : j < length w.membe
 
   gain : Gain (logs w) old new
   gain = record {
-    knows = λ p. told_by j p within;
+    knows = λ p. reported_by j p within;
     hidden = refl;
     held = keeps_held;
     known = λ t h o.
         let r : In t (all_parts (logs w)) × ComesTo w old t = came t h o in
-        record { from_one = (from_all_parts (logs w) t r.0).there.from_one; to_known = r.1.told };
+        record { from_one = (from_all_parts (logs w) t r.0).there.from_one; to_known = r.1.reported };
     counted = λ t h o. (from_all_parts (logs w) t (came t h o).0).counted;
     with_record = λ t h o.
         let r : In t (all_parts (logs w)) × ComesTo w old t = came t h o in
@@ -205,7 +206,7 @@ module _ (w : World) (s : IsSoundGroup w) (j : ℕ) (within : j < length w.membe
           | inl was ↦ keeps_held (record_of t) was
           | inr free ↦
               gets (record_of t) (record_among (logs w) t r.0) (record {
-                told = r.1.told;
+                reported = r.1.reported;
                 not_hidden = r.1.not_hidden;
                 someones = r.1.record_too;
                 record_too = r.1.record_too;
@@ -223,7 +224,7 @@ module _ (w : World) (s : IsSoundGroup w) (j : ℕ) (within : j < length w.membe
                 there = there.there;
                 counted = parent_within (length (contents_of (post_at (logs w) (pair_of t)))) t.part there.counted;
               })) (record {
-                told = r.1.told;
+                reported = r.1.reported;
                 not_hidden = r.1.not_hidden;
                 someones = someone_lists w s t r.1.someones;
                 record_too = r.1.record_too;
@@ -248,7 +249,7 @@ module _ (w : World) (s : IsSoundGroup w) (j : ℕ) (within : j < length w.membe
         known = settled_no_more;
         own =
             let a : get_or old.known j 0 ≡ last_of (logs w) j = m.own in
-            let b : get_or old.known j 0 ≤ get_or (settled_vector w) j 0 = told_by j j within in
+            let b : get_or old.known j 0 ≤ get_or (settled_vector w) j 0 = reported_by j j within in
             let c : get_or (settled_vector w) j 0 ≤ last_of (logs w) j = settled_no_more j in omega (arith, a, b, c);
         heard = m.heard;
         held = held_after (logs w) j old new gain m;
@@ -258,7 +259,7 @@ module _ (w : World) (s : IsSoundGroup w) (j : ℕ) (within : j < length w.membe
         apart = λ f g t a b. absurd (let n : get_or no_claims f None ≡ None = no_claim 16 f in cc);
       }
 
-  pub sound_settles : (out : Outside) → IsSoundMember (logs w) j (settles out w j old)
+  pub sound_settles : (out : Environment) → IsSoundMember (logs w) j (settles out w j old)
   sound_settles out =
       with_machine (logs w) j new (settles out w j old).machine old.processes old.next_process sound_gathered tt
 
@@ -279,19 +280,19 @@ module _ (w : World) (s : IsSoundGroup w) (j : ℕ) (within : j < length w.membe
       ] in
       all_in (member_holds new) (parts_in q) (λ t it.
       let p : IsPartOf t q = from_parts_in q t it in
-      let theirs_too : (x : ℕ) → x ≤ parts_behind (shape_in q.post)
+      let theirs_too : (x : ℕ) → x ≤ parts_after (shape_in q.post)
       → someone_holds w.members (part_of (pair_of t) x) ≡ true =
       λ x le.
       someone w.members (member w q.publisher) (part_of (pair_of t) x) (in_at w.members q.publisher no_member publisher)
       (subst (λ (pair : Pair). member_holds (member w q.publisher) (part_of pair x) ≡ true) (sym p.pair)
-      (held x (subst (λ (o : Post). x ≤ parts_behind (shape_in o)) there.post le))) in
+      (held x (subst (λ (o : Post). x ≤ parts_after (shape_in o)) there.post le))) in
       elim (cases_Bool (member_holds old t)) [
         | inl was ↦ keeps_held t was
         | inr free ↦ gets t (in_flat_map parts_in (published (logs w)) q t i it) (record {
-          told =
+          reported =
               let own : get_or (member w q.publisher).known q.publisher 0 ≡ last_of (logs w) q.publisher = theirs.own in
               let up : get_or (member w q.publisher).known q.publisher 0 ≤ get_or (settled_vector w) q.publisher 0 =
-              told_by q.publisher q.publisher publisher in
+              reported_by q.publisher q.publisher publisher in
               subst (λ (pair : Pair). pair.1 ≤ get_or (settled_vector w) pair.0 0) (sym p.pair)
               (omega (arith, own, up, there.there.to_last));
           not_hidden = ap (λ (xs : List Pair). contains pair_cmp xs (pair_of t)) (clear j within);
@@ -303,24 +304,24 @@ module _ (w : World) (s : IsSoundGroup w) (j : ℕ) (within : j < length w.membe
 
 -- ---- the world
 
-pub settled-at : (out : Outside) (w : World) (k i : ℕ) (ms : List Member) → i < length ms
+pub settled-at : (out : Environment) (w : World) (k i : ℕ) (ms : List Member) → i < length ms
     → get_or (settle_each out w k ms) i no_member ≡ settles out w (k + i) (get_or ms i no_member)
 settled-at out w k i [] l = absurd (omega arith)
 settled-at out w k zero (m ∷ ms) l = ap (λ (j : ℕ). settles out w j m) (omega arith)
 settled-at out w k (suc i) (m ∷ ms) l =
     settled-at out w (k + 1) i ms (omega arith) ∙ ap (λ (j : ℕ). settles out w j (get_or ms i no_member)) (omega arith)
 
-pub logs_settled : (out : Outside) (w : World) (k : ℕ) (ms : List Member)
+pub logs_settled : (out : Environment) (w : World) (k : ℕ) (ms : List Member)
     → logs_of (settle_each out w k ms) ≡ logs_of ms
 logs_settled out w k [] = refl
 logs_settled out w k (m ∷ ms) = ap (λ (ls : Logs). m.log ∷ ls) (logs_settled out w (k + 1) ms)
 
-pub length_settled : (out : Outside) (w : World) (k : ℕ) (ms : List Member)
+pub length_settled : (out : Environment) (w : World) (k : ℕ) (ms : List Member)
     → length (settle_each out w k ms) ≡ length ms
 length_settled out w k [] = refl
 length_settled out w k (m ∷ ms) = ap suc (length_settled out w (k + 1) ms)
 
-pub member_settled : (out : Outside) (w : World) (j : ℕ) → j < length w.members
+pub member_settled : (out : Environment) (w : World) (j : ℕ) → j < length w.members
     → member (after_settle out w) j ≡ settles out w j (member w j)
 member_settled out w j l = settled-at out w 0 j w.members l ∙ ap (λ (k : ℕ). settles out w k (member w j)) (omega arith)
 
@@ -328,7 +329,7 @@ pub logs_gathered : (w : World) (ms : List Member) → logs_of (map (settled_mem
 logs_gathered w [] = refl
 logs_gathered w (m ∷ ms) = ap (λ (ls : Logs). m.log ∷ ls) (logs_gathered w ms)
 
-pub member_gathered : (out : Outside) (w : World) (j : ℕ) → j < length w.members
+pub member_gathered : (out : Environment) (w : World) (j : ℕ) → j < length w.members
     → member (after_gathering out w) j ≡ settled_member w (member w j)
 member_gathered out w j l = get_or-map (settled_member w) w.members j no_member no_member l
 

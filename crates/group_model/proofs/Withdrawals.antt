@@ -13,7 +13,7 @@ use Rattle.svs_sync.specs.Suppression.{periodic}
 use Rattle.group_model.specs.Publications.{Logs, no_post, post_at, last_of, has_unwithdrawn}
 use Rattle.group_model.specs.Member.{Member}
 use Rattle.group_model.specs.Events.{Event}
-use Rattle.group_model.specs.World.{Outside, World, no_member, logs, logs_of, opening_world}
+use Rattle.group_model.specs.World.{Environment, World, no_member, logs, logs_of, opening_world}
 use Rattle.group_model.specs.Steps.{after_event, after_events}
 use Rattle.group_model.specs.Refusals.{EventsAreTaken}
 use Rattle.group_model.specs.Sound.{IsSoundGroup, IsPublished}
@@ -187,7 +187,7 @@ begins_rightly out n pair seq h is =
     nothing_published f (numbers_from 0 n) pair.0 (λ x. refl) in
     absurd (omega (arith, none, h.from_one, h.to_last))
 
-all_rightly : (out : Outside) (es : List Event) (w : World) → EventsAreTaken out w es → IsSoundGroup w
+all_rightly : (out : Environment) (es : List Event) (w : World) → EventsAreTaken out w es → IsSoundGroup w
     → AllWithdrawRightly (logs w) → AllWithdrawRightly (logs (after_events out w es))
 all_rightly out [] w h s right = right
 all_rightly out (e ∷ es) w h s right =

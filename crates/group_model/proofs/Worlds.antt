@@ -29,20 +29,21 @@ use Rattle.group_model.specs.Changes.{publishes, learns, resets, restarts, takes
 use Rattle.group_model.specs.Changes.{member_with_process, member_starts}
 use Rattle.group_model.specs.Events.{SyncInterest, Came, Event}
 use Rattle.group_model.specs.Events.Came.{Nothing, Its, Another}
-use Rattle.group_model.specs.World.{Tally, Issued, World, Outside, no_member, no_sync, member, with_member, logs}
+use Rattle.group_model.specs.World.{Tally, Issued, World, Environment, no_member, no_sync, member, with_member, logs}
 use Rattle.group_model.specs.World.{logs_of, sent_at}
-use Rattle.group_model.specs.Steps.{drawn, claim_at, open_at, to_claim, with_sync, timer_at, tells_too_much, came_from}
+use Rattle.group_model.specs.Steps.{drawn, claim_at, open_at, to_claim, with_sync, timer_at, reports_too_much}
+use Rattle.group_model.specs.Steps.{came_from}
 use Rattle.group_model.specs.Steps.{came_as, planned_parts, fetched_parts, fetches, attempts_for, attempt, can_start}
 use Rattle.group_model.specs.Steps.{block_at, with_process_at, settled_member, syncs_of, after_event, after_events}
 use Rattle.group_model.specs.Steps.{after_publish, after_deliver, after_hear, after_fire, after_reset, after_restart}
 use Rattle.group_model.specs.Steps.{after_claiming, after_part, after_came, after_settle, after_fetch, after_command}
 use Rattle.group_model.specs.Steps.{after_order, after_block, tried_once}
 use Rattle.group_model.specs.Refusals.{Refusal, EventIsTaken, EventsAreTaken, has_sent, unless, if_unsent}
-use Rattle.group_model.specs.Sound.{IsSoundGroup, IsSoundMember, IsTrueVector}
+use Rattle.group_model.specs.Sound.{IsSoundGroup, IsSoundMember, IsConsistentVector}
 use Rattle.group_model.specs.Reached.{InSoundGroups}
 use Rattle.group_model.specs.Settles.{GatheringStaysSound}
 use Rattle.group_model.proofs.Lists.{from_filter, in_first, in_take}
-use Rattle.group_model.proofs.Members.{grown, true_grown, with_machine, sound_learns, sound_claims, sound_loses}
+use Rattle.group_model.proofs.Members.{grown, consistent_grown, with_machine, sound_learns, sound_claims, sound_loses}
 use Rattle.group_model.proofs.Gains.{Publishes, sound_takes, sound_gains, sound_publishes, rises_each_tried, each_tried}
 use Rattle.group_model.proofs.Deletions.{sound_deletes, same_log_hides}
 use Rattle.group_model.proofs.Settles.{settle_each, sound_gathered, sound_settles, logs_settled, logs_gathered}
@@ -59,8 +60,8 @@ same_logs (x ∷ xs) (suc j) m e = ap (λ (ls : Logs). x.log ∷ ls) (same_logs 
 abbrev Members : Logs → List Member → Type 0
 Members ls ms = (j : ℕ) → j < length ms → IsSoundMember ls j (get_or ms j no_member)
 
-abbrev SentTruly : Logs → List SyncInterest → Type 0
-SentTruly ls sent = (k : ℕ) → k < length sent → IsTrueVector ls (get_or sent k no_sync).vector
+abbrev SentConsistently : Logs → List SyncInterest → Type 0
+SentConsistently ls sent = (k : ℕ) → k < length sent → IsConsistentVector ls (get_or sent k no_sync).vector
 
 members_set : (ls : Logs) (ms : List Member) (j : ℕ) (m : Member) → Members ls ms → IsSoundMember ls j m
     → Members ls (set ms j m)
@@ -77,41 +78,42 @@ members_set ls ms j m s new i l =
 
 pub sound_set : (w : World) (j : ℕ) (m : Member) (now : ℕ) (issued : List Issued) (tally : Tally)
     → m.log ≡ (member w j).log → IsSoundMember (logs w) j m → IsSoundGroup w
-    → IsSoundGroup (record { members = set w.members j m; sent = w.sent; moment = now; issued = issued; tally = tally })
+    → IsSoundGroup (record { members = set w.members j m; sent = w.sent; time = now; issued = issued; tally = tally })
 sound_set w j m now issued tally e new s =
     let same : logs_of (set w.members j m) ≡ logs w = same_logs w.members j m e in
     record {
       members =
           subst (λ (ls : Logs). Members ls (set w.members j m)) (sym same)
           (members_set (logs w) w.members j m s.members new);
-      sent = subst (λ (ls : Logs). SentTruly ls w.sent) (sym same) s.sent;
+      sent = subst (λ (ls : Logs). SentConsistently ls w.sent) (sym same) s.sent;
     }
 
 -- the same members, after the same was sent
 pub sound_same : (w : World) (now : ℕ) (issued : List Issued) (tally : Tally) → IsSoundGroup w
-    → IsSoundGroup (record { members = w.members; sent = w.sent; moment = now; issued = issued; tally = tally })
+    → IsSoundGroup (record { members = w.members; sent = w.sent; time = now; issued = issued; tally = tally })
 sound_same w now issued tally s = record { members = s.members; sent = s.sent }
 
-sent_more : (ls : Logs) (sent : List SyncInterest) (x : SyncInterest) → SentTruly ls sent → IsTrueVector ls x.vector
-    → SentTruly ls (sent ++ x ∷ [])
+sent_more : (ls : Logs) (sent : List SyncInterest) (x : SyncInterest) → SentConsistently ls sent
+    → IsConsistentVector ls x.vector
+    → SentConsistently ls (sent ++ x ∷ [])
 sent_more ls sent x s new k l = elim (cases_lt k (length sent)) [
   | inl h ↦
-      subst (λ (y : SyncInterest). IsTrueVector ls y.vector) (sym (get_or_append_left sent (x ∷ []) no_sync k h))
+      subst (λ (y : SyncInterest). IsConsistentVector ls y.vector) (sym (get_or_append_left sent (x ∷ []) no_sync k h))
       (s k h)
   | inr h ↦
       let e : length sent ≡ k = omega (arith, l, h, length_push sent x) in
-      subst (λ (y : SyncInterest). IsTrueVector ls y.vector) (sym (get_or_push sent x no_sync k e)) new
+      subst (λ (y : SyncInterest). IsConsistentVector ls y.vector) (sym (get_or_push sent x no_sync k e)) new
 ]
 
-pub true_vector : (ls : Logs) (j : ℕ) (m : Member) → IsSoundMember ls j m → IsTrueVector ls m.known
-true_vector ls j m s = record { width = s.width; no_more = s.known }
+pub consistent_vector : (ls : Logs) (j : ℕ) (m : Member) → IsSoundMember ls j m → IsConsistentVector ls m.known
+consistent_vector ls j m s = record { width = s.width; no_more = s.known }
 
 sound_sync : (w : World) (j : ℕ) → j < length w.members → IsSoundGroup w → IsSoundGroup (with_sync w j)
 sound_sync w j l s = record {
   members = s.members;
   sent =
       sent_more (logs w) w.sent (record { sender = j; vector = (member w j).known }) s.sent
-      (true_vector (logs w) j (member w j) (s.members j l));
+      (consistent_vector (logs w) j (member w j) (s.members j l));
 }
 
 -- ---- a publication
@@ -178,16 +180,16 @@ publishes_one ms j m o e l =
       shape = ap shape_in (post_new ms j m o e l);
     }
 
-pub sound_publish : (out : Outside) (w : World) (j : ℕ) (o : Post) → j < length w.members → IsSoundGroup w
+pub sound_publish : (out : Environment) (w : World) (j : ℕ) (o : Post) → j < length w.members → IsSoundGroup w
     → IsSoundGroup (after_publish out w j o)
 sound_publish out w j o l s =
-    let m : Member = publishes (drawn out w j) w.moment j o (member w j) in
+    let m : Member = publishes (drawn out w j) w.time j o (member w j) in
     let p : Publishes (logs w) (logs_of (set w.members j m)) j o = publishes_one w.members j m o refl l in
     let log : length (member w j).log ≡ last_of (logs w) j =
     sym (ap length (get_or-map (λ (x : Member). x.log) w.members j no_member [] l)) in
     let wide : j < length (logs w) = subst (λ (n : ℕ). j < n) (sym (length-map w.members (λ (x : Member). x.log))) l in
     let new : IsSoundMember (logs_of (set w.members j m)) j m =
-    sound_publishes (drawn out w j) w.moment (logs w) (logs_of (set w.members j m)) j o (member w j) wide log p
+    sound_publishes (drawn out w j) w.time (logs w) (logs_of (set w.members j m)) j o (member w j) wide log p
     (s.members j l) in
     let others : Members (logs_of (set w.members j m)) (set w.members j m) = λ i li.
     elim (cases_eq i j) [
@@ -206,7 +208,8 @@ sound_publish out w j o l s =
       members = others;
       sent =
           λ k lk.
-          true_grown (logs w) (logs_of (set w.members j m)) (get_or w.sent k no_sync).vector p.grows (s.sent k lk);
+          consistent_grown (logs w) (logs_of (set w.members j m)) (get_or w.sent k no_sync).vector p.grows
+          (s.sent k lk);
     })
 
 -- ---- claims and what comes for them
@@ -225,16 +228,16 @@ sound_claim : (w : World) (j f : ℕ) (claim : Option Part) → to_claim w j ≡
 sound_claim w j f None e l s = s
 sound_claim w j f (Some t) e l s =
     let r = open_wanted w j t (in_first (open_at w j) t e) in
-    sound_set w j (member_with_claim f (Some t) (member w j)) w.moment w.issued w.tally refl
+    sound_set w j (member_with_claim f (Some t) (member w j)) w.time w.issued w.tally refl
     (sound_claims (logs w) j f t (member w j) r.0 r.1 (s.members j l)) s
 
-sound_part : (out : Outside) (w : World) (j f : ℕ) (t : Part) → claim_at w j f ≡ Some t → j < length w.members
+sound_part : (out : Environment) (w : World) (j f : ℕ) (t : Part) → claim_at w j f ≡ Some t → j < length w.members
     → IsSoundGroup w → IsSoundGroup (after_part out w j f t)
 sound_part out w j f t e l s =
-    sound_set w j (takes f t (member w j)) w.moment w.issued _ refl
+    sound_set w j (takes f t (member w j)) w.time w.issued _ refl
     (sound_takes (logs w) j f t (member w j) e (s.members j l)) s
 
-sound_came : (out : Outside) (w : World) (j f : ℕ) (claim : Option Part) (came : Came) → claim_at w j f ≡ claim
+sound_came : (out : Environment) (w : World) (j f : ℕ) (claim : Option Part) (came : Came) → claim_at w j f ≡ claim
     → j < length w.members → IsSoundGroup w → IsSoundGroup (after_came out w j f claim came)
 sound_came out w j f None came e l s = s
 sound_came out w j f (Some t) Nothing e l s = s
@@ -243,15 +246,15 @@ sound_came out w j f (Some t) Another e l s = sound_part out w j f t e l s
 
 -- ---- sync
 
-sound_reset : (out : Outside) (w : World) (j : ℕ) → j < length w.members → IsSoundGroup w
+sound_reset : (out : Environment) (w : World) (j : ℕ) → j < length w.members → IsSoundGroup w
     → IsSoundGroup (after_reset out w j)
 sound_reset out w j l s =
     let m : Member = member w j in
-    sound_set w j (resets (drawn out w j) w.moment m) w.moment w.issued w.tally refl
-    (with_machine (logs w) j m (steady_kept w.moment (drawn out w j) m.machine) m.processes m.next_process
+    sound_set w j (resets (drawn out w j) w.time m) w.time w.issued w.tally refl
+    (with_machine (logs w) j m (steady_kept w.time (drawn out w j) m.machine) m.processes m.next_process
     (s.members j l) tt) s
 
-sound_fire : (out : Outside) (w : World) (j : ℕ) (f : Fired) → j < length w.members → IsSoundGroup w
+sound_fire : (out : Environment) (w : World) (j : ℕ) (f : Fired) → j < length w.members → IsSoundGroup w
     → IsSoundGroup (after_fire out w j f)
 sound_fire out w j Early l s = s
 sound_fire out w j Quiet l s = sound_reset out w j l s
@@ -259,17 +262,18 @@ sound_fire out w j Send l s =
     sound_sync (after_reset out w j) j (subst (λ (n : ℕ). j < n) (sym (length-set w.members j _)) l)
     (sound_reset out w j l s)
 
-sound_deliver : (out : Outside) (w : World) (j : ℕ) (told : List ℕ) → IsTrueVector (logs w) told → j < length w.members
-    → IsSoundGroup w → IsSoundGroup (after_deliver out w j told)
-sound_deliver out w j told t l s =
-    sound_set w j (learns (drawn out w j) w.moment told (member w j)) w.moment w.issued _ refl
-    (sound_learns (drawn out w j) w.moment (logs w) j told (member w j) t (s.members j l)) s
+sound_deliver : (out : Environment) (w : World) (j : ℕ) (reported : List ℕ) → IsConsistentVector (logs w) reported → j
+    < length w.members
+    → IsSoundGroup w → IsSoundGroup (after_deliver out w j reported)
+sound_deliver out w j reported t l s =
+    sound_set w j (learns (drawn out w j) w.time reported (member w j)) w.time w.issued _ refl
+    (sound_learns (drawn out w j) w.time (logs w) j reported (member w j) t (s.members j l)) s
 
-sound_restart : (out : Outside) (w : World) (j : ℕ) → j < length w.members → IsSoundGroup w
+sound_restart : (out : Environment) (w : World) (j : ℕ) → j < length w.members → IsSoundGroup w
     → IsSoundGroup (after_restart out w j)
 sound_restart out w j l s =
     let r : IsSoundMember (logs w) j (member w j) = s.members j l in
-    sound_set w j (restarts (drawn out w j) w.moment (member w j)) w.moment w.issued w.tally refl (record {
+    sound_set w j (restarts (drawn out w j) w.time (member w j)) w.time w.issued w.tally refl (record {
       width = r.width;
       fetchers = refl;
       in_order = record {
@@ -288,52 +292,54 @@ sound_restart out w j l s =
       apart = λ f g t a b. absurd (let n : get_or no_claims f None ≡ None = no_claim 16 f in cc);
     }) s
 
--- a vector that was sent is a true one
-sent_true : (ls : Logs) (sent : List SyncInterest) (sync : SyncInterest) → SentTruly ls sent
+-- a vector that was sent is a consistent one
+sent_consistent : (ls : Logs) (sent : List SyncInterest) (sync : SyncInterest) → SentConsistently ls sent
     → list_any (λ (s : SyncInterest). s.sender == sync.sender && bytes_eq s.vector sync.vector) sent ≡ true
-    → IsTrueVector ls sync.vector
-sent_true ls [] sync t h = absurd (true≢false (sym h))
-sent_true ls (x ∷ xs) sync t h = elim (or_cases (x.sender == sync.sender && bytes_eq x.vector sync.vector) _ h) [
+    → IsConsistentVector ls sync.vector
+sent_consistent ls [] sync t h = absurd (true≢false (sym h))
+sent_consistent ls (x ∷ xs) sync t h = elim (or_cases (x.sender == sync.sender && bytes_eq x.vector sync.vector) _ h) [
   | inl e ↦
       let both : ((x.sender == sync.sender) ≡ true) × (bytes_eq x.vector sync.vector ≡ true) =
       and_parts (x.sender == sync.sender) _ e in
-      subst (IsTrueVector ls) ((bytes_eq-Decides x.vector sync.vector).0 both.1) (t 0 (omega arith))
-  | inr r ↦ sent_true ls xs sync (λ k l. t (suc k) (omega (arith, l))) r
+      subst (IsConsistentVector ls) ((bytes_eq-Decides x.vector sync.vector).0 both.1) (t 0 (omega arith))
+  | inr r ↦ sent_consistent ls xs sync (λ k l. t (suc k) (omega (arith, l))) r
 ]
 
 held_unless : (b : Bool) (r : Refusal) → unless b r ≡ None → b ≡ true
 held_unless true r e = refl
 held_unless false r e = absurd cc
 
-sound_hear : (out : Outside) (w : World) (j : ℕ) (read : Option SyncInterest) → if_unsent w j read ≡ None
+sound_hear : (out : Environment) (w : World) (j : ℕ) (read : Option SyncInterest) → if_unsent w j read ≡ None
     → j < length w.members → IsSoundGroup w → IsSoundGroup (after_hear out w j read)
 sound_hear out w j None e l s = s
-sound_hear out w j (Some sync) e l s = go (tells_too_much w j sync) e where
+sound_hear out w j (Some sync) e l s = go (reports_too_much w j sync) e where
   go : (b : Bool) → cond b None (unless (has_sent w sync) Refusal.Foreign) ≡ None
       → IsSoundGroup (cond b w (after_deliver out w j sync.vector))
   go true e = s
   go false e =
       sound_deliver out w j sync.vector
-      (sent_true (logs w) w.sent sync s.sent (held_unless (has_sent w sync) Refusal.Foreign e)) l s
+      (sent_consistent (logs w) w.sent sync s.sent (held_unless (has_sent w sync) Refusal.Foreign e)) l s
 
 -- ---- a settle and a fetch
 
-sent_all : (ls : Logs) (sent more : List SyncInterest) → SentTruly ls sent → SentTruly ls more
-    → SentTruly ls (sent ++ more)
+sent_all : (ls : Logs) (sent more : List SyncInterest) → SentConsistently ls sent → SentConsistently ls more
+    → SentConsistently ls (sent ++ more)
 sent_all ls [] more a b k l = b k l
 sent_all ls (x ∷ xs) more a b zero l = a zero (omega arith)
 sent_all ls (x ∷ xs) more a b (suc k) l = sent_all ls xs more (λ i h. a (suc i) (omega arith)) b k (omega arith)
 
-syncs_true : (ls : Logs) (k : ℕ) (ms : List Member)
-    → ((i : ℕ) → i < length ms → IsTrueVector ls (get_or ms i no_member).known) → SentTruly ls (syncs_of k ms)
-syncs_true ls k [] each i l = absurd (omega arith)
-syncs_true ls k (m ∷ ms) each zero l = each zero (omega arith)
-syncs_true ls k (m ∷ ms) each (suc i) l = syncs_true ls (k + 1) ms (λ h e. each (suc h) (omega arith)) i (omega arith)
+syncs_consistent : (ls : Logs) (k : ℕ) (ms : List Member)
+    → ((i : ℕ) → i < length ms → IsConsistentVector ls (get_or ms i no_member).known)
+    → SentConsistently ls (syncs_of k ms)
+syncs_consistent ls k [] each i l = absurd (omega arith)
+syncs_consistent ls k (m ∷ ms) each zero l = each zero (omega arith)
+syncs_consistent ls k (m ∷ ms) each (suc i) l = syncs_consistent ls (k + 1) ms (λ h e. each (suc h) (omega arith)) i
+    (omega arith)
 
-sent_settled : (w : World) → IsSoundGroup w → SentTruly (logs w) (w.sent ++ syncs_of 0 w.members)
+sent_settled : (w : World) → IsSoundGroup w → SentConsistently (logs w) (w.sent ++ syncs_of 0 w.members)
 sent_settled w s =
     sent_all (logs w) w.sent (syncs_of 0 w.members) s.sent
-    (syncs_true (logs w) 0 w.members (λ i l. true_vector (logs w) i (member w i) (s.members i l)))
+    (syncs_consistent (logs w) 0 w.members (λ i l. consistent_vector (logs w) i (member w i) (s.members i l)))
 
 pub gathering_sound : InSoundGroups GatheringStaysSound
 gathering_sound out w s = record {
@@ -343,24 +349,24 @@ gathering_sound out w s = record {
       subst (λ (m : Member). IsSoundMember (logs w) j m) (sym (member_gathered out w j within))
       (sound_gathered w s j within));
   sent =
-      subst (λ (ls : Logs). SentTruly ls (w.sent ++ syncs_of 0 w.members)) (sym (logs_gathered w w.members))
+      subst (λ (ls : Logs). SentConsistently ls (w.sent ++ syncs_of 0 w.members)) (sym (logs_gathered w w.members))
       (sent_settled w s);
 }
 
-sound_settle : (out : Outside) (w : World) → IsSoundGroup w → IsSoundGroup (after_settle out w)
+sound_settle : (out : Environment) (w : World) → IsSoundGroup w → IsSoundGroup (after_settle out w)
 sound_settle out w s =
     let same : logs_of (settle_each out w 0 w.members) ≡ logs w = logs_settled out w 0 w.members in
     let each : Members (logs w) (settle_each out w 0 w.members) = λ j l.
     let within : j < length w.members = subst (λ (n : ℕ). j < n) (length_settled out w 0 w.members) l in
     subst (λ (m : Member). IsSoundMember (logs w) j m) (sym (member_settled out w j within))
     (sound_settles w s j within out) in
-    let sent : SentTruly (logs w) (w.sent ++ syncs_of 0 w.members) = sent_settled w s in
+    let sent : SentConsistently (logs w) (w.sent ++ syncs_of 0 w.members) = sent_settled w s in
     record {
       members = subst (λ (ls : Logs). Members ls (settle_each out w 0 w.members)) (sym same) each;
-      sent = subst (λ (ls : Logs). SentTruly ls (w.sent ++ syncs_of 0 w.members)) (sym same) sent;
+      sent = subst (λ (ls : Logs). SentConsistently ls (w.sent ++ syncs_of 0 w.members)) (sym same) sent;
     }
 
-sound_fetch : (out : Outside) (w : World) (j tries loss : ℕ) → j < length w.members → IsSoundGroup w
+sound_fetch : (out : Environment) (w : World) (j tries loss : ℕ) → j < length w.members → IsSoundGroup w
     → IsSoundGroup (after_fetch out w j tries loss)
 sound_fetch out w j tries loss l s =
     let m : Member = member w j in
@@ -373,7 +379,7 @@ sound_fetch out w j tries loss l s =
     let a : In t (planned_parts w j) × (is_some (attempt out w j tries loss t) ≡ true) =
     from_filter (λ u. is_some (attempt out w j tries loss u)) (planned_parts w j) t i in
     open_wanted w j t (in_take 4096 (open_at w j) t a.0) in
-    sound_set w j (fetches out w j tries loss m) w.moment w.issued _ refl
+    sound_set w j (fetches out w j tries loss m) w.time w.issued _ refl
     (sound_gains (logs w) j ts (with_each_tried more (planned_parts w j) m.attempts) m (λ t i. (was t i).0)
     (λ t i. (was t i).1)
     (rises_each_tried more (planned_parts w j) m.attempts r.in_order.attempts)
@@ -386,12 +392,12 @@ sound_command : (w : World) (j : ℕ) (command : Command) → j < length w.membe
 sound_command w j (Insert name first last) l s = go (can_start (member w j)) where
   go : (b : Bool) → IsSoundGroup (cond b (with_member w j (member_starts name first last (member w j))) w)
   go true =
-      sound_set w j (member_starts name first last (member w j)) w.moment w.issued w.tally refl
+      sound_set w j (member_starts name first last (member w j)) w.time w.issued w.tally refl
       (with_machine (logs w) j (member w j) (member w j).machine _ _ (s.members j l) (s.members j l).heard) s
   go false = s
 sound_command w j (Check process) l s = s
 sound_command w j (Delete name) l s =
-    sound_set w j (member_hides_all (catalogued_under (logs w) (member w j) name) (member w j)) w.moment w.issued
+    sound_set w j (member_hides_all (catalogued_under (logs w) (member w j) name) (member w j)) w.time w.issued
     w.tally (same_log_hides (catalogued_under (logs w) (member w j) name) (member w j))
     (sound_deletes (logs w) j name (member w j) (s.members j l)) s
 
@@ -403,10 +409,11 @@ sound_order w j (Err code) l s = s
 pub sound_process : (w : World) (j number : ℕ) (p : Process) → j < length w.members → IsSoundGroup w
     → IsSoundGroup (with_process_at w j number p)
 sound_process w j number p l s =
-    sound_set w j (member_with_process number p (member w j)) w.moment w.issued w.tally refl
+    sound_set w j (member_with_process number p (member w j)) w.time w.issued w.tally refl
     (with_machine (logs w) j (member w j) (member w j).machine _ _ (s.members j l) (s.members j l).heard) s
 
-sound_block : (out : Outside) (w : World) (j process : ℕ) (state : BlockState) → j < length w.members → IsSoundGroup w
+sound_block : (out : Environment) (w : World) (j process : ℕ) (state : BlockState) → j < length w.members
+    → IsSoundGroup w
     → IsSoundGroup (after_block out w j process state)
 sound_block out w j process Unknown l s = s
 sound_block out w j process Already l s = s
@@ -424,7 +431,7 @@ sent_within w k e =
     and_parts (nat_le 1 k) (nat_le k (length w.sent)) (held_unless _ _ e) in
     (leb-true 1 k r.0, leb-true k (length w.sent) r.1)
 
-pub sound_after : (out : Outside) (w : World) (e : Event) → EventIsTaken out w e → IsSoundGroup w
+pub sound_after : (out : Environment) (w : World) (e : Event) → EventIsTaken out w e → IsSoundGroup w
     → IsSoundGroup (after_event out w e)
 sound_after out w (Event.Publish j o) h s = sound_publish out w j (Offers o) h.named s
 sound_after out w (Event.Withdraw j seq) h s = sound_publish out w j (Withdraws seq) h.named s
@@ -432,18 +439,18 @@ sound_after out w (Event.Deliver k j) h s =
     let b : (1 ≤ k) × (k ≤ length w.sent) = sent_within w k h.taken in
     sound_deliver out w j (sent_at w k).vector (s.sent (k - 1) (omega (arith, b))) h.named s
 sound_after out w (Event.Sync k) h s = s
-sound_after out w (Event.Advance ms) h s = sound_same w (w.moment + ms) w.issued w.tally s
+sound_after out w (Event.Advance ms) h s = sound_same w (w.time + ms) w.issued w.tally s
 sound_after out w (Event.Fire j) h s = sound_fire out w j (timer_at w j) h.named s
 sound_after out w (Event.Restart j) h s = sound_restart out w j h.named s
 sound_after out w (Event.Vector j) h s = s
 sound_after out w (Event.Catalogue j) h s = s
 sound_after out w (Event.Claim j f) h s = sound_claim w j f (to_claim w j) refl h.named.0 s
 sound_after out w (Event.Lose j f) h s =
-    sound_set w j (member_with_claim f None (member w j)) w.moment w.issued w.tally refl
+    sound_set w j (member_with_claim f None (member w j)) w.time w.issued w.tally refl
     (sound_loses (logs w) j f (member w j) (s.members j h.named.0)) s
 sound_after out w (Event.Answer j f q) h s =
     sound_came out (tried_once w) j f (claim_at w j f) (came_from out w q (claim_at w j f)) refl h.named.0.0
-    (sound_same w w.moment w.issued _ s)
+    (sound_same w w.time w.issued _ s)
 sound_after out w (Event.Fetch j tries loss) h s = sound_fetch out w j tries loss h.named s
 sound_after out w Event.Settle h s = sound_settle out w s
 sound_after out w (Event.Dump j t) h s = s
@@ -453,13 +460,13 @@ sound_after out w (Event.Feed j f read) h s =
     sound_came out w j f (claim_at w j f) (came_as w read (claim_at w j f)) refl h.named.0 s
 sound_after out w (Event.Order j read) h s = sound_order w j read h.named s
 sound_after out w (Event.Issue j client command) h s =
-    sound_command _ j command h.named (sound_same w w.moment _ w.tally s)
+    sound_command _ j command h.named (sound_same w w.time _ w.tally s)
 sound_after out w (Event.Block j process index content) h s =
     sound_block out w j process (block_at w j process index content) h.named s
 sound_after out w Event.Summary h s = s
 sound_after out w Event.Traffic h s = s
 
-pub sound_after_all : (out : Outside) (es : List Event) (w : World) → EventsAreTaken out w es → IsSoundGroup w
+pub sound_after_all : (out : Environment) (es : List Event) (w : World) → EventsAreTaken out w es → IsSoundGroup w
     → IsSoundGroup (after_events out w es)
 sound_after_all out [] w h s = s
 sound_after_all out (e ∷ es) w h s = sound_after_all out es (after_event out w e) h.1 (sound_after out w e h.0 s)

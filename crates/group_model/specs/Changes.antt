@@ -1,11 +1,11 @@
--- What each kind of event makes of the member at which it happens. Draws come in as values, and the moment is in
+-- What each kind of event makes of the member at which it happens. Draws come in as values, and the time is in
 -- milliseconds.
 use Rattle.std.specs.Prelude.{ℕ, ◌+◌, ◌-◌, List, [], ◌∷◌, ◌++◌, length, Option, None, slice_set}
 use Rattle.std.specs.Ordering.{nat_cmp}
 use Rattle.ndn_name.specs.Names.{Component}
 use Rattle.repo_plan.specs.declared.part.Part.{Part}
 use Rattle.sorted_lists.specs.SortedList.{with_value}
-use Rattle.repo_plan.specs.Parts.{parts_of, parts_behind}
+use Rattle.repo_plan.specs.Parts.{parts_of, parts_after}
 use Rattle.svs_vector.specs.Vectors.{join}
 use Rattle.svs_sync.specs.KeptVector.{steady_kept, hears_kept}
 use Rattle.repo_object.specs.Objects.{Post, shape_in}
@@ -13,30 +13,30 @@ use Rattle.repo_process.specs.Processes.{Process, starting}
 use Rattle.group_model.specs.Member.{Member, gains, insert_keys, member_without_claims}
 
 -- The machine is Steady again.
-abbrev pub resets : (draw moment : ℕ) → Member → Member
-resets draw moment m = record m { machine = steady_kept moment draw m.machine }
+abbrev pub resets : (draw time : ℕ) → Member → Member
+resets draw time m = record m { machine = steady_kept time draw m.machine }
 
 -- The member, whose number is given, publishes an object or a withdrawal under its next number and holds all its parts.
-abbrev pub publishes : (draw moment number : ℕ) → Post → Member → Member
-publishes draw moment number post m =
+abbrev pub publishes : (draw time number : ℕ) → Post → Member → Member
+publishes draw time number post m =
     let seq = length m.log + 1 in
     record m {
       log = m.log ++ post ∷ [];
       known = slice_set m.known number seq;
-      held = insert_keys (parts_of (number, seq) (parts_behind (shape_in post))) m.held;
-      machine = steady_kept moment draw m.machine;
+      held = insert_keys (parts_of (number, seq) (parts_after (shape_in post))) m.held;
+      machine = steady_kept time draw m.machine;
     }
 
--- The member is told of a vector.
-abbrev pub learns : (draw moment : ℕ) → List ℕ → Member → Member
-learns draw moment told m = record m {
-  known = join m.known told;
-  machine = hears_kept moment told m.known draw m.machine m.machine.heard;
+-- The member is informed of a vector.
+abbrev pub learns : (draw time : ℕ) → List ℕ → Member → Member
+learns draw time reported m = record m {
+  known = join m.known reported;
+  machine = hears_kept time reported m.known draw m.machine m.machine.heard;
 }
 
 -- Claims and insertion processes end. Numbers of processes go on.
-abbrev pub restarts : (draw moment : ℕ) → Member → Member
-restarts draw moment m = resets draw moment (record (member_without_claims m) { processes = [] })
+abbrev pub restarts : (draw time : ℕ) → Member → Member
+restarts draw time m = resets draw time (record (member_without_claims m) { processes = [] })
 
 -- A fetcher claims a part, or nothing.
 abbrev pub member_with_claim : ℕ → Option Part → Member → Member

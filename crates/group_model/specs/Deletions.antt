@@ -5,7 +5,7 @@ use Rattle.repo_object.specs.Objects.{offered}
 use Rattle.group_model.specs.Publications.{Logs, post_at}
 use Rattle.group_model.specs.Member.{member_hides}
 use Rattle.group_model.specs.Events.{Event}
-use Rattle.group_model.specs.World.{Outside, World, member, logs, opening_world}
+use Rattle.group_model.specs.World.{Environment, World, member, logs, opening_world}
 use Rattle.group_model.specs.Steps.{after_event}
 use Rattle.group_model.specs.Sound.{IsPublished}
 use Rattle.group_model.specs.Refusals.{EventIsTaken}
@@ -22,8 +22,8 @@ OnlyObjectsHidden w = (j : ℕ) (pair : Pair) → j < length w.members → membe
 
 -- So it is in a group in which nothing has happened, and it stays so after any event that is taken.
 abbrev pub BeginsWithObjectsHidden : Type 0
-BeginsWithObjectsHidden = (out : Outside) (n : ℕ) → OnlyObjectsHidden (opening_world out n)
+BeginsWithObjectsHidden = (out : Environment) (n : ℕ) → OnlyObjectsHidden (opening_world out n)
 
-abbrev pub StaysWithObjectsHidden : Outside → World → Type 0
+abbrev pub StaysWithObjectsHidden : Environment → World → Type 0
 StaysWithObjectsHidden out w = (e : Event) → EventIsTaken out w e → OnlyObjectsHidden w
     → OnlyObjectsHidden (after_event out w e)

@@ -10,7 +10,7 @@ use Rattle.repo_catalog.specs.declared.entry.Entry.{Entry}
 use Rattle.svs_sync.specs.declared.mode.Mode.TheVariants.{Steady, Suppressed}
 use Rattle.repo_object.specs.Objects.{NamedContents}
 use Rattle.group_model.specs.Publications.{Logs, no_post, join_of}
-use Rattle.repo_command.specs.Answers.{code_alone}
+use Rattle.repo_command.specs.Answers.{code_only}
 use Rattle.repo_command.specs.declared.command.Command.TheVariants.{Insert, Check, Delete}
 use Rattle.group_model.specs.Events.{Came, Found, Event}
 use Rattle.group_model.specs.Events.Came.{Nothing, Its, Another}
@@ -23,7 +23,7 @@ use Rattle.group_model.specs.Replies.Reply.{Published, Delivered, Synced, Advanc
 use Rattle.group_model.specs.Replies.Reply.{Numbers, Entries, Claimed, Lost, Answered, Fetched, Settled, Dumped, Heard}
 use Rattle.group_model.specs.Replies.Reply.{HearRefused, OwnNumberAhead, Asked, Fed, Commanded, NoBlock, BlockKept}
 use Rattle.group_model.specs.Replies.Reply.{BlockLate, BlockPublished, Summed, Counted}
-use Rattle.group_model.specs.World.{Outside, World, no_member, opening_world, logs}
+use Rattle.group_model.specs.World.{Environment, World, no_member, opening_world, logs}
 use Rattle.group_model.specs.Steps.{replies, after_event, after_events}
 use Rattle.group_model.specs.Refusals.{Refusal, refusal}
 use Rattle.group_model.specs.Refusals.Refusal.{NoSuchPacket, FetcherBusy, FetcherIdle, Foreign, NumbersSpent}
@@ -35,7 +35,7 @@ abbrev pub gives_held : Logs → List Part → Part → Came
 gives_held logs held t = if contains part_cmp held t then Its else Nothing
 
 -- Every draw is 100, the network passes all, and a record has 118 octets and a segment 79.
-abbrev pub plain_outside : Outside
+abbrev pub plain_outside : Environment
 plain_outside = record {
   draw = λ _ _. 100;
   passes = λ _ _ _ _. true;
@@ -44,11 +44,11 @@ plain_outside = record {
 }
 
 -- The network passes third attempts alone.
-abbrev pub third : Outside
+abbrev pub third : Environment
 third = record plain_outside { passes = λ _ _ attempt _. attempt == 3 }
 
 -- What refuses each event of a list, if something does.
-abbrev pub refusals : Outside → World → List Event → List (Option Refusal)
+abbrev pub refusals : Environment → World → List Event → List (Option Refusal)
 refusals out w [] = []
 refusals out w (e ∷ es) = refusal out w e ∷ refusals out (after_event out w e) es
 
@@ -56,18 +56,18 @@ abbrev pub no_refusal : Event × Reply → Option Refusal
 no_refusal line = None
 
 -- Events that are taken from the opening on, with their replies.
-abbrev pub Plays : Outside → ℕ → List (Event × Reply) → Type 0
+abbrev pub Plays : Environment → ℕ → List (Event × Reply) → Type 0
 Plays out members lines =
     let opening = opening_world out members in
     let events = map (λ l. l.0) lines in
     (replies out opening events ≡ map (λ l. l.1) lines) × (refusals out opening events ≡ map no_refusal lines)
 
 -- Events that are refused after others that are taken, with what refuses them.
-abbrev pub refused_after : Outside → ℕ → List (Event × Reply) → List (Event × Refusal) → List (Option Refusal)
+abbrev pub refused_after : Environment → ℕ → List (Event × Reply) → List (Event × Refusal) → List (Option Refusal)
 refused_after out members lines refused =
     map (λ l. refusal out (after_events out (opening_world out members) (map (λ l. l.0) lines)) l.0) refused
 
-abbrev pub Refuses : Outside → ℕ → List (Event × Reply) → List (Event × Refusal) → Type 0
+abbrev pub Refuses : Environment → ℕ → List (Event × Reply) → List (Event × Refusal) → Type 0
 Refuses out members lines refused =
     Plays out members lines × (refused_after out members lines refused ≡ map (λ l. Some l.1) refused)
 
@@ -311,14 +311,14 @@ abbrev pub FeedIsForeign : Type 0
 FeedIsForeign = Refuses plain_outside 2 claimed ((Feed 1 1 (λ _ _. Another), Foreign) ∷ [])
 
 -- Who is asked gives other packets.
-abbrev pub gives_others : Outside
+abbrev pub gives_others : Environment
 gives_others = record plain_outside { serves = λ _ _ _. Another }
 
 abbrev pub AnswerIsForeign : Type 0
 AnswerIsForeign = Refuses gives_others 2 claimed ((Answer 1 1 0, Foreign) ∷ [])
 
 abbrev pub OrderIsForeign : Type 0
-OrderIsForeign = Refuses plain_outside 2 ((Issue 0 0 (Check 1), Commanded (code_alone 404)) ∷ []) (
+OrderIsForeign = Refuses plain_outside 2 ((Issue 0 0 (Check 1), Commanded (code_only 404)) ∷ []) (
     (Order 0 (Ok (0, Check 2)), Foreign)
     ∷ (Order 0 (Ok (1, Check 1)), Foreign)
     ∷ (Order 1 (Ok (0, Check 1)), Foreign)
@@ -341,13 +341,13 @@ SpentIsRefused =
 -- ---- restarts, deletions and insertions
 
 abbrev pub deletion_reply : ℕ → Reply
-deletion_reply packets = Commanded (record (code_alone 200) { deleted = Some packets })
+deletion_reply packets = Commanded (record (code_only 200) { deleted = Some packets })
 
 abbrev pub inserted : ℕ → ℕ → Reply
-inserted code blocks = Commanded (record (code_alone code) { inserted = Some blocks })
+inserted code blocks = Commanded (record (code_only code) { inserted = Some blocks })
 
 abbrev pub started : ℕ → Reply
-started process = Commanded (record (code_alone 100) { process = Some process })
+started process = Commanded (record (code_only 100) { process = Some process })
 
 abbrev pub RestartKeepsNumbers : Type 0
 RestartKeepsNumbers = Plays plain_outside 2 (
@@ -372,10 +372,10 @@ Insertion = Plays plain_outside 2 (
     ∷ (Issue 0 0 (Check 1), inserted 300 1)
     ∷ (Block 0 1 6 (codes "c"), BlockPublished 1 1)
     ∷ (Issue 0 0 (Check 1), inserted 200 2)
-    ∷ (Issue 0 0 (Check 9), Commanded (code_alone 404))
+    ∷ (Issue 0 0 (Check 9), Commanded (code_only 404))
     ∷ (Settle, Settled 2 3)
     ∷ (Issue 0 0 (Delete doc), deletion_reply 3)
-    ∷ (Issue 0 0 (Delete doc), Commanded (code_alone 404))
+    ∷ (Issue 0 0 (Delete doc), Commanded (code_only 404))
     ∷ (Settle, Settled 2 0)
     ∷ (Catalogue 0, Entries [])
     ∷ (Catalogue 1, Entries (entry 0 1 doc 2 3 abc ∷ []))
@@ -384,7 +384,7 @@ Insertion = Plays plain_outside 2 (
 
 abbrev pub Blocks : Type 0
 Blocks = Plays plain_outside 1 (
-    (Order 0 (Err 401), Commanded (code_alone 401))
+    (Order 0 (Err 401), Commanded (code_only 401))
     ∷ (Issue 0 0 (Insert doc 5 6), started 1)
     ∷ (Order 0 (Ok (0, Insert doc 5 6)), started 2)
     ∷ (Block 0 1 6 (codes "c"), BlockKept)
@@ -412,8 +412,8 @@ DeletedBefore = Plays plain_outside 2 (
 
 -- ---- all are told of all, and nothing is wanted in the end
 
-abbrev pub told_of_all : List (Event × Reply) → List (Event × Reply)
-told_of_all later =
+abbrev pub informed_of_all : List (Event × Reply) → List (Event × Reply)
+informed_of_all later =
     (Publish 0 three_pieces, Published 1 3 1)
     ∷ (Deliver 1 0, Delivered Steady)
     ∷ (Deliver 1 1, Delivered Steady)
@@ -422,8 +422,8 @@ told_of_all later =
     ∷ (Deliver 1 1, Delivered Steady)
     ∷ part_comes 0 (part_comes 1 (part_comes 2 (part_comes 3 later)))
 
-abbrev pub ToldOfAll : Type 0
-ToldOfAll = Plays plain_outside 2 (told_of_all (
+abbrev pub InformedOfAll : Type 0
+InformedOfAll = Plays plain_outside 2 (informed_of_all (
     (Catalogue 0, Entries (entry 0 1 doc 3 3 abc ∷ []))
     ∷ (Catalogue 1, Entries (entry 0 1 doc 3 3 abc ∷ []))
     ∷ (Claim 1 1, Claimed None)
@@ -432,5 +432,5 @@ ToldOfAll = Plays plain_outside 2 (told_of_all (
 
 abbrev pub JoinOfThem : Type 0
 JoinOfThem =
-    join_of (logs (after_events plain_outside (opening_world plain_outside 2) (map (λ l. l.0) (told_of_all []))))
+    join_of (logs (after_events plain_outside (opening_world plain_outside 2) (map (λ l. l.0) (informed_of_all []))))
     ≡ entry 0 1 doc 3 3 abc ∷ []

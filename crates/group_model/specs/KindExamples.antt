@@ -6,14 +6,14 @@ use Rattle.repo_object.specs.Objects.{NamedContents}
 use Rattle.repo_object.specs.Objects.Post.{Offers, Withdraws}
 use Rattle.repo_plan.specs.Parts.{part_of}
 use Rattle.svs_sync.specs.declared.mode.Mode.TheVariants.{Steady}
-use Rattle.repo_command.specs.Answers.{code_alone}
+use Rattle.repo_command.specs.Answers.{code_only}
 use Rattle.repo_command.specs.declared.command.Command.TheVariants.{Delete}
 use Rattle.group_model.specs.Publications.{join_of, count}
 use Rattle.group_model.specs.Events.Event.{Publish, Withdraw, Deliver, Restart, Catalogue, Claim, Answer, Settle, Dump}
 use Rattle.group_model.specs.Events.Event.{Issue, Traffic, Fetch}
 use Rattle.group_model.specs.Replies.Reply.{Fetched, Published, Withdrawn, Delivered, Restarted, Entries, Claimed}
 use Rattle.group_model.specs.Replies.Reply.{Answered, Settled, Dumped, Commanded, Counted}
-use Rattle.group_model.specs.World.{Outside}
+use Rattle.group_model.specs.World.{Environment}
 use Rattle.group_model.specs.Refusals.{refusal}
 use Rattle.group_model.specs.Refusals.Refusal.{NumbersSpent, NoSuchNumber}
 use Rattle.group_model.specs.Examples.{plain_outside, Plays, Refuses, abc, doc, whole, entry, part, part_comes}
@@ -22,7 +22,7 @@ use Rattle.group_model.specs.Examples.{after_so_many, deletion_reply}
 -- ---- withdrawals
 
 -- The second publication is a withdrawal, whose record has 77 octets.
-abbrev pub second_withdraws : Outside
+abbrev pub second_withdraws : Environment
 second_withdraws =
     record plain_outside { size = λ _ t. if t.part == 0 then (if t.seq == 2 then 77 else 118) else 79 }
 
@@ -88,12 +88,12 @@ DeletedAndWithdrawn = Plays plain_outside 1 (
     ∷ (Publish 0 (whole doc abc), Published 3 1 3)
     ∷ (Restart 0, Restarted)
     ∷ (Withdraw 0 3, Withdrawn 4 3 4)
-    ∷ (Issue 0 0 (Delete doc), Commanded (code_alone 404))
+    ∷ (Issue 0 0 (Delete doc), Commanded (code_only 404))
     ∷ (Dump 0 (part_of (0, 3) 1), Dumped (part 0 3 1))
     ∷ []
     )
 
--- A withdrawal takes a number, of which there are 65,535. That the object isn't there is told first.
+-- A withdrawal takes a number, of which there are 65,535. That the object isn't there is reported first.
 abbrev pub WithdrawingIsSpent : Type 0
 WithdrawingIsSpent =
     (refusal plain_outside (after_so_many 65534) (Withdraw 0 1) ≡ None)
@@ -119,9 +119,9 @@ PartsOfLongObjects =
     × (count ((Offers (long_object 201) ∷ []) ∷ []) (0, 1) ≡ 203)
     × (count ((Offers (long_object 20000) ∷ []) ∷ []) (0, 1) ≡ 20100)
 
--- Segments behind index packets are wanted once theirs is held.
-abbrev pub BehindIndexPackets : Type 0
-BehindIndexPackets = Plays plain_outside 2 (
+-- Segments after index packets are wanted once theirs is held.
+abbrev pub AfterIndexPackets : Type 0
+AfterIndexPackets = Plays plain_outside 2 (
     (Publish 0 (long_object 201), Published 1 201 1)
     ∷ (Deliver 1 1, Delivered Steady)
     ∷ (Claim 1 1, Claimed (part 0 1 0))

@@ -9,8 +9,8 @@ use Rattle.repo_process.specs.Processes.{BlockState}
 use Rattle.repo_process.specs.Processes.BlockState.{Whole}
 use Rattle.group_model.specs.Member.{plan_of}
 use Rattle.group_model.specs.Events.{Event}
-use Rattle.group_model.specs.World.{Outside, World, member, logs, sent_at, catalogue_at}
-use Rattle.group_model.specs.Steps.{tells_too_much, block_at, after_event, after_events}
+use Rattle.group_model.specs.World.{Environment, World, member, logs, sent_at, catalogue_at}
+use Rattle.group_model.specs.Steps.{reports_too_much, block_at, after_event, after_events}
 use Rattle.group_model.specs.Refusals.{EventsAreTaken}
 use Rattle.group_model.specs.Sound.{IsPublishedPart}
 
@@ -37,31 +37,31 @@ IsQuiet w (Event.Withdraw j seq) = ⊥
 IsQuiet w (Event.Block j process index content) = IsNotWhole (block_at w j process index content)
 IsQuiet w _ = Unit {0}
 
-abbrev pub AreQuiet : Outside → World → List Event → Type 0
+abbrev pub AreQuiet : Environment → World → List Event → Type 0
 AreQuiet out w [] = Unit {0}
 AreQuiet out w (e ∷ es) = IsQuiet w e × AreQuiet out (after_event out w e) es
 
 -- The event tells member j of all that p has published: a vector comes whose place p is the number of p's last
 -- publication.
-abbrev pub TellsInEvent : World → Event → ℕ → ℕ → Type 0
-TellsInEvent w (Event.Deliver k i) j p = (i ≡ j) × (slice_index (sent_at w k).vector p ≡ last_of (logs w) p)
-TellsInEvent w (Event.Hear i (Some sync)) j p =
-    (i ≡ j) × (tells_too_much w i sync ≡ false) × (slice_index sync.vector p ≡ last_of (logs w) p)
-TellsInEvent w _ j p = ⊥
+abbrev pub ReportsInEvent : World → Event → ℕ → ℕ → Type 0
+ReportsInEvent w (Event.Deliver k i) j p = (i ≡ j) × (slice_index (sent_at w k).vector p ≡ last_of (logs w) p)
+ReportsInEvent w (Event.Hear i (Some sync)) j p =
+    (i ≡ j) × (reports_too_much w i sync ≡ false) × (slice_index sync.vector p ≡ last_of (logs w) p)
+ReportsInEvent w _ j p = ⊥
 
-abbrev pub TellsInRun : Outside → World → List Event → ℕ → ℕ → Type 0
-TellsInRun out w [] j p = ⊥
-TellsInRun out w (e ∷ es) j p = TellsInEvent w e j p ⊎ TellsInRun out (after_event out w e) es j p
+abbrev pub ReportsInRun : Environment → World → List Event → ℕ → ℕ → Type 0
+ReportsInRun out w [] j p = ⊥
+ReportsInRun out w (e ∷ es) j p = ReportsInEvent w e j p ⊎ ReportsInRun out (after_event out w e) es j p
 
 -- Events that publish nothing, and that tell each member of all that each other has published.
-pub record TellsAll (out : Outside) (w : World) (es : List Event) : Type 0 where
+pub record ReportsAll (out : Environment) (w : World) (es : List Event) : Type 0 where
   pub quiet : AreQuiet out w es
-  pub told : (j p : ℕ) → j < length w.members → p < length w.members → p ≢ j → TellsInRun out w es j p
+  pub reported : (j p : ℕ) → j < length w.members → p < length w.members → p ≢ j → ReportsInRun out w es j p
 
--- Where all are told of all from here on, and nothing is wanted or hidden in the end, each catalogue is the join of all
+-- Where all know of all from here on, and nothing is wanted or hidden in the end, each catalogue is the join of all
 -- publications, whatever else happens.
-abbrev pub JoinsWhereAllAreTold : Outside → World → Type 0
-JoinsWhereAllAreTold out w = (es : List Event) → EventsAreTaken out w es → TellsAll out w es →
+abbrev pub JoinsWhereAllAreInformed : Environment → World → Type 0
+JoinsWhereAllAreInformed out w = (es : List Event) → EventsAreTaken out w es → ReportsAll out w es →
     let last = after_events out w es in
     NothingHidden last → NothingWanted last → AllJoined last
 

@@ -10,7 +10,7 @@ use Rattle.repo_command.specs.declared.command.Command.{Command}
 use Rattle.repo_command.specs.declared.command.Command.TheVariants.{Insert}
 use Rattle.group_model.specs.Member.{Member, tries_of}
 use Rattle.group_model.specs.Events.{Event}
-use Rattle.group_model.specs.World.{Tally, World, Outside, member, logs, opening_world}
+use Rattle.group_model.specs.World.{Tally, World, Environment, member, logs, opening_world}
 use Rattle.group_model.specs.Steps.{after_gathering, after_event, after_events}
 use Rattle.group_model.specs.Refusals.{EventsAreTaken}
 use Rattle.group_model.specs.Sound.{IsSoundGroup}
@@ -22,7 +22,7 @@ abbrev pub IsShortInsertion : Command → Type 0
 IsShortInsertion (Insert name first last) = last < first + 200
 IsShortInsertion _ = Unit {0}
 
--- An object has at most 20,000 segments, the moment moves by at most 1,000,000,000 milliseconds, and a fetch tries each
+-- An object has at most 20,000 segments, the time moves by at most 1,000,000,000 milliseconds, and a fetch tries each
 -- part 16 times at most.
 abbrev pub IsInRange : Event → Type 0
 IsInRange (Event.Publish m o) = length o.contents ≤ 20000
@@ -50,10 +50,10 @@ pub record IsTallyWithin (steps : ℕ) (t : Tally) : Type 0 where
   pub parts : t.parts ≤ steps * steps * 160808
   pub octets : t.octets ≤ steps * steps * 1415110400
 
--- After so many events the moment, what was sent and what was published are within these numbers, and each object has
+-- After so many events the time, what was sent and what was published are within these numbers, and each object has
 -- at most 20,000 segments.
 pub record IsWithinSteps (steps : ℕ) (w : World) : Type 0 where
-  pub moment : w.moment ≤ steps * 1000000000
+  pub time : w.time ≤ steps * 1000000000
   pub sent : length w.sent ≤ steps * 16
   pub published : length (published (logs w)) ≤ steps
   pub segments : (p k : ℕ) → length (contents_of (slice_index_or (slice_index_or (logs w) p []) k no_post)) ≤ 20000
@@ -63,26 +63,26 @@ pub record IsWithinSteps (steps : ℕ) (w : World) : Type 0 where
 -- ---- the laws
 
 -- The packets of its parts have at most 8,800 octets.
-abbrev pub HasSmallPackets : Outside → World → Type 0
+abbrev pub HasSmallPackets : Environment → World → Type 0
 HasSmallPackets out w = (t : Part) → out.size (logs w) t ≤ 8800
 
 -- So it is before each event of a list.
-abbrev pub AreSmall : Outside → World → List Event → Type 0
+abbrev pub AreSmall : Environment → World → List Event → Type 0
 AreSmall out w [] = Unit {0}
 AreSmall out w (e ∷ es) = HasSmallPackets out w × AreSmall out (after_event out w e) es
 
 abbrev pub BeginsWithin : Type 0
-BeginsWithin = (out : Outside) (n : ℕ) → IsWithinSteps 0 (opening_world out n)
+BeginsWithin = (out : Environment) (n : ℕ) → IsWithinSteps 0 (opening_world out n)
 
 -- A group of at most 16 members that is within the counts of at most 100,000 events is within those of one more after
 -- an event.
 abbrev pub StaysWithin : Type 0
-StaysWithin = (out : Outside) (steps : ℕ) (w : World) (e : Event) → steps ≤ 100000 → length w.members ≤ 16
+StaysWithin = (out : Environment) (steps : ℕ) (w : World) (e : Event) → steps ≤ 100000 → length w.members ≤ 16
     → HasSmallPackets out w → IsInRange e → IsWithinSteps steps w → IsWithinSteps (steps + 1) (after_event out w e)
 
 -- So it is after a settle but for the machines.
 abbrev pub GatheringStaysWithin : Type 0
-GatheringStaysWithin = (out : Outside) (steps : ℕ) (w : World) → steps ≤ 100000 → length w.members ≤ 16
+GatheringStaysWithin = (out : Environment) (steps : ℕ) (w : World) → steps ≤ 100000 → length w.members ≤ 16
     → HasSmallPackets out w → IsWithinSteps steps w → IsWithinSteps (steps + 1) (after_gathering out w)
 
 -- The counts of more events are wider.
@@ -90,12 +90,12 @@ abbrev pub MoreIsWithin : Type 0
 MoreIsWithin = (steps more : ℕ) (w : World) → steps ≤ more → IsWithinSteps steps w → IsWithinSteps more w
 
 abbrev pub RunsStayWithin : Type 0
-RunsStayWithin = (out : Outside) (steps : ℕ) (w : World) (es : List Event) → IsSoundGroup w
+RunsStayWithin = (out : Environment) (steps : ℕ) (w : World) (es : List Event) → IsSoundGroup w
     → steps + length es ≤ 100000 → length w.members ≤ 16 → EventsAreTaken out w es → AreInRange es → AreSmall out w es
     → IsWithinSteps steps w → IsWithinSteps (steps + length es) (after_events out w es)
 
 abbrev pub ReachedRunsStayWithin : Type 0
-ReachedRunsStayWithin = (out : Outside) (n : ℕ) (es : List Event) → n ≤ 16 → length es ≤ 100000
+ReachedRunsStayWithin = (out : Environment) (n : ℕ) (es : List Event) → n ≤ 16 → length es ≤ 100000
     → EventsAreTaken out (opening_world out n) es → AreInRange es → AreSmall out (opening_world out n) es
     → IsWithinSteps (length es) (after_events out (opening_world out n) es)
 

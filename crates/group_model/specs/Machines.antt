@@ -6,67 +6,67 @@ use Rattle.svs_sync.specs.KeptVector.{kept}
 use Rattle.repo_process.specs.Processes.{BlockState}
 use Rattle.repo_process.specs.Processes.BlockState.{Whole}
 use Rattle.group_model.specs.Events.{SyncInterest, Event}
-use Rattle.group_model.specs.World.{Outside, World, member, sent_at, opening_world}
-use Rattle.group_model.specs.Steps.{drawn, timer_at, tells_too_much, block_at, after_event, after_events}
+use Rattle.group_model.specs.World.{Environment, World, member, sent_at, opening_world}
+use Rattle.group_model.specs.Steps.{drawn, timer_at, reports_too_much, block_at, after_event, after_events}
 use Rattle.group_model.specs.Refusals.{EventsAreTaken}
 use Rattle.svs_sync.specs.Suppression
 
--- What befalls the machine of member j where something befalls that of member i.
+-- What happens to the machine of member j where something happens to that of member i.
 abbrev pub only_at : (i j : ℕ) → Suppression.SyncEvent → List Suppression.SyncEvent
 only_at i j e = if i == j then e ∷ [] else []
 
-abbrev pub hears_of : Outside → World → (i j : ℕ) → List ℕ → List Suppression.SyncEvent
-hears_of out w i j told = only_at i j (heard w.moment told (member w i).known (drawn out w i))
+abbrev pub hears_of : Environment → World → (i j : ℕ) → List ℕ → List Suppression.SyncEvent
+hears_of out w i j reported = only_at i j (heard w.time reported (member w i).known (drawn out w i))
 
-abbrev pub befalls_read : Outside → World → (i j : ℕ) → Option SyncInterest → List Suppression.SyncEvent
+abbrev pub befalls_read : Environment → World → (i j : ℕ) → Option SyncInterest → List Suppression.SyncEvent
 befalls_read out w i j None = []
-befalls_read out w i j (Some sync) = if tells_too_much w i sync then [] else hears_of out w i j sync.vector
+befalls_read out w i j (Some sync) = if reports_too_much w i sync then [] else hears_of out w i j sync.vector
 
-abbrev pub befalls_block : Outside → World → (i j : ℕ) → BlockState → List Suppression.SyncEvent
-befalls_block out w i j (Whole p) = only_at i j (published w.moment (drawn out w i))
+abbrev pub befalls_block : Environment → World → (i j : ℕ) → BlockState → List Suppression.SyncEvent
+befalls_block out w i j (Whole p) = only_at i j (published w.time (drawn out w i))
 befalls_block out w i j _ = []
 
--- What befalls the machine of a member in an event of the group.
-abbrev pub befalls : Outside → World → ℕ → Event → List Suppression.SyncEvent
-befalls out w j (Event.Publish i o) = only_at i j (published w.moment (drawn out w i))
-befalls out w j (Event.Withdraw i seq) = only_at i j (published w.moment (drawn out w i))
+-- What happens to the machine of a member in an event of the group.
+abbrev pub befalls : Environment → World → ℕ → Event → List Suppression.SyncEvent
+befalls out w j (Event.Publish i o) = only_at i j (published w.time (drawn out w i))
+befalls out w j (Event.Withdraw i seq) = only_at i j (published w.time (drawn out w i))
 befalls out w j (Event.Deliver k i) = hears_of out w i j (sent_at w k).vector
-befalls out w j (Event.Fire i) = only_at i j (fired w.moment (member w i).known (drawn out w i))
-befalls out w j (Event.Restart i) = only_at i j (reset w.moment (drawn out w i))
-befalls out w j Event.Settle = reset w.moment (drawn out w j) ∷ []
+befalls out w j (Event.Fire i) = only_at i j (fired w.time (member w i).known (drawn out w i))
+befalls out w j (Event.Restart i) = only_at i j (reset w.time (drawn out w i))
+befalls out w j Event.Settle = reset w.time (drawn out w j) ∷ []
 befalls out w j (Event.Hear i read) = befalls_read out w i j read
 befalls out w j (Event.Block i process index content) = befalls_block out w i j (block_at w i process index content)
 befalls out w j _ = []
 
-abbrev pub befall : Outside → World → ℕ → List Event → List Suppression.SyncEvent
+abbrev pub befall : Environment → World → ℕ → List Event → List Suppression.SyncEvent
 befall out w j [] = []
 befall out w j (e ∷ es) = befalls out w j e ++ befall out (after_event out w e) j es
 
 -- The machine of each member is what the table makes of all that befell it, with the join of the vectors heard for
 -- their list, and so is what its timer says.
-pub record FollowsTable (out : Outside) (w : World) (es : List Event) (n j : ℕ)
+pub record FollowsTable (out : Environment) (w : World) (es : List Event) (n j : ℕ)
     (first : Suppression.SyncMember) : Type 0 where
   pub machine : (member (after_events out w es) j).machine
       ≡ kept n (Suppression.after_sync_events (befall out w j es) first)
   pub timer : let last = after_events out w es in
-      timer_at last j ≡ fires last.moment (member last j).known
+      timer_at last j ≡ fires last.time (member last j).known
       (Suppression.after_sync_events (befall out w j es) first)
 
 -- It goes on so from a machine that is as the table has it.
-abbrev pub MachinesFollowTable : Outside → World → Type 0
+abbrev pub MachinesFollowTable : Environment → World → Type 0
 MachinesFollowTable out w = (es : List Event) (n j : ℕ) (first : Suppression.SyncMember) → EventsAreTaken out w es
     → j < length w.members → (member w j).machine ≡ kept n first → FollowsTable out w es n j first
 
 -- A machine begins Steady, with the periodic deadline of its first draw.
-abbrev pub first_machine : Outside → ℕ → Suppression.SyncMember
+abbrev pub first_machine : Environment → ℕ → Suppression.SyncMember
 first_machine out j = record { heard = None; deadline = periodic (out.draw j 0); draws = 1 }
 
 -- So it is as the table has it in every run from the beginning of a group.
 abbrev pub MachinesBegin : Type 0
-MachinesBegin = (out : Outside) (n j : ℕ) → j < n
+MachinesBegin = (out : Environment) (n j : ℕ) → j < n
     → (member (opening_world out n) j).machine ≡ kept n (first_machine out j)
 
 abbrev pub ReachedMachinesFollowTable : Type 0
-ReachedMachinesFollowTable = (out : Outside) (n : ℕ) (es : List Event) (j : ℕ)
+ReachedMachinesFollowTable = (out : Environment) (n : ℕ) (es : List Event) (j : ℕ)
     → EventsAreTaken out (opening_world out n) es
     → j < n → FollowsTable out (opening_world out n) es n j (first_machine out j)

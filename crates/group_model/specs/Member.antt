@@ -35,16 +35,16 @@ member_hides m pair = contains pair_cmp m.hidden pair
 
 -- ---- wanted parts
 
--- What the held records tell of the parts of their publications.
-abbrev pub told_by : Logs → List Part → List (Pair × Shape)
-told_by logs held = map (λ t. (pair_of t, shape_at logs (pair_of t))) (filter (λ t. t.part == 0) held)
+-- What the held records say of the parts of their publications.
+abbrev pub reported_by : Logs → List Part → List (Pair × Shape)
+reported_by logs held = map (λ t. (pair_of t, shape_at logs (pair_of t))) (filter (λ t. t.part == 0) held)
 
 -- The fetch plan of a member. What it wants and what its fetchers claim is read there.
 abbrev pub plan_of : Logs → Member → PlanState
 plan_of logs m = record {
   known = m.known;
   held = m.held;
-  shapes = told_by logs m.held;
+  shapes = reported_by logs m.held;
   claims = m.claims;
   hidden = m.hidden;
   attempts = m.attempts;

@@ -4,7 +4,7 @@ use Rattle.repo_plan.specs.Plan.{wanted}
 use Rattle.group_model.specs.Publications.{Logs, last_of, join_of}
 use Rattle.group_model.specs.Member.{plan_of, catalogue, Member}
 
--- A vector with these numbers tells of all publications.
+-- A vector with these numbers reports all publications.
 abbrev pub KnowsAll : Logs → List ℕ → Type 0
 KnowsAll logs known = (p : ℕ) → p < length logs → last_of logs p ≤ slice_index known p
 

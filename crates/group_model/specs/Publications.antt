@@ -5,7 +5,7 @@ use Rattle.std.specs.Prelude.{is_some, unwrap_or, slice_index_or, flat_map}
 use Rattle.std.specs.List.{concat, list_any}
 use Rattle.sha2.specs.Sha256.{sha256}
 use Rattle.repo_plan.specs.declared.part.Part.{Part}
-use Rattle.repo_plan.specs.Parts.{Pair, parts_of, parts_behind}
+use Rattle.repo_plan.specs.Parts.{Pair, parts_of, parts_after}
 use Rattle.repo_plan.specs.declared.shape.Shape.{Shape}
 use Rattle.repo_object.specs.Objects.{NamedContents, Post, offered, shape_in, withdraws_number}
 use Rattle.repo_object.specs.Objects.Post.{Offers}
@@ -31,13 +31,13 @@ post_at logs pair = slice_index_or (slice_index_or logs pair.0 []) (pair.1 - 1) 
 abbrev pub last_of : Logs → ℕ → ℕ
 last_of logs publisher = length (slice_index_or logs publisher [])
 
--- What the record of a publication tells of its parts.
+-- What the record of a publication says of its parts.
 abbrev pub shape_at : Logs → Pair → Shape
 shape_at logs pair = shape_in (post_at logs pair)
 
 -- How many parts a publication has besides its record.
 abbrev pub count : Logs → Pair → ℕ
-count logs pair = parts_behind (shape_at logs pair)
+count logs pair = parts_after (shape_at logs pair)
 
 -- ---- all publications
 
@@ -67,7 +67,7 @@ published logs = published_from 0 logs
 
 -- The parts of a publication: its record, its index packets, and its segments.
 abbrev pub parts_in : Publication → List Part
-parts_in p = parts_of (pair_in p) (parts_behind (shape_in p.post))
+parts_in p = parts_of (pair_in p) (parts_after (shape_in p.post))
 
 -- All parts that there are, in order of publisher, number and part.
 abbrev pub all_parts : Logs → List Part
@@ -99,7 +99,7 @@ has_unwithdrawn log seq =
 abbrev pub object_in : Publication → NamedContents
 object_in p = unwrap_or (offered p.post) no_object
 
--- What a catalogue tells of a publication. The digest is that of its contents joined.
+-- What a catalogue says of a publication. The digest is that of its contents joined.
 abbrev pub published_entry : Publication → Entry
 published_entry p = record {
   publisher = p.publisher;

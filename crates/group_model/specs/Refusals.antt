@@ -11,8 +11,8 @@ use Rattle.group_model.specs.Publications.{has_unwithdrawn}
 use Rattle.group_model.specs.Commands.{is_equal_command}
 use Rattle.group_model.specs.Events.{SyncInterest, Came, Event}
 use Rattle.group_model.specs.Events.Came.{Another}
-use Rattle.group_model.specs.World.{World, Outside, member}
-use Rattle.group_model.specs.Steps.{claim_at, came_from, came_as, tells_too_much, block_at, after_event}
+use Rattle.group_model.specs.World.{World, Environment, member}
+use Rattle.group_model.specs.Steps.{claim_at, came_from, came_as, reports_too_much, block_at, after_event}
 
 pub data Refusal : Type 0 where
   NoSuchPacket : Refusal
@@ -54,10 +54,10 @@ if_idle_or_foreign None came = Some Refusal.FetcherIdle
 if_idle_or_foreign (Some t) Another = Some Refusal.Foreign
 if_idle_or_foreign (Some t) _ = None
 
--- A vector that tells too much of the member itself is told of before.
+-- A vector that tells too much of the member itself is informed of before.
 abbrev pub if_unsent : World → ℕ → Option SyncInterest → Option Refusal
 if_unsent w j None = None
-if_unsent w j (Some sync) = if tells_too_much w j sync then None else unless (has_sent w sync) Refusal.Foreign
+if_unsent w j (Some sync) = if reports_too_much w j sync then None else unless (has_sent w sync) Refusal.Foreign
 
 abbrev pub if_unissued : World → ℕ → Result (ℕ × Command) ℕ → Option Refusal
 if_unissued w j (Ok order) = unless (has_issued w j order) Refusal.Foreign
@@ -76,7 +76,7 @@ abbrev pub if_whole : World → ℕ → BlockState → Option Refusal
 if_whole w j (Whole p) = if_spent w j
 if_whole w j _ = None
 
-abbrev pub refusal : Outside → World → Event → Option Refusal
+abbrev pub refusal : Environment → World → Event → Option Refusal
 refusal out w (Event.Publish j o) = if_spent w j
 refusal out w (Event.Withdraw j seq) = if_no_object_or_spent w j seq
 refusal out w (Event.Deliver k j) = unless_sent w k
@@ -122,11 +122,11 @@ NamesThose w (Event.Block j process index content) = j < length w.members
 NamesThose w Event.Summary = Unit {0}
 NamesThose w Event.Traffic = Unit {0}
 
-pub record EventIsTaken (out : Outside) (w : World) (e : Event) : Type 0 where
+pub record EventIsTaken (out : Environment) (w : World) (e : Event) : Type 0 where
   pub named : NamesThose w e
   pub taken : refusal out w e ≡ None
 
 -- Each event of a list is taken when its turn comes.
-abbrev pub EventsAreTaken : Outside → World → List Event → Type 0
+abbrev pub EventsAreTaken : Environment → World → List Event → Type 0
 EventsAreTaken out w [] = Unit {0}
 EventsAreTaken out w (e ∷ es) = EventIsTaken out w e × EventsAreTaken out (after_event out w e) es

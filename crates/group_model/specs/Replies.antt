@@ -1,4 +1,4 @@
--- What is told of an event: by the event, and as one of all replies.
+-- What is reported of an event: by the event, and as one of all replies.
 use Rattle.std.specs.Prelude.{ℕ, Bool, List, Option, Some, None, Result, Ok, Err, if◌then◌else◌}
 use Rattle.repo_plan.specs.declared.part.Part.{Part}
 use Rattle.svs_sync.specs.declared.fired.Fired.{Fired}
@@ -16,13 +16,13 @@ pub record CatalogueTotals : Type 0 where
   pub segments : ℕ
   pub octets : ℕ
 
--- A publication: its number, how many segments it has, and the number of the sync Interest that tells of it.
+-- A publication: its number, how many segments it has, and the number of the sync Interest that reports it.
 pub record PublishOutcome : Type 0 where
   pub seq : ℕ
   pub segments : ℕ
   pub sync : ℕ
 
--- A withdrawal: its number, and that of the sync Interest that tells of it.
+-- A withdrawal: its number, and that of the sync Interest that reports it.
 pub record WithdrawOutcome : Type 0 where
   pub seq : ℕ
   pub sync : ℕ
@@ -55,12 +55,12 @@ pub record TrafficOutcome : Type 0 where
   pub octets : ℕ
 
 -- Of octets that are a sync Interest, the member's mode afterwards; or how many publications it has made, and the
--- number beyond them that it was told.
+-- number beyond them that it was informed.
 abbrev pub HearOutcome : Option SyncInterest → Type 0
 HearOutcome None = Unit {0}
 HearOutcome (Some sync) = Result Mode (ℕ × ℕ)
 
--- What is told of each event.
+-- What is reported of each event.
 abbrev pub OutcomeOf : Event → Type 0
 OutcomeOf (Event.Publish j o) = PublishOutcome
 OutcomeOf (Event.Withdraw j seq) = WithdrawOutcome
@@ -93,7 +93,7 @@ pub data Reply : Type 0 where
   Withdrawn : (seq withdrawn sync : ℕ) → Reply
   Delivered : (mode : Mode) → Reply
   Synced : (sync : SyncInterest) → Reply
-  Advanced : (moment : ℕ) → Reply
+  Advanced : (time : ℕ) → Reply
   Early : Reply
   Quiet : Reply
   Sent : (sync : ℕ) → Reply
@@ -108,7 +108,7 @@ pub data Reply : Type 0 where
   Dumped : (part : Option Part) → Reply
   Heard : (mode : Mode) → Reply
   HearRefused : Reply
-  OwnNumberAhead : (own told : ℕ) → Reply
+  OwnNumberAhead : (own reported : ℕ) → Reply
   Asked : (found : Found) → Reply
   Fed : (kept : Bool) → Reply
   Commanded : (answer : Answer) → Reply
@@ -139,26 +139,27 @@ block_reply seq sync (Waiting p) = Reply.BlockKept
 block_reply seq sync (Whole p) = Reply.BlockPublished seq sync
 
 abbrev pub reply_of : (e : Event) → OutcomeOf e → Reply
-reply_of (Event.Publish j o) told = Reply.Published told.seq told.segments told.sync
-reply_of (Event.Withdraw j seq) told = Reply.Withdrawn told.seq seq told.sync
+reply_of (Event.Publish j o) reported = Reply.Published reported.seq reported.segments reported.sync
+reply_of (Event.Withdraw j seq) reported = Reply.Withdrawn reported.seq seq reported.sync
 reply_of (Event.Deliver k j) mode = Reply.Delivered mode
 reply_of (Event.Sync k) sync = Reply.Synced sync
-reply_of (Event.Advance ms) moment = Reply.Advanced moment
-reply_of (Event.Fire j) told = fire_reply told.sync told.timer
-reply_of (Event.Restart j) told = Reply.Restarted
+reply_of (Event.Advance ms) time = Reply.Advanced time
+reply_of (Event.Fire j) reported = fire_reply reported.sync reported.timer
+reply_of (Event.Restart j) reported = Reply.Restarted
 reply_of (Event.Vector j) vector = Reply.Numbers vector
 reply_of (Event.Catalogue j) entries = Reply.Entries entries
 reply_of (Event.Claim j f) part = Reply.Claimed part
 reply_of (Event.Lose j f) part = Reply.Lost part
 reply_of (Event.Answer j f q) kept = Reply.Answered kept
-reply_of (Event.Fetch j tries loss) told = Reply.Fetched told.planned told.kept told.attempts
-reply_of Event.Settle told = Reply.Settled told.syncs told.kept
+reply_of (Event.Fetch j tries loss) reported = Reply.Fetched reported.planned reported.kept reported.attempts
+reply_of Event.Settle reported = Reply.Settled reported.syncs reported.kept
 reply_of (Event.Dump j t) held = Reply.Dumped (if held then Some t else None)
 reply_of (Event.Hear j read) heard = hear_reply read heard
 reply_of (Event.Ask j find) found = Reply.Asked found
 reply_of (Event.Feed j f read) kept = Reply.Fed kept
 reply_of (Event.Order j read) answer = Reply.Commanded answer
 reply_of (Event.Issue j client command) answer = Reply.Commanded answer
-reply_of (Event.Block j process index content) told = block_reply told.seq told.sync told.state
+reply_of (Event.Block j process index content) reported = block_reply reported.seq reported.sync reported.state
 reply_of Event.Summary totals = Reply.Summed totals
-reply_of Event.Traffic told = Reply.Counted told.syncs told.delivered told.attempts told.parts told.octets
+reply_of Event.Traffic reported = Reply.Counted reported.syncs reported.delivered reported.attempts reported.parts
+    reported.octets

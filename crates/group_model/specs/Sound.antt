@@ -19,24 +19,24 @@ pub record IsPublishedPart (logs : Logs) (t : Part) : Type 0 where
   pub there : IsPublished logs (pair_of t)
   pub counted : t.part ≤ count logs (pair_of t)
 
--- A vector tells of the publication.
+-- A vector reports the publication.
 pub record IsKnown (known : List ℕ) (pair : Pair) : Type 0 where
   pub from_one : 1 ≤ pair.1
   pub to_known : pair.1 ≤ slice_index known pair.0
 
--- A vector tells of no publication that there isn't.
-abbrev pub TellsNoMore : Logs → List ℕ → Type 0
-TellsNoMore logs v = (p : ℕ) → slice_index v p ≤ last_of logs p
+-- A vector reports no publication that there isn't.
+abbrev pub ReportsNoMore : Logs → List ℕ → Type 0
+ReportsNoMore logs v = (p : ℕ) → slice_index v p ≤ last_of logs p
 
 -- Such a vector, with one number a member.
-pub record IsTrueVector (logs : Logs) (v : List ℕ) : Type 0 where
+pub record IsConsistentVector (logs : Logs) (v : List ℕ) : Type 0 where
   pub width : length v ≡ length logs
-  pub no_more : TellsNoMore logs v
+  pub no_more : ReportsNoMore logs v
 
 -- The join of the vectors that were heard since the member was last Steady.
-abbrev pub HeardTruly : Logs → Option (List ℕ) → Type 0
-HeardTruly logs None = Unit {0}
-HeardTruly logs (Some heard) = IsTrueVector logs heard
+abbrev pub HeardConsistently : Logs → Option (List ℕ) → Type 0
+HeardConsistently logs None = Unit {0}
+HeardConsistently logs (Some heard) = IsConsistentVector logs heard
 
 -- The lists are in order, each thing once, and no attempts are counted as 0.
 pub record IsMemberInOrder (m : Member) : Type 0 where
@@ -63,9 +63,9 @@ pub record IsSoundMember (logs : Logs) (j : ℕ) (m : Member) : Type 0 where
   pub width : length m.known ≡ length logs
   pub fetchers : length m.claims ≡ 16
   pub in_order : IsMemberInOrder m
-  pub known : TellsNoMore logs m.known
+  pub known : ReportsNoMore logs m.known
   pub own : slice_index m.known j ≡ last_of logs j
-  pub heard : HeardTruly logs m.machine.heard
+  pub heard : HeardConsistently logs m.machine.heard
   pub held : (t : Part) → member_holds m t ≡ true → IsHeldSoundly logs m.known m.held t
   pub hidden : (pair : Pair) → member_hides m pair ≡ true → IsHiddenSoundly m pair
   pub own_held : (s : ℕ) → IsPublished logs (j, s)
@@ -76,4 +76,4 @@ pub record IsSoundMember (logs : Logs) (j : ℕ) (m : Member) : Type 0 where
 
 pub record IsSoundGroup (w : World) : Type 0 where
   pub members : (j : ℕ) → j < length w.members → IsSoundMember (logs w) j (member w j)
-  pub sent : (k : ℕ) → k < length w.sent → IsTrueVector (logs w) (slice_index_or w.sent k no_sync).vector
+  pub sent : (k : ℕ) → k < length w.sent → IsConsistentVector (logs w) (slice_index_or w.sent k no_sync).vector

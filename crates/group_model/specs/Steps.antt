@@ -1,4 +1,4 @@
--- What each event makes of a group, and what is told of it.
+-- What each event makes of a group, and what is reported of it.
 use Rattle.std.specs.Prelude.{ℕ, ◌+◌, ◌-◌, ◌*◌, Bool, true, false, not, List, [], ◌∷◌, ◌++◌, map, length, take, Option}
 use Rattle.std.specs.Prelude.{Some, None, is_some, unwrap_or, Result, Ok, Err, slice_index, slice_set, nat_le, nat_lt}
 use Rattle.std.specs.Prelude.{◌==◌, ◌&&◌, if◌then◌else◌, filter, find, sum_by}
@@ -22,7 +22,7 @@ use Rattle.repo_process.specs.Processes.{Process, BlockState, present, object_of
 use Rattle.repo_process.specs.Processes.BlockState.{Unknown, Already, Waiting, Whole}
 use Rattle.repo_command.specs.declared.command.Command.{Command}
 use Rattle.repo_command.specs.declared.answer.Answer.{Answer}
-use Rattle.repo_command.specs.Answers.{code_alone}
+use Rattle.repo_command.specs.Answers.{code_only}
 use Rattle.repo_command.specs.declared.command.Command.TheVariants.{Insert, Check, Delete}
 use Rattle.group_model.specs.Member.{Member, member_holds, member_hides, plan_of, catalogued_under, gains}
 use Rattle.group_model.specs.Member.{member_hides_all, tries_of, with_each_tried, member_without_claims}
@@ -31,7 +31,8 @@ use Rattle.group_model.specs.Changes.{member_with_process, member_starts}
 use Rattle.group_model.specs.Events.{SyncInterest, Came, Event}
 use Rattle.group_model.specs.Events.Came.{Nothing, Its, Another}
 use Rattle.group_model.specs.Replies.{CatalogueTotals, HearOutcome, OutcomeOf, Reply, reply_of}
-use Rattle.group_model.specs.World.{Issued, World, Outside, no_member, member, with_member, logs, sent_at, catalogue_at}
+use Rattle.group_model.specs.World.{Issued, World, Environment, no_member, member, with_member, logs, sent_at}
+use Rattle.group_model.specs.World.{catalogue_at}
 use Rattle.group_model.specs.World.{someone_holds}
 
 -- ---- claims
@@ -59,11 +60,11 @@ with_sync w j = record w { sent = w.sent ++ record { sender = j; vector = (membe
 
 -- What the timer of a member says.
 abbrev pub timer_at : World → ℕ → Fired
-timer_at w j = fires_kept w.moment (member w j).known (member w j).machine
+timer_at w j = fires_kept w.time (member w j).known (member w j).machine
 
--- A vector tells of more publications of the member than there are.
-abbrev pub tells_too_much : World → ℕ → SyncInterest → Bool
-tells_too_much w j sync = nat_lt (length (member w j).log) (slice_index sync.vector j)
+-- A vector reports more publications of the member than there are.
+abbrev pub reports_too_much : World → ℕ → SyncInterest → Bool
+reports_too_much w j sync = nat_lt (length (member w j).log) (slice_index sync.vector j)
 
 -- ---- parts that come
 
@@ -73,7 +74,7 @@ passes_checks Its = true
 passes_checks Another = true
 
 -- What member q gives for a claim.
-abbrev pub came_from : Outside → World → ℕ → Option Part → Came
+abbrev pub came_from : Environment → World → ℕ → Option Part → Came
 came_from out w q None = Nothing
 came_from out w q (Some t) = out.serves (logs w) (member w q).held t
 
@@ -85,13 +86,13 @@ came_as w read (Some t) = read (logs w) t
 abbrev pub tried_once : World → World
 tried_once w = record w { tally = record w.tally { attempts = w.tally.attempts + 1 } }
 
-abbrev pub after_part : Outside → World → ℕ → ℕ → Part → World
+abbrev pub after_part : Environment → World → ℕ → ℕ → Part → World
 after_part out w j f t = record (with_member w j (takes f t (member w j))) {
   tally = record w.tally { parts = w.tally.parts + 1; octets = w.tally.octets + out.size (logs w) t };
 }
 
 -- The claim is over where what came for it passes its checks.
-abbrev pub after_came : Outside → World → ℕ → ℕ → Option Part → Came → World
+abbrev pub after_came : Environment → World → ℕ → ℕ → Option Part → Came → World
 after_came out w j f None came = w
 after_came out w j f (Some t) Nothing = w
 after_came out w j f (Some t) Its = after_part out w j f t
@@ -103,7 +104,7 @@ after_came out w j f (Some t) Another = after_part out w j f t
 abbrev pub settled_vector : World → List ℕ
 settled_vector w = join_all (map (λ m. m.known) w.members)
 
--- A part that is told of then, isn't hidden, is held by someone, with its record, and isn't held yet.
+-- A part that is reported of then, isn't hidden, is held by someone, with its record, and isn't held yet.
 abbrev pub comes_to : World → Member → Part → Bool
 comes_to w m t =
     nat_le t.seq (slice_index (settled_vector w) t.publisher)
@@ -135,23 +136,23 @@ abbrev pub others_of : World → ℕ → List Member
 others_of w j = slice_set w.members j no_member
 
 -- The first of so many attempts that the network passes, where another member holds the part.
-abbrev pub attempt : Outside → World → (j tries loss : ℕ) → Part → Option ℕ
+abbrev pub attempt : Environment → World → (j tries loss : ℕ) → Part → Option ℕ
 attempt out w j tries loss t =
     if someone_holds (others_of w j) t
     then find (λ a. out.passes j t (tries_of (member w j).attempts t + a) loss) (numbers_from 1 tries)
     else None
 
-abbrev pub fetched_parts : Outside → World → (j tries loss : ℕ) → List Part
+abbrev pub fetched_parts : Environment → World → (j tries loss : ℕ) → List Part
 fetched_parts out w j tries loss = filter (λ t. is_some (attempt out w j tries loss t)) (planned_parts w j)
 
 -- How many attempts a part takes.
-abbrev pub attempts_for : Outside → World → (j tries loss : ℕ) → Part → ℕ
+abbrev pub attempts_for : Environment → World → (j tries loss : ℕ) → Part → ℕ
 attempts_for out w j tries loss t = unwrap_or (attempt out w j tries loss t) tries
 
-abbrev pub attempts_made : Outside → World → (j tries loss : ℕ) → ℕ
+abbrev pub attempts_made : Environment → World → (j tries loss : ℕ) → ℕ
 attempts_made out w j tries loss = sum_by (attempts_for out w j tries loss) (planned_parts w j)
 
-abbrev pub fetches : Outside → World → (j tries loss : ℕ) → Member → Member
+abbrev pub fetches : Environment → World → (j tries loss : ℕ) → Member → Member
 fetches out w j tries loss m = record (gains (fetched_parts out w j tries loss) m) {
   attempts = with_each_tried (attempts_for out w j tries loss) (planned_parts w j) m.attempts;
 }
@@ -174,17 +175,17 @@ abbrev pub packets_dropped : World → ℕ → Command → ℕ
 packets_dropped w j command = length (member w j).held - length (member (after_command w j command) j).held
 
 abbrev pub check_answer : Option Process → Answer
-check_answer None = code_alone 404
-check_answer (Some p) = record (code_alone (if p.published then 200 else 300)) { inserted = Some (present p) }
+check_answer None = code_only 404
+check_answer (Some p) = record (code_only (if p.published then 200 else 300)) { inserted = Some (present p) }
 
 abbrev pub command_answer : World → ℕ → Command → Answer
 command_answer w j (Insert name first last) =
-    if can_start (member w j) then record (code_alone 100) { process = Some (member w j).next_process }
-    else code_alone 403
+    if can_start (member w j) then record (code_only 100) { process = Some (member w j).next_process }
+    else code_only 403
 command_answer w j (Check process) = check_answer (value_of nat_cmp (member w j).processes process)
 command_answer w j (Delete name) =
-    if length (catalogued_under (logs w) (member w j) name) == 0 then code_alone 404
-    else record (code_alone 200) { deleted = Some (packets_dropped w j (Delete name)) }
+    if length (catalogued_under (logs w) (member w j) name) == 0 then code_only 404
+    else record (code_only 200) { deleted = Some (packets_dropped w j (Delete name)) }
 
 abbrev pub after_order : World → ℕ → Result (ℕ × Command) ℕ → World
 after_order w j (Ok order) = after_command w j order.1
@@ -192,7 +193,7 @@ after_order w j (Err code) = w
 
 abbrev pub order_answer : World → ℕ → Result (ℕ × Command) ℕ → Answer
 order_answer w j (Ok order) = command_answer w j order.1
-order_answer w j (Err code) = code_alone code
+order_answer w j (Err code) = code_only code
 
 abbrev pub after_issue : World → ℕ → ℕ → Command → World
 after_issue w j client command =
@@ -209,13 +210,13 @@ with_process_at w j number p = with_member w j (member_with_process number p (me
 
 -- ---- draws
 
-module _ (out : Outside) where
+module _ (out : Environment) where
   -- The next draw of a member.
   abbrev pub drawn : World → ℕ → ℕ
   drawn w j = out.draw j (member w j).machine.draws
 
   abbrev pub after_publish : World → ℕ → Post → World
-  after_publish w j post = with_sync (with_member w j (publishes (drawn w j) w.moment j post (member w j))) j
+  after_publish w j post = with_sync (with_member w j (publishes (drawn w j) w.time j post (member w j))) j
 
   abbrev pub after_block : World → ℕ → ℕ → BlockState → World
   after_block w j process Unknown = w
@@ -224,17 +225,17 @@ module _ (out : Outside) where
   after_block w j process (Whole p) = after_publish (with_process_at w j process (closed p)) j (Offers (object_of p))
 
   abbrev pub after_deliver : World → ℕ → List ℕ → World
-  after_deliver w j told = record (with_member w j (learns (drawn w j) w.moment told (member w j))) {
+  after_deliver w j reported = record (with_member w j (learns (drawn w j) w.time reported (member w j))) {
     tally = record w.tally { delivered = w.tally.delivered + 1 };
   }
 
   -- Octets that are refused, or that tell too much, change nothing.
   abbrev pub after_hear : World → ℕ → Option SyncInterest → World
   after_hear w j None = w
-  after_hear w j (Some sync) = if tells_too_much w j sync then w else after_deliver w j sync.vector
+  after_hear w j (Some sync) = if reports_too_much w j sync then w else after_deliver w j sync.vector
 
   abbrev pub after_reset : World → ℕ → World
-  after_reset w j = with_member w j (resets (drawn w j) w.moment (member w j))
+  after_reset w j = with_member w j (resets (drawn w j) w.time (member w j))
 
   abbrev pub after_fire : World → ℕ → Fired → World
   after_fire w j Early = w
@@ -242,7 +243,7 @@ module _ (out : Outside) where
   after_fire w j Send = with_sync (after_reset w j) j
 
   abbrev pub after_restart : World → ℕ → World
-  after_restart w j = with_member w j (restarts (drawn w j) w.moment (member w j))
+  after_restart w j = with_member w j (restarts (drawn w j) w.time (member w j))
 
   -- A settle, but for the machines.
   abbrev pub after_gathering : World → World
@@ -257,12 +258,12 @@ module _ (out : Outside) where
   }
 
   -- The machines of the members from a member on are reset, each with its next draw.
-  abbrev pub reset_each : (moment j : ℕ) → List Member → List Member
-  reset_each moment j [] = []
-  reset_each moment j (m ∷ ms) = resets (out.draw j m.machine.draws) moment m ∷ reset_each moment (j + 1) ms
+  abbrev pub reset_each : (time j : ℕ) → List Member → List Member
+  reset_each time j [] = []
+  reset_each time j (m ∷ ms) = resets (out.draw j m.machine.draws) time m ∷ reset_each time (j + 1) ms
 
   abbrev pub after_resets : World → World
-  after_resets w = record w { members = reset_each w.moment 0 w.members }
+  after_resets w = record w { members = reset_each w.time 0 w.members }
 
   abbrev pub after_settle : World → World
   after_settle w = after_resets (after_gathering w)
@@ -283,7 +284,7 @@ module _ (out : Outside) where
   after_event w (Event.Withdraw j seq) = after_publish w j (Withdraws seq)
   after_event w (Event.Deliver k j) = after_deliver w j (sent_at w k).vector
   after_event w (Event.Sync k) = w
-  after_event w (Event.Advance ms) = record w { moment = w.moment + ms }
+  after_event w (Event.Advance ms) = record w { time = w.time + ms }
   after_event w (Event.Fire j) = after_fire w j (timer_at w j)
   after_event w (Event.Restart j) = after_restart w j
   after_event w (Event.Vector j) = w
@@ -330,20 +331,20 @@ next_sync w = length w.sent + 1
 abbrev pub all_totals : World → List CatalogueTotals
 all_totals w = map (λ j. catalogue_totals (catalogue_at w j)) (numbers_from 0 (length w.members))
 
-abbrev pub hear_outcome : Outside → World → ℕ → (read : Option SyncInterest) → HearOutcome read
+abbrev pub hear_outcome : Environment → World → ℕ → (read : Option SyncInterest) → HearOutcome read
 hear_outcome out w j None = tt
 hear_outcome out w j (Some sync) =
-    if tells_too_much w j sync then Err (length (member w j).log, slice_index sync.vector j)
+    if reports_too_much w j sync then Err (length (member w j).log, slice_index sync.vector j)
     else Ok (mode_at (after_deliver out w j sync.vector) j)
 
--- What is told of an event.
-abbrev pub outcome : Outside → World → (e : Event) → OutcomeOf e
+-- What is reported of an event.
+abbrev pub outcome : Environment → World → (e : Event) → OutcomeOf e
 outcome out w (Event.Publish j o) =
     record { seq = next_seq_at w j; segments = length o.contents; sync = next_sync w }
 outcome out w (Event.Withdraw j seq) = record { seq = next_seq_at w j; sync = next_sync w }
 outcome out w (Event.Deliver k j) = mode_at (after_deliver out w j (sent_at w k).vector) j
 outcome out w (Event.Sync k) = sent_at w k
-outcome out w (Event.Advance ms) = w.moment + ms
+outcome out w (Event.Advance ms) = w.time + ms
 outcome out w (Event.Fire j) = record { timer = timer_at w j; sync = next_sync w }
 outcome out w (Event.Restart j) = tt
 outcome out w (Event.Vector j) = (member w j).known
@@ -374,9 +375,9 @@ outcome out w Event.Traffic = record {
   octets = w.tally.octets;
 }
 
-abbrev pub reply_to : Outside → World → Event → Reply
+abbrev pub reply_to : Environment → World → Event → Reply
 reply_to out w e = reply_of e (outcome out w e)
 
-abbrev pub replies : Outside → World → List Event → List Reply
+abbrev pub replies : Environment → World → List Event → List Reply
 replies out w [] = []
 replies out w (e ∷ es) = reply_to out w e ∷ replies out (after_event out w e) es

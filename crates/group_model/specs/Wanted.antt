@@ -7,12 +7,12 @@ use Rattle.repo_plan.specs.Parts.{part_cmp, pair_of, record_of, parent}
 use Rattle.repo_plan.specs.Plan.{is_wanted, is_claimed, wanted}
 use Rattle.group_model.specs.Publications.{Logs, count, shape_at}
 use Rattle.group_model.specs.Member.{Member, member_holds, member_hides, plan_of}
-use Rattle.group_model.specs.World.{Outside, World, member, logs}
+use Rattle.group_model.specs.World.{Environment, World, member, logs}
 use Rattle.group_model.specs.Steps.{to_claim}
 use Rattle.group_model.specs.Sound.{IsKnown}
 
 -- A part that its publication has besides its record, and whose digest a held part lists: the record, or for a segment
--- behind index packets its index packet.
+-- after index packets its index packet.
 pub record IsListedByHeld (logs : Logs) (m : Member) (t : Part) : Type 0 where
   pub from_one : 1 ≤ t.part
   pub counted : t.part ≤ count logs (pair_of t)
@@ -30,7 +30,7 @@ abbrev pub HoldsRecords : Member → Type 0
 HoldsRecords m = (t : Part) → member_holds m t ≡ true → member_holds m (record_of t) ≡ true
 
 -- So does every member of the group.
-abbrev pub AllHoldRecords : Outside → World → Type 0
+abbrev pub AllHoldRecords : Environment → World → Type 0
 AllHoldRecords out w = (j : ℕ) → j < length w.members → HoldsRecords (member w j)
 
 -- The wanted parts are those.

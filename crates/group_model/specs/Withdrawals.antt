@@ -4,7 +4,7 @@ use Rattle.repo_plan.specs.Parts.{Pair}
 use Rattle.repo_object.specs.Objects.{offered, withdraws_number}
 use Rattle.group_model.specs.Publications.{Logs, post_at}
 use Rattle.group_model.specs.Events.{Event}
-use Rattle.group_model.specs.World.{Outside, World, logs, opening_world}
+use Rattle.group_model.specs.World.{Environment, World, logs, opening_world}
 use Rattle.group_model.specs.Steps.{after_event}
 use Rattle.group_model.specs.Sound.{IsPublished}
 use Rattle.group_model.specs.Refusals.{EventIsTaken}
@@ -25,8 +25,8 @@ AllWithdrawRightly logs = (pair : Pair) (seq : ℕ) → IsPublished logs pair
 
 -- So it is in a group in which nothing has happened, and it stays so after any event that is taken.
 abbrev pub BeginsRightly : Type 0
-BeginsRightly = (out : Outside) (n : ℕ) → AllWithdrawRightly (logs (opening_world out n))
+BeginsRightly = (out : Environment) (n : ℕ) → AllWithdrawRightly (logs (opening_world out n))
 
-abbrev pub StaysRightly : Outside → World → Type 0
+abbrev pub StaysRightly : Environment → World → Type 0
 StaysRightly out w = (e : Event) → EventIsTaken out w e → AllWithdrawRightly (logs w)
     → AllWithdrawRightly (logs (after_event out w e))

@@ -1,12 +1,12 @@
 ghost use Rattle.group_model.specs.Examples.{Settles, NothingHappens, Delivers, OldRepeats, PartByPart};
 ghost use Rattle.group_model.specs.Examples.{SameObjectTwice, ThreeMembers, SegmentCounts, SettleEndsClaims, Timers};
 ghost use Rattle.group_model.specs.Examples.{Fetches, ThirdAttempts, FromOutside, RestartKeepsNumbers, Insertion};
-ghost use Rattle.group_model.specs.Examples.{Blocks, DeletedBefore, ToldOfAll, JoinOfThem};
+ghost use Rattle.group_model.specs.Examples.{Blocks, DeletedBefore, InformedOfAll, JoinOfThem};
 ghost use Rattle.group_model.specs.Examples.{UnsentIsRefused, BusyIsRefused, IdleIsRefused, HearIsForeign};
 ghost use Rattle.group_model.specs.Examples.{FeedIsForeign, AnswerIsForeign, OrderIsForeign, SpentIsRefused};
 ghost use Rattle.group_model.specs.KindExamples.{WithdrawnOnce, WithdrawnBefore, WithdrawnAfter, DeletedAndWithdrawn};
 ghost use Rattle.group_model.specs.KindExamples.{WithdrawingIsSpent, JoinLessWithdrawn, PartsOfLongObjects};
-ghost use Rattle.group_model.specs.KindExamples.{BehindIndexPackets, FetchesInTurn};
+ghost use Rattle.group_model.specs.KindExamples.{AfterIndexPackets, FetchesInTurn};
 
 /// What small groups reply to events that they take, event by event, computed from the definitions.
 pub fn groups_reply_so()
@@ -27,14 +27,14 @@ pub fn groups_reply_so()
     ensures insertion { Insertion }
     ensures blocks { Blocks }
     ensures deleted_before { DeletedBefore }
-    ensures told_of_all { ToldOfAll }
+    ensures informed_of_all { InformedOfAll }
     ensures join_of_them { JoinOfThem }
     ensures withdrawn_before { WithdrawnBefore }
     ensures withdrawn_after { WithdrawnAfter }
     ensures deleted_and_withdrawn { DeletedAndWithdrawn }
     ensures join_less_withdrawn { JoinLessWithdrawn }
     ensures parts_of_long_objects { PartsOfLongObjects }
-    ensures behind_index_packets { BehindIndexPackets }
+    ensures after_index_packets { AfterIndexPackets }
     ensures fetches_in_turn { FetchesInTurn }
 {}
 

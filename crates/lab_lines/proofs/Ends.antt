@@ -4,8 +4,8 @@ use Rattle.std.proofs.Common.{inr}
 use Rattle.std.proofs.Common.{◌⊎◌}
 use Rattle.std.specs.Option.{option_map}
 use Rattle.std.proofs.KnownBytes.{Appends-trans}
-use Rattle.repo_io.specs.Outside.{GainsText, GainsFront}
-use Rattle.repo_io.proofs.Outputs.{front_behind, front_longer, front_so_far, front_whole, nothing_gained}
+use Rattle.repo_io.specs.Outside.{GainsText, GainsPrefix}
+use Rattle.repo_io.proofs.Outputs.{prefix_after, prefix_longer, prefix_so_far, prefix_whole, nothing_gained}
 use Rattle.lab_text.specs.declared.status.LabStatus.{LabStatus}
 use Rattle.lab_text.specs.declared.status.LabStatus.TheVariants.{Done, Usage, Refused, ReadFault, WriteFault, NoMemory}
 use Rattle.lab_text.specs.declared.status.LabStatus.TheVariants.{Foreign, Differs}
@@ -64,8 +64,8 @@ pub ends_after : (o whole : Outcome) (a b d : Option (List ℕ)) (text : List �
 ends_after o whole a b d text status texts same gained ends = record {
   same = λ end. ends.same end ∙ sym same;
   text = λ end. subst (GainsText a d) (sym texts) (Appends-trans a b d text o.text gained (ends.text end));
-  prefix = let P : List ℕ → Type 0 = λ t. GainsFront a d t (status ≡ WriteFault) in
-      subst P (sym texts) (front_behind a b d text o.text gained ends.prefix);
+  prefix = let P : List ℕ → Type 0 = λ t. GainsPrefix a d t (status ≡ WriteFault) in
+      subst P (sym texts) (prefix_after a b d text o.text gained ends.prefix);
 }
 
 -- a text was gained, and then no more, with no end
@@ -75,12 +75,12 @@ pub ends_so_far : (whole : Outcome) (a b : Option (List ℕ)) (text more : List 
 ends_so_far whole a b text more status texts no_end whole_text gained = record {
   same = λ end. absurd (no_end end);
   text = λ end. absurd (no_end end);
-  prefix = front_so_far a b text more whole.text texts (λ e. absurd (whole_text e)) gained;
+  prefix = prefix_so_far a b text more whole.text texts (λ e. absurd (whole_text e)) gained;
 }
 
 -- no more than a prefix was gained
 pub ends_short : (whole : Outcome) (a b : Option (List ℕ)) (status : LabStatus) → IsFailing status
-    → GainsFront a b whole.text (status ≡ WriteFault) → Ends whole a b status
+    → GainsPrefix a b whole.text (status ≡ WriteFault) → Ends whole a b status
 ends_short whole a b status failing prefix = record {
   same = λ end. absurd (failing_no_end status failing end);
   text = λ end. absurd (failing_no_end status failing end);
@@ -138,5 +138,5 @@ unwritten None a = record { end = λ e. tt; text = λ e. tt; prefix = tt }
 unwritten (Some it) a = record {
   end = λ e. absurd e;
   text = λ e. absurd e;
-  prefix = front_longer a a [] it.text (front_whole a a [] (λ e. cc) (nothing_gained a));
+  prefix = prefix_longer a a [] it.text (prefix_whole a a [] (λ e. cc) (nothing_gained a));
 }

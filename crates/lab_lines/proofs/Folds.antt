@@ -2,17 +2,17 @@
 use Rattle.std.proofs.Common.{◌≡◌, ◌≢◌, ℕ, ◌+◌, true, false, List, [], ◌∷◌, ◌++◌, length, Option, Some, refl, sym, ap}
 use Rattle.std.proofs.Common.{subst}
 use Rattle.std.proofs.Common.{◌∙◌}
-use Rattle.repo_io.specs.Outside.{GainsText, GainsFront}
-use Rattle.repo_io.proofs.Outputs.{front_longer, front_whole, nothing_gained}
+use Rattle.repo_io.specs.Outside.{GainsText, GainsPrefix}
+use Rattle.repo_io.proofs.Outputs.{prefix_longer, prefix_whole, nothing_gained}
 use Rattle.script_report.specs.declared.refusal.Refusal.TheVariants.{Limit}
 use Rattle.script_report.specs.Refusals.{refusal_number}
 use Rattle.script_story.specs.declared.ending.Ending.{Ending}
 use Rattle.script_story.specs.declared.ending.Ending.TheVariants as an_ending
-use Rattle.script_story.specs.Judging.{Given, State, Verdict, foreign, refused, says}
-use Rattle.script_story.specs.Story.{Reached, judged_next, reached_behind}
-use Rattle.script_lines.specs.declared.stop.Stop.{Stop}
-use Rattle.script_lines.specs.declared.stop.Stop.TheVariants as stop
-use Rattle.script_lines.specs.Progressing.{IsStop}
+use Rattle.script_story.specs.Judging.{RunEnvironment, State, Verdict, foreign, refused, says}
+use Rattle.script_story.specs.Story.{Reached, judged_next, reached_after}
+use Rattle.script_lines.specs.declared.error.LineError.{LineError}
+use Rattle.script_lines.specs.declared.error.LineError.TheVariants as error
+use Rattle.script_lines.specs.RunStates.{IsLineError}
 use Rattle.lab_text.specs.declared.status.LabStatus.{LabStatus}
 use Rattle.lab_text.specs.declared.status.LabStatus.TheVariants.{NoMemory, WriteFault}
 use Rattle.lab_text.specs.Notes.{is_note}
@@ -35,74 +35,75 @@ same_passed a b lines octets reached =
     ap by_lines lines ∙ ap by_octets octets ∙ ap by_reached reached
 
 -- the script stops at a line, of which so much is reported
-pub record StopsSo {M : Type 0} (f : FormOf M) (given : Given) (p : Passed) (m : M) (line : List ℕ) (why : Stop)
+pub record StopsSo {M : Type 0} (f : FormOf M) (env : RunEnvironment) (p : Passed) (m : M) (line : List ℕ)
+    (why : LineError)
     : Type 0 where
   pub ending : Ending
   pub not_done : ending ≢ an_ending.Done
-  pub goes : (others : List (List ℕ)) → ran_from f given p m (line ∷ others)
+  pub goes : (others : List (List ℕ)) → ran_from f env p m (line ∷ others)
       ≡ stops f p m line others (stopping_at (p.reached.lines + 1) line why) ending
   pub only : (other : Ending) → IsEndingOf (p.reached.lines + 1) why other → other ≡ ending
 
-module _ {M : Type 0} (f : FormOf M) (given : Given) (p : Passed) (m : M) where
-  pub no_lines : ran_from f given p m [] ≡ ran [] m an_ending.Done p.lines
+module _ {M : Type 0} (f : FormOf M) (env : RunEnvironment) (p : Passed) (m : M) where
+  pub no_lines : ran_from f env p m [] ≡ ran [] m an_ending.Done p.lines
   unfolding ran_from
   no_lines = refl
 
   module _ (line : List ℕ) where
     then_others : List (List ℕ) → Passed → M → Ran M
-    then_others others q n = ran_from f given q n others
+    then_others others q n = ran_from f env q n others
 
-    one_line : (others : List (List ℕ)) → ran_from f given p m (line ∷ others)
-        ≡ ran_line f (then_others others) p m line others (next_line given p line)
+    one_line : (others : List (List ℕ)) → ran_from f env p m (line ∷ others)
+        ≡ ran_line f (then_others others) p m line others (next_line env p line)
     unfolding ran_from then_others
     one_line others = refl
 
-    pub by_next : (next : NextLine) → next_line given p line ≡ next → (others : List (List ℕ))
-        → ran_from f given p m (line ∷ others)
-        ≡ ran_line f (λ (q : Passed) (n : M). ran_from f given q n others) p m line others next
+    pub by_next : (next : NextLine) → next_line env p line ≡ next → (others : List (List ℕ))
+        → ran_from f env p m (line ∷ others)
+        ≡ ran_line f (λ (q : Passed) (n : M). ran_from f env q n others) p m line others next
     unfolding then_others
     by_next next e others =
         let go : NextLine → Ran M = λ x.
-        ran_line f (λ (q : Passed) (n : M). ran_from f given q n others) p m line others x in
+        ran_line f (λ (q : Passed) (n : M). ran_from f env q n others) p m line others x in
         one_line others ∙ ap go e
 
     -- ---- what the next line is
 
-    pub noted_line : fits p.lines p.octets line ≡ true → is_note line ≡ true → next_line given p line ≡ noted
+    pub noted_line : fits p.lines p.octets line ≡ true → is_note line ≡ true → next_line env p line ≡ noted
     noted_line fit note = rw (fit, note) refl
 
     pub judged_line : fits p.lines p.octets line ≡ true → is_note line ≡ false
-        → next_line given p line ≡ scripted (judged_next given p.reached line)
+        → next_line env p line ≡ scripted (judged_next env p.reached line)
     judged_line fit note = rw (fit, note) refl
 
-    pub line_beyond : fits p.lines p.octets line ≡ false → next_line given p line ≡ scripted (refused Limit)
+    pub line_beyond : fits p.lines p.octets line ≡ false → next_line env p line ≡ scripted (refused Limit)
     line_beyond fit = rw fit refl
 
     -- ---- it is passed
 
-    pub passes_note : next_line given p line ≡ noted → (q : Passed) (n : M) (a : Option (List ℕ))
-        → q ≡ after_note p line → n ≡ f.note m line → Passes f given p m line q n a a
+    pub passes_note : next_line env p line ≡ noted → (q : Passed) (n : M) (a : Option (List ℕ))
+        → q ≡ after_note p line → n ≡ f.note m line → Passes f env p m line q n a a
     passes_note next q n a passed kept = record {
       text = [];
       goes = λ others.
-          let by_passed : Passed → Ran M = λ x. ran_from f given x (f.note m line) others in
-          let by_form : M → Ran M = λ x. ran_from f given q x others in
+          let by_passed : Passed → Ran M = λ x. ran_from f env x (f.note m line) others in
+          let by_form : M → Ran M = λ x. ran_from f env q x others in
           by_next noted next others ∙ ap by_passed (sym passed) ∙ ap by_form (sym kept);
       count = ap (λ (x : Passed). x.lines) passed;
       gained = nothing_gained a;
     }
 
-    module _ (report : List ℕ) (next : State) (e : next_line given p line ≡ scripted (says report next)) where
+    module _ (report : List ℕ) (next : State) (e : next_line env p line ≡ scripted (says report next)) where
       pub passes_taken : (q : Passed) (n : M) (a b : Option (List ℕ)) → q ≡ after_line p line report next
           → n ≡ f.line m (taken_line p line report next) → GainsText a b (f.text m (taken_line p line report next))
-          → Passes f given p m line q n a b
+          → Passes f env p m line q n a b
       passes_taken q n a b passed kept gained = record {
         text = f.text m (taken_line p line report next);
         goes = λ others.
             let text = f.text m (taken_line p line report next) in
             let by_passed : Passed → Ran M = λ x.
-            with_text text (ran_from f given x (f.line m (taken_line p line report next)) others) in
-            let by_form : M → Ran M = λ x. with_text text (ran_from f given q x others) in
+            with_text text (ran_from f env x (f.line m (taken_line p line report next)) others) in
+            let by_form : M → Ran M = λ x. with_text text (ran_from f env q x others) in
             by_next (scripted (says report next)) e others ∙ ap by_passed (sym passed) ∙ ap by_form (sym kept);
         count = ap (λ (x : Passed). x.lines) passed;
         gained = gained;
@@ -110,49 +111,50 @@ module _ {M : Type 0} (f : FormOf M) (given : Given) (p : Passed) (m : M) where
 
       -- what the form writes of it was not written whole
       pub fails_taken : (a b : Option (List ℕ)) (status : LabStatus)
-          → FallsShort (f.text m (taken_line p line report next)) a b status → Fails f given p m line a b status
+          → FallsShort (f.text m (taken_line p line report next)) a b status → Fails f env p m line a b status
       fails_taken a b status short = record {
         failing = short.failing;
         prefix = λ others.
             let text = f.text m (taken_line p line report next) in
-            let after = ran_from f given (after_line p line report next) (f.line m (taken_line p line report next))
+            let after = ran_from f env (after_line p line report next) (f.line m (taken_line p line report next))
             others in
-            let is : (ran_from f given p m (line ∷ others)).text ≡ text ++ after.text =
+            let is : (ran_from f env p m (line ∷ others)).text ≡ text ++ after.text =
             ap (λ (x : Ran M). x.text) (by_next (scripted (says report next)) e others) in
-            let P : List ℕ → Type 0 = λ t. GainsFront a b t (status ≡ WriteFault) in
-            subst P (sym is) (front_longer a b text after.text short.prefix);
+            let P : List ℕ → Type 0 = λ t. GainsPrefix a b t (status ≡ WriteFault) in
+            subst P (sym is) (prefix_longer a b text after.text short.prefix);
       }
 
     -- nothing was written
-    pub fails_nothing : (a : Option (List ℕ)) → Fails f given p m line a a NoMemory
+    pub fails_nothing : (a : Option (List ℕ)) → Fails f env p m line a a NoMemory
     fails_nothing a = record {
       failing = tt;
-      prefix = λ others. front_longer a a [] (ran_from f given p m (line ∷ others)).text
-          (front_whole a a [] (λ e. cc) (nothing_gained a));
+      prefix = λ others. prefix_longer a a [] (ran_from f env p m (line ∷ others)).text
+          (prefix_whole a a [] (λ e. cc) (nothing_gained a));
     }
 
     -- ---- the script stops at it
 
-    pub stops_so : (why : Stop) (verdict : Verdict) → next_line given p line ≡ scripted verdict → IsStop verdict why
-        → why ≢ stop.NoMemory → StopsSo f given p m line why
-    stops_so (stop.Refused why) verdict e is some = record {
+    pub stops_so : (why : LineError) (verdict : Verdict) → next_line env p line ≡ scripted verdict
+        → IsLineError verdict why
+        → why ≢ error.NoMemory → StopsSo f env p m line why
+    stops_so (error.Refused why) verdict e is some = record {
       ending = an_ending.Refused (p.reached.lines + 1) (refusal_number why);
       not_done = λ h. cc;
       goes = by_next (scripted (refused why)) (e ∙ ap (λ (v : Verdict). scripted v) is);
       only = λ other h. h;
     }
-    stops_so stop.Foreign verdict e is some = record {
+    stops_so error.Foreign verdict e is some = record {
       ending = an_ending.Foreign (p.reached.lines + 1);
       not_done = λ h. cc;
       goes = by_next (scripted foreign) (e ∙ ap (λ (v : Verdict). scripted v) is);
       only = λ other h. h;
     }
-    stops_so stop.NoMemory verdict e is some = absurd (some refl)
+    stops_so error.NoMemory verdict e is some = absurd (some refl)
 
-    module _ (why : Stop) (so : StopsSo f given p m line why) (totals : Totals) (lines : totals.lines ≡ p.lines + 1)
+    module _ (why : LineError) (so : StopsSo f env p m line why) (totals : Totals) (lines : totals.lines ≡ p.lines + 1)
         (octets : totals.octets ≡ p.octets + length line) (n : M) (a b : Option (List ℕ)) where
       halts_at : (end : Ending) → TakesStop f (p.reached.lines + 1) line why m n a b end
-          → Halts f given p m line end totals n a b
+          → Halts f env p m line end totals n a b
       halts_at end t = record {
         text = f.text m (stopping_at (p.reached.lines + 1) line why);
         lines = lines;
@@ -175,73 +177,75 @@ module _ {M : Type 0} (f : FormOf M) (given : Given) (p : Passed) (m : M) where
       }
 
       fails_at : (status : LabStatus) → FallsShort (f.text m (stopping_at (p.reached.lines + 1) line why)) a b status
-          → Fails f given p m line a b status
+          → Fails f env p m line a b status
       fails_at status short = record {
         failing = short.failing;
         prefix = λ others.
             let text = f.text m (stopping_at (p.reached.lines + 1) line why) in
-            let is : (ran_from f given p m (line ∷ others)).text ≡ text = ap (λ (x : Ran M). x.text) (so.goes others) in
-            let P : List ℕ → Type 0 = λ t. GainsFront a b t (status ≡ WriteFault) in
+            let is : (ran_from f env p m (line ∷ others)).text ≡ text = ap (λ (x : Ran M). x.text) (so.goes others) in
+            let P : List ℕ → Type 0 = λ t. GainsPrefix a b t (status ≡ WriteFault) in
             subst P (sym is) short.prefix;
       }
 
       over_at : (over : Over) → IsStopWritten f (p.reached.lines + 1) line why m n a b over
-          → IsOver f given p m line totals n a b over
+          → IsOver f env p m line totals n a b over
       over_at (Stopped end) t = halts_at end t
       over_at (Faulted status) short = fails_at status short
 
       pub over_stop : (number : ℕ) → number ≡ p.reached.lines + 1 → (over : Over)
-          → IsStopWritten f number line why m n a b over → IsOver f given p m line totals n a b over
+          → IsStopWritten f number line why m n a b over → IsOver f env p m line totals n a b over
       over_stop number is over written =
           let P : ℕ → Type 0 = λ k. IsStopWritten f k line why m n a b over in over_at over (subst P is written)
 
     -- or memory ran out before that
-    pub over_stopped : (why : Stop) (verdict : Verdict) → next_line given p line ≡ scripted verdict → IsStop verdict why
+    pub over_stopped : (why : LineError) (verdict : Verdict) → next_line env p line ≡ scripted verdict
+        → IsLineError verdict why
         → (totals : Totals) → totals.lines ≡ p.lines + 1 → totals.octets ≡ p.octets + length line → (n : M)
         → (a b : Option (List ℕ)) → (number : ℕ) → number ≡ p.reached.lines + 1 → (over : Over)
         → IsStopWritten f number line why m n a b over
-        → (why ≡ stop.NoMemory → (over ≡ Faulted NoMemory) × (b ≡ a)) → IsOver f given p m line totals n a b over
-    over_stopped (stop.Refused why) verdict e is totals lines octets n a b number same over written none =
-        over_stop (stop.Refused why) (stops_so (stop.Refused why) verdict e is (λ h. cc)) totals lines octets n a b
+        → (why ≡ error.NoMemory → (over ≡ Faulted NoMemory) × (b ≡ a)) → IsOver f env p m line totals n a b over
+    over_stopped (error.Refused why) verdict e is totals lines octets n a b number same over written none =
+        over_stop (error.Refused why) (stops_so (error.Refused why) verdict e is (λ h. cc)) totals lines octets n a b
         number same over written
-    over_stopped stop.Foreign verdict e is totals lines octets n a b number same over written none =
-        over_stop stop.Foreign (stops_so stop.Foreign verdict e is (λ h. cc)) totals lines octets n a b number same over
+    over_stopped error.Foreign verdict e is totals lines octets n a b number same over written none =
+        over_stop error.Foreign (stops_so error.Foreign verdict e is (λ h. cc)) totals lines octets n a b number same
+        over
         written
-    over_stopped stop.NoMemory verdict e is totals lines octets n a b number same over written none =
+    over_stopped error.NoMemory verdict e is totals lines octets n a b number same over written none =
         let nothing = none refl in
-        let P : Over → Type 0 = λ x. IsOver f given p m line totals n a b x in
-        let Q : Option (List ℕ) → Type 0 = λ x. Fails f given p m line a x NoMemory in
+        let P : Over → Type 0 = λ x. IsOver f env p m line totals n a b x in
+        let Q : Option (List ℕ) → Type 0 = λ x. Fails f env p m line a x NoMemory in
         subst P (sym nothing.0) (subst Q (sym nothing.1) (fails_nothing a))
 
     -- ---- what is reported of it
 
     module _ (fit : fits p.lines p.octets line ≡ true) (other : is_note line ≡ false) (report : List ℕ) (next : State)
-        (taken : judged_next given p.reached line ≡ says report next) (number : ℕ)
+        (taken : judged_next env p.reached line ≡ says report next) (number : ℕ)
         (same : number ≡ p.reached.lines + 1) where
-      said : next_line given p line ≡ scripted (says report next)
-      said = judged_line fit other ∙ ap (λ (v : Verdict). scripted v) taken
+      stated : next_line env p line ≡ scripted (says report next)
+      stated = judged_line fit other ∙ ap (λ (v : Verdict). scripted v) taken
 
       at_is : lined number (shown_text line) report (Some next) ≡ taken_line p line report next
       at_is = ap (λ (k : ℕ). lined k (shown_text line) report (Some next)) same
 
-      pub passes_said : (q : Passed) (n : M) (a b : Option (List ℕ)) → q.lines ≡ p.lines + 1
-          → q.octets ≡ p.octets + length line → q.reached ≡ reached_behind p.reached line report next
+      pub passes_stated : (q : Passed) (n : M) (a b : Option (List ℕ)) → q.lines ≡ p.lines + 1
+          → q.octets ≡ p.octets + length line → q.reached ≡ reached_after p.reached line report next
           → n ≡ f.line m (lined number (shown_text line) report (Some next))
           → GainsText a b (f.text m (lined number (shown_text line) report (Some next)))
-          → Passes f given p m line q n a b
-      passes_said q n a b lines octets reached kept gained =
+          → Passes f env p m line q n a b
+      passes_stated q n a b lines octets reached kept gained =
           let P : Lined → Type 0 = λ at. GainsText a b (f.text m at) in
-          passes_taken report next said q n a b (same_passed q (after_line p line report next) lines octets reached)
+          passes_taken report next stated q n a b (same_passed q (after_line p line report next) lines octets reached)
           (kept ∙ ap (f.line m) at_is) (subst P at_is gained)
 
-      pub fails_said : (a b : Option (List ℕ)) (status : LabStatus)
+      pub fails_stated : (a b : Option (List ℕ)) (status : LabStatus)
           → FallsShort (f.text m (lined number (shown_text line) report (Some next))) a b status
-          → Fails f given p m line a b status
-      fails_said a b status short =
+          → Fails f env p m line a b status
+      fails_stated a b status short =
           let P : Lined → Type 0 = λ at. FallsShort (f.text m at) a b status in
-          fails_taken report next said a b status (subst P at_is short)
+          fails_taken report next stated a b status (subst P at_is short)
 
-pub no_ending : (number : ℕ) (why : Stop) (end : Ending) → IsEndingOf number why end → why ≡ stop.NoMemory → ⊥
-no_ending number (stop.Refused why) end is e = cc
-no_ending number stop.Foreign end is e = cc
-no_ending number stop.NoMemory end is e = is
+pub no_ending : (number : ℕ) (why : LineError) (end : Ending) → IsEndingOf number why end → why ≡ error.NoMemory → ⊥
+no_ending number (error.Refused why) end is e = cc
+no_ending number error.Foreign end is e = cc
+no_ending number error.NoMemory end is e = is

@@ -24,29 +24,29 @@ use Rattle.lab_lines.specs.Written.{can_be_judged}
 one_free : (octet : ℕ) → eqb octet 10 ≡ false → has_feed (octet ∷ []) ≡ false
 one_free octet other = rw other refl
 
-pub free_joined : (front more : List ℕ) → has_feed front ≡ false → has_feed more ≡ false
-    → has_feed (front ++ more) ≡ false
-free_joined front more free others =
-    list_any-append (λ octet. eqb octet 10) front more ∙ rw (free, others) refl
+pub free_joined : (prefix more : List ℕ) → has_feed prefix ≡ false → has_feed more ≡ false
+    → has_feed (prefix ++ more) ≡ false
+free_joined prefix more free others =
+    list_any-append (λ octet. eqb octet 10) prefix more ∙ rw (free, others) refl
 
 -- the first line begins with octets that have no line feed, and goes on up to the next one
-pub first_of : (front more : List ℕ) → front ≢ [] → has_feed front ≡ false
-    → lines (front ++ more) ≡ (front ++ through_feed more) ∷ lines (after_feed more)
+pub first_of : (prefix more : List ℕ) → prefix ≢ [] → has_feed prefix ≡ false
+    → lines (prefix ++ more) ≡ (prefix ++ through_feed more) ∷ lines (after_feed more)
 unfolding lines through_feed after_feed
-first_of front [] some free =
-    let all : front ++ [] ≡ front = append-nil front in
-    rw all (open_line front some free)
-first_of front (octet ∷ octets) some free = elim (cases_Bool (eqb octet 10)) [
+first_of prefix [] some free =
+    let all : prefix ++ [] ≡ prefix = append-nil prefix in
+    rw all (open_line prefix some free)
+first_of prefix (octet ∷ octets) some free = elim (cases_Bool (eqb octet 10)) [
   | inl feed ↦
       let is : octet ≡ 10 = eqb-true octet 10 feed in
-      rw (feed, is) (first_line front octets free)
+      rw (feed, is) (first_line prefix octets free)
   | inr other ↦
-      let more : front ++ (octet ∷ []) ≢ [] = λ e. let none = ap length e in
-      omega (arith, none, length-append front (octet ∷ [])) in
-      let so_far = first_of (front ++ octet ∷ []) octets more
-      (free_joined front (octet ∷ []) free (one_free octet other)) in
-      rw other (ap lines (sym (append_assoc front (octet ∷ []) octets)) ∙ so_far
-      ∙ ap (λ (t : List ℕ). t ∷ lines (after_feed octets)) (append_assoc front (octet ∷ []) (through_feed octets)))
+      let more : prefix ++ (octet ∷ []) ≢ [] = λ e. let none = ap length e in
+      omega (arith, none, length-append prefix (octet ∷ [])) in
+      let so_far = first_of (prefix ++ octet ∷ []) octets more
+      (free_joined prefix (octet ∷ []) free (one_free octet other)) in
+      rw other (ap lines (sym (append_assoc prefix (octet ∷ []) octets)) ∙ so_far
+      ∙ ap (λ (t : List ℕ). t ∷ lines (after_feed octets)) (append_assoc prefix (octet ∷ []) (through_feed octets)))
 ]
 
 -- octets and what follows their first line feed
@@ -59,8 +59,8 @@ feed_parts (octet ∷ octets) = elim (cases_Bool (eqb octet 10)) [
 ]
 
 -- octets without a line feed are passed first
-pub free_cut : (front more : List ℕ) → has_feed front ≡ false
-    → (through_feed (front ++ more) ≡ front ++ through_feed more) × (after_feed (front ++ more) ≡ after_feed more)
+pub free_cut : (prefix more : List ℕ) → has_feed prefix ≡ false
+    → (through_feed (prefix ++ more) ≡ prefix ++ through_feed more) × (after_feed (prefix ++ more) ≡ after_feed more)
 unfolding through_feed after_feed
 free_cut [] more free = (refl, refl)
 free_cut (octet ∷ octets) more free =
@@ -73,9 +73,9 @@ pub whole_cut : (line more : List ℕ) → IsWhole line
     → (through_feed (line ++ more) ≡ line) × (after_feed (line ++ more) ≡ more)
 unfolding through_feed after_feed
 whole_cut line more w =
-    let parts : line ++ more ≡ w.front ++ 10 ∷ more =
-    ap (λ (t : List ℕ). t ++ more) w.is ∙ append_assoc w.front (10 ∷ []) more in
-    let cut = free_cut w.front (10 ∷ more) w.free in
+    let parts : line ++ more ≡ w.prefix ++ 10 ∷ more =
+    ap (λ (t : List ℕ). t ++ more) w.is ∙ append_assoc w.prefix (10 ∷ []) more in
+    let cut = free_cut w.prefix (10 ∷ more) w.free in
     (ap through_feed parts ∙ cut.0 ∙ sym w.is, ap after_feed parts ∙ cut.1)
 
 -- octets without a line feed are passed to their end
@@ -99,73 +99,74 @@ not_ended (b ∷ bs) free = elim (cases_Bool (eqb (get_or (b ∷ bs) (length (b 
 ]
 
 -- what is left of octets without their line feed has those that have none for a prefix
-pub record WithoutFeed (front more : List ℕ) : Type 0 where
+pub record WithoutFeed (prefix more : List ℕ) : Type 0 where
   pub rest : List ℕ
-  pub is : without_feed (front ++ more) ≡ front ++ rest
+  pub is : without_feed (prefix ++ more) ≡ prefix ++ rest
 
-pub feed_taken : (front more : List ℕ) → has_feed front ≡ false → WithoutFeed front more
-feed_taken front [] free = record {
+pub feed_taken : (prefix more : List ℕ) → has_feed prefix ≡ false → WithoutFeed prefix more
+feed_taken prefix [] free = record {
   rest = [];
   is =
-      let all : front ++ [] ≡ front = append-nil front in
-      rw (all, not_ended front free) refl;
+      let all : prefix ++ [] ≡ prefix = append-nil prefix in
+      rw (all, not_ended prefix free) refl;
 }
-feed_taken front (b ∷ bs) free = elim (cases_Bool (ends_with 10 (front ++ b ∷ bs))) [
+feed_taken prefix (b ∷ bs) free = elim (cases_Bool (ends_with 10 (prefix ++ b ∷ bs))) [
   | inl ended ↦ record {
     rest = take (length (b ∷ bs) - 1) (b ∷ bs);
     is =
-        let size : length (front ++ b ∷ bs) - 1 ≡ length front + (length (b ∷ bs) - 1) =
-        omega (arith, length-append front (b ∷ bs)) in
-        rw ended (ap (λ (n : ℕ). take n (front ++ b ∷ bs)) size ∙ take-append-add front (b ∷ bs) (length (b ∷ bs) - 1));
+        let size : length (prefix ++ b ∷ bs) - 1 ≡ length prefix + (length (b ∷ bs) - 1) =
+        omega (arith, length-append prefix (b ∷ bs)) in
+        rw ended (ap (λ (n : ℕ). take n (prefix ++ b ∷ bs)) size
+        ∙ take-append-add prefix (b ∷ bs) (length (b ∷ bs) - 1));
   }
   | inr open_ ↦ record { rest = b ∷ bs; is = rw open_ refl }
 ]
 
 -- ---- a line that is too long
 
-module _ (front : List ℕ) (long : IsTooLong front) where
-  pub long_some : front ≢ []
+module _ (prefix : List ℕ) (long : IsTooLong prefix) where
+  pub long_some : prefix ≢ []
   long_some e = let none = ap length e in omega (arith, none, long.long)
 
   -- it is beyond the limits, whatever follows,
-  pub long_beyond : (passed octets : ℕ) (more : List ℕ) → fits passed octets (front ++ more) ≡ false
+  pub long_beyond : (passed octets : ℕ) (more : List ℕ) → fits passed octets (prefix ++ more) ≡ false
   long_beyond passed octets more =
-      let t = feed_taken front more long.free in
-      let test : leb (length (without_feed (front ++ more))) 32768 ≡ false =
-      lt-leb (length (without_feed (front ++ more))) 32768
-      (omega (arith, ap length t.is, length-append front t.rest, long.long)) in
-      let small = leb (octets + length (front ++ more)) 300000000 in
-      let short = leb (length (without_feed (front ++ more))) 32768 in
+      let t = feed_taken prefix more long.free in
+      let test : leb (length (without_feed (prefix ++ more))) 32768 ≡ false =
+      lt-leb (length (without_feed (prefix ++ more))) 32768
+      (omega (arith, ap length t.is, length-append prefix t.rest, long.long)) in
+      let small = leb (octets + length (prefix ++ more)) 300000000 in
+      let short = leb (length (without_feed (prefix ++ more))) 32768 in
       and_right (ltb passed 1000000) (small && short) (and_right small short test)
 
   -- shown alike,
-  pub long_shown : (more : List ℕ) → shown_text (front ++ more) ≡ shown_text front
+  pub long_shown : (more : List ℕ) → shown_text (prefix ++ more) ≡ shown_text prefix
   long_shown more =
-      let t = feed_taken front more long.free in
-      let size : 32769 ≤ length front = omega (arith, long.long) in
-      ap (take 32769) t.is ∙ take-append-le 32769 front t.rest size
-      ∙ sym (ap (take 32769) (rw (not_ended front long.free) refl))
+      let t = feed_taken prefix more long.free in
+      let size : 32769 ≤ length prefix = omega (arith, long.long) in
+      ap (take 32769) t.is ∙ take-append-le 32769 prefix t.rest size
+      ∙ sym (ap (take 32769) (rw (not_ended prefix long.free) refl))
 
   -- and judged
-  pub long_judged : (more : List ℕ) → can_be_judged (front ++ more) ≡ true
-  long_judged more = or_right (has_feed (front ++ more)) (ltb 32768 (length (front ++ more)))
-      (lt-ltb 32768 (length (front ++ more)) (omega (arith, length-append front more, long.long)))
+  pub long_judged : (more : List ℕ) → can_be_judged (prefix ++ more) ≡ true
+  long_judged more = or_right (has_feed (prefix ++ more)) (ltb 32768 (length (prefix ++ more)))
+      (lt-ltb 32768 (length (prefix ++ more)) (omega (arith, length-append prefix more, long.long)))
 
 pub whole_judged : (line : List ℕ) → IsWhole line → can_be_judged line ≡ true
 whole_judged line w = or_left (has_feed line) (ltb 32768 (length line))
-    (ap has_feed w.is ∙ list_any-append (λ octet. eqb octet 10) w.front (10 ∷ [])
-    ∙ or_right (has_feed w.front) true refl)
+    (ap has_feed w.is ∙ list_any-append (λ octet. eqb octet 10) w.prefix (10 ∷ [])
+    ∙ or_right (has_feed w.prefix) true refl)
 
 -- a whole line ends with its line feed
 pub whole_ended : (line : List ℕ) → IsWhole line → ends_with 10 line ≡ true
-whole_ended line w = rw w.is (ended w.front) where
-  ended : (front : List ℕ) → ends_with 10 (front ++ 10 ∷ []) ≡ true
-  ended front =
-      let at : length (front ++ 10 ∷ []) - 1 ≡ length front = omega (arith, length-append front (10 ∷ [])) in
-      let last : get_or (front ++ 10 ∷ []) (length (front ++ 10 ∷ []) - 1) 0 ≡ 10 =
-      ap (λ (i : ℕ). get_or (front ++ 10 ∷ []) i 0) at ∙ get_or-append_seam front 10 [] 0 in
-      let some : eqb (length (front ++ 10 ∷ [])) 0 ≡ false =
-      ne_eqb (length (front ++ 10 ∷ [])) 0 (λ e. omega (arith, e, length-append front (10 ∷ []))) in
-      and_from (not (eqb (length (front ++ 10 ∷ [])) 0))
-      (eqb (get_or (front ++ 10 ∷ []) (length (front ++ 10 ∷ []) - 1) 0) 10)
+whole_ended line w = rw w.is (ended w.prefix) where
+  ended : (prefix : List ℕ) → ends_with 10 (prefix ++ 10 ∷ []) ≡ true
+  ended prefix =
+      let at : length (prefix ++ 10 ∷ []) - 1 ≡ length prefix = omega (arith, length-append prefix (10 ∷ [])) in
+      let last : get_or (prefix ++ 10 ∷ []) (length (prefix ++ 10 ∷ []) - 1) 0 ≡ 10 =
+      ap (λ (i : ℕ). get_or (prefix ++ 10 ∷ []) i 0) at ∙ get_or-append_seam prefix 10 [] 0 in
+      let some : eqb (length (prefix ++ 10 ∷ [])) 0 ≡ false =
+      ne_eqb (length (prefix ++ 10 ∷ [])) 0 (λ e. omega (arith, e, length-append prefix (10 ∷ []))) in
+      and_from (not (eqb (length (prefix ++ 10 ∷ [])) 0))
+      (eqb (get_or (prefix ++ 10 ∷ []) (length (prefix ++ 10 ∷ []) - 1) 0) 10)
       (ap not some) (ap (λ (b : ℕ). eqb b 10) last)

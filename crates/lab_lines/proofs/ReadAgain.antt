@@ -15,8 +15,8 @@ use Rattle.script_report.specs.Texts.{foreign_text}
 use Rattle.script_report.specs.declared.refusal.Refusal.TheVariants.{Limit}
 use Rattle.script_story.specs.declared.ending.Ending.{Ending}
 use Rattle.script_story.specs.declared.ending.Ending.TheVariants as an_ending
-use Rattle.script_story.specs.Judging.{Given, State, Verdict, foreign, refused, says, unjudged}
-use Rattle.script_story.specs.Story.{Reached, judged_next, reached_behind}
+use Rattle.script_story.specs.Judging.{RunEnvironment, State, Verdict, foreign, refused, says, unjudged}
+use Rattle.script_story.specs.Story.{Reached, judged_next, reached_after}
 use Rattle.lab_text.specs.LineTexts.{is_one_line, line_texts, without_feed}
 use Rattle.lab_text.specs.Notes.{is_note}
 use Rattle.lab_text.specs.Transcripts.{line_with_report, report_note, shown_line, shown_text}
@@ -120,16 +120,16 @@ after_them q (t ∷ ts) ls room notes =
     (room_more q.lines q.octets (report_note t) others room) (notes_more (report_note t) others notes) in
     record { same = rest.same; room = rest.room; notes = rest.notes }
 
-module _ {M : Type 0} (g : FormOf M) (given : Given) where
+module _ {M : Type 0} (g : FormOf M) (env : RunEnvironment) where
   notes_pass : (q : Passed) (n : M) (ts ls : List (List ℕ)) → Room q.lines q.octets (map report_note ts ++ ls)
-      → notes_fit (map report_note ts ++ ls) ≡ true → ran_from g given q n (map report_note ts ++ ls)
-      ≡ ran_from g given (passed_notes q ts) (with_notes g n ts) ls
+      → notes_fit (map report_note ts ++ ls) ≡ true → ran_from g env q n (map report_note ts ++ ls)
+      ≡ ran_from g env (passed_notes q ts) (with_notes g n ts) ls
   unfolding passed_notes with_notes
   notes_pass q n [] ls room notes = refl
   notes_pass q n (t ∷ ts) ls room notes =
       let others = map report_note ts ++ ls in
       let fit = note_fits q.lines q.octets (report_note t) others room notes (is_a_note t) in
-      by_next g given q n (report_note t) noted (noted_line g given q n (report_note t) fit (is_a_note t)) others
+      by_next g env q n (report_note t) noted (noted_line g env q n (report_note t) fit (is_a_note t)) others
       ∙ notes_pass (after_note q (report_note t)) (g.note n (report_note t)) ts ls
       (room_more q.lines q.octets (report_note t) others room) (notes_more (report_note t) others notes)
 
@@ -163,8 +163,8 @@ pub data AreWhole : List (List ℕ) → Type 0 where
   none_whole : AreWhole []
   one_whole : (line : List ℕ) (ls : List (List ℕ)) → IsWhole line → AreWhole ls → AreWhole (line ∷ ls)
 
-abbrev transcribed : Given → Passed → List (List ℕ) → Ran (Unit {0})
-transcribed given p ls = ran_from transcript_form given p (tt {0}) ls
+abbrev transcribed : RunEnvironment → Passed → List (List ℕ) → Ran (Unit {0})
+transcribed env p ls = ran_from transcript_form env p (tt {0}) ls
 
 -- a form over the transcript of lines comes to the same end
 pub record SameEnd {M : Type 0} (kept : List ℕ → List ℕ) (Q : M → Type 0) (was : Ran (Unit {0})) (now : Ran M)
@@ -179,11 +179,11 @@ abbrev shown_again_line : List ℕ → List ℕ
 shown_again_line line = shown_line (shown_text line)
 
 module _ (line : List ℕ) (w : IsWhole line) where
-  text_is : without_feed line ≡ w.front
-  text_is = ap without_feed w.is ∙ feed_gone w.front
+  text_is : without_feed line ≡ w.prefix
+  text_is = ap without_feed w.is ∙ feed_gone w.prefix
 
   shown_free : has_feed (shown_text line) ≡ false
-  shown_free = rw text_is (free_take 32769 w.front w.free)
+  shown_free = rw text_is (free_take 32769 w.prefix w.free)
 
   open_text : without_feed (shown_text line) ≡ shown_text line
   open_text = rw (not_ended (shown_text line) shown_free) refl
@@ -210,55 +210,55 @@ module _ (line : List ℕ) (w : IsWhole line) where
   short_again short = again_is ∙ shown_of_whole line w (omega (arith, short))
 
   -- it is judged as the line was
-  module _ (given : Given) (p q : Passed) (same : q.reached ≡ p.reached) (ls more : List (List ℕ))
+  module _ (env : RunEnvironment) (p q : Passed) (same : q.reached ≡ p.reached) (ls more : List (List ℕ))
       (room : Room p.lines p.octets (line ∷ ls)) (again : Room q.lines q.octets (shown_again_line line ∷ more)) where
     long_again : 32768 < length (without_feed line) → 32768 < length (without_feed (shown_again_line line))
     long_again long = omega (arith, ap length feed_again, length-take 32769 (without_feed line), long)
 
-    judged_short : (verdict : Verdict) → next_line given p line ≡ scripted verdict
+    judged_short : (verdict : Verdict) → next_line env p line ≡ scripted verdict
         → fits p.lines p.octets line ≡ true → is_note line ≡ false
-        → next_line given q (shown_again_line line) ≡ scripted verdict
+        → next_line env q (shown_again_line line) ≡ scripted verdict
     judged_short verdict e fit other =
         let short = fits_short p.lines p.octets line fit in
         let is = short_again short in
         let here : fits q.lines q.octets line ≡ true =
         short_fits q.lines q.octets line more
         (subst (λ (l : List ℕ). Room q.lines q.octets (l ∷ more)) is again) short in
-        ap (next_line given q) is ∙ judged_line {M = Unit {0}} transcript_form given q (tt {0}) line here other
-        ∙ ap (λ (r : Reached). scripted (judged_next given r line)) same
-        ∙ sym (judged_line {M = Unit {0}} transcript_form given p (tt {0}) line fit other) ∙ e
+        ap (next_line env q) is ∙ judged_line {M = Unit {0}} transcript_form env q (tt {0}) line here other
+        ∙ ap (λ (r : Reached). scripted (judged_next env r line)) same
+        ∙ sym (judged_line {M = Unit {0}} transcript_form env p (tt {0}) line fit other) ∙ e
 
-    judged_again : (verdict : Verdict) → next_line given p line ≡ scripted verdict
-        → next_line given q (shown_again_line line) ≡ scripted verdict
+    judged_again : (verdict : Verdict) → next_line env p line ≡ scripted verdict
+        → next_line env q (shown_again_line line) ≡ scripted verdict
     judged_again verdict e = elim (cases_Bool (fits p.lines p.octets line)) [
       | inl fit ↦ elim (cases_Bool (is_note line)) [
         | inl note ↦
             let h : noted ≡ scripted verdict =
-            sym (noted_line {M = Unit {0}} transcript_form given p (tt {0}) line fit note) ∙ e in
+            sym (noted_line {M = Unit {0}} transcript_form env p (tt {0}) line fit note) ∙ e in
             absurd cc
         | inr other ↦ judged_short verdict e fit other
       ]
       | inr beyond ↦
-          line_beyond {M = Unit {0}} transcript_form given q (tt {0}) (shown_again_line line)
+          line_beyond {M = Unit {0}} transcript_form env q (tt {0}) (shown_again_line line)
           (long_beyond q.lines q.octets (shown_again_line line)
           (long_again (beyond_long p.lines p.octets line ls room beyond)))
-          ∙ sym (line_beyond {M = Unit {0}} transcript_form given p (tt {0}) line beyond) ∙ e
+          ∙ sym (line_beyond {M = Unit {0}} transcript_form env p (tt {0}) line beyond) ∙ e
     ]
 
     -- a line that is taken is shown as it stands
-    taken_same : (report : List ℕ) (next : State) → next_line given p line ≡ scripted (says report next)
+    taken_same : (report : List ℕ) (next : State) → next_line env p line ≡ scripted (says report next)
         → shown_again_line line ≡ line
     taken_same report next e = elim (cases_Bool (fits p.lines p.octets line)) [
       | inl fit ↦ short_again (fits_short p.lines p.octets line fit)
       | inr beyond ↦
           let h : scripted (says report next) ≡ scripted (refused Limit) =
-          sym e ∙ line_beyond {M = Unit {0}} transcript_form given p (tt {0}) line beyond in
+          sym e ∙ line_beyond {M = Unit {0}} transcript_form env p (tt {0}) line beyond in
           absurd cc
     ]
 
 -- ---- a transcript
 
-module _ (given : Given) {M : Type 0} (g : FormOf M) (kept : List ℕ → List ℕ) (Q : M → Type 0)
+module _ (env : RunEnvironment) {M : Type 0} (g : FormOf M) (kept : List ℕ → List ℕ) (Q : M → Type 0)
     (r : ReadsAgain g kept Q) where
   -- of lines of which the first is whole
   module _ (p q : Passed) (n : M) (same : q.reached ≡ p.reached) (held : Q n) (line : List ℕ) (w : IsWhole line)
@@ -268,12 +268,12 @@ module _ (given : Given) {M : Type 0} (g : FormOf M) (kept : List ℕ → List �
 
     abbrev Again : Ran (Unit {0}) → Type 0
     Again was = Room q.lines q.octets (lines was.text) → notes_fit (lines was.text) ≡ true
-        → SameEnd kept Q was (ran_from g given q n (lines was.text))
+        → SameEnd kept Q was (ran_from g env q n (lines was.text))
 
     -- the script stops at it
-    module _ (verdict : Verdict) (e : next_line given p line ≡ scripted verdict) (report : ℕ → List ℕ)
+    module _ (verdict : Verdict) (e : next_line env p line ≡ scripted verdict) (report : ℕ → List ℕ)
         (end : ℕ → Ending) (goes : (x : Passed) (y : M) (l : List ℕ) (others : List (List ℕ))
-        → next_line given x l ≡ scripted verdict → ran_from g given x y (l ∷ others)
+        → next_line env x l ≡ scripted verdict → ran_from g env x y (l ∷ others)
         ≡ stops g x y l others (stopping_line x l (report (x.reached.lines + 1))) (end (x.reached.lines + 1))) where
       text : List ℕ
       text = line_with_report (shown_text line) (report (p.reached.lines + 1))
@@ -299,9 +299,9 @@ module _ (given : Given) {M : Type 0} (g : FormOf M) (kept : List ℕ → List �
           let at_is : stopping_line q shown (report (q.reached.lines + 1)) ≡ at =
           ap (λ (k : ℕ). lined k (shown_text shown) (report k) None) number_is
           ∙ ap (λ (t : List ℕ). lined number t (report number) None) (shown_of_again line w) in
-          let is : ran_from g given q n (lines text) ≡ stops g q n shown others at (end number) =
-          ap (ran_from g given q n) stopped_lines
-          ∙ goes q n shown others (judged_again line w given p q same ls others room here verdict e)
+          let is : ran_from g env q n (lines text) ≡ stops g q n shown others at (end number) =
+          ap (ran_from g env q n) stopped_lines
+          ∙ goes q n shown others (judged_again line w env p q same ls others room here verdict e)
           ∙ ap (λ (x : Lined). stops g q n shown others x (end (q.reached.lines + 1))) at_is
           ∙ ap (λ (k : ℕ). stops g q n shown others at (end k)) number_is in
           let kept_room = room_more q.lines q.octets shown others here in
@@ -314,13 +314,13 @@ module _ (given : Given) {M : Type 0} (g : FormOf M) (kept : List ℕ → List �
           })
 
     -- it is taken
-    module _ (report : List ℕ) (next : State) (e : next_line given p line ≡ scripted (says report next))
+    module _ (report : List ℕ) (next : State) (e : next_line env p line ≡ scripted (says report next))
         (rest : (x y : Passed) (k : M) → y.reached ≡ x.reached → Q k → Room x.lines x.octets ls
-        → Room y.lines y.octets (lines (transcribed given x ls).text)
-        → notes_fit (lines (transcribed given x ls).text) ≡ true
-        → SameEnd kept Q (transcribed given x ls) (ran_from g given y k (lines (transcribed given x ls).text))) where
+        → Room y.lines y.octets (lines (transcribed env x ls).text)
+        → notes_fit (lines (transcribed env x ls).text) ≡ true
+        → SameEnd kept Q (transcribed env x ls) (ran_from g env y k (lines (transcribed env x ls).text))) where
       abbrev after_it : Ran (Unit {0})
-      after_it = transcribed given (after_line p line report next) ls
+      after_it = transcribed env (after_line p line report next) ls
 
       taken_lines : lines (line_with_report (shown_text line) report ++ after_it.text)
           ≡ shown_again_line line ∷ (map report_note (line_texts report) ++ lines after_it.text)
@@ -338,25 +338,25 @@ module _ (given : Given) {M : Type 0} (g : FormOf M) (kept : List ℕ → List �
           let at_is : taken_line q shown report next ≡ at =
           ap (λ (k : ℕ). lined k (shown_text shown) report (Some next)) number_is
           ∙ ap (λ (t : List ℕ). lined (p.reached.lines + 1) t report (Some next)) (shown_of_again line w) in
-          let line_is = taken_same line w given p q same ls others room here report next e in
+          let line_is = taken_same line w env p q same ls others room here report next e in
           let y = after_line q shown report next in
           let y_room = room_more q.lines q.octets shown others here in
           let y_fit = notes_more shown others fit in
           let left = after_them y ts more y_room y_fit in
-          let reached_is : (passed_notes y ts).reached ≡ reached_behind p.reached line report next =
-          left.same ∙ ap (λ (x : Reached). reached_behind x shown report next) same
-          ∙ ap (λ (t : List ℕ). reached_behind p.reached t report next) line_is in
+          let reached_is : (passed_notes y ts).reached ≡ reached_after p.reached line report next =
+          left.same ∙ ap (λ (x : Reached). reached_after x shown report next) same
+          ∙ ap (λ (t : List ℕ). reached_after p.reached t report next) line_is in
           let k = with_notes g (g.line n at) ts in
           let last = rest (after_line p line report next) (passed_notes y ts) k reached_is (r.next n at held)
           (room_more p.lines p.octets line ls room) left.room left.notes in
-          let final = ran_from g given (passed_notes y ts) k more in
-          let is : ran_from g given q n (lines (line_with_report (shown_text line) report ++ after_it.text))
+          let final = ran_from g env (passed_notes y ts) k more in
+          let is : ran_from g env q n (lines (line_with_report (shown_text line) report ++ after_it.text))
           ≡ with_text (g.text n at) final =
-          ap (ran_from g given q n) taken_lines
-          ∙ by_next g given q n shown (scripted (says report next))
-          (judged_again line w given p q same ls others room here (says report next) e) others
-          ∙ ap (λ (x : Lined). with_text (g.text n x) (ran_from g given y (g.line n x) others)) at_is
-          ∙ ap (with_text (g.text n at)) (notes_pass g given y (g.line n at) ts more y_room y_fit) in
+          ap (ran_from g env q n) taken_lines
+          ∙ by_next g env q n shown (scripted (says report next))
+          (judged_again line w env p q same ls others room here (says report next) e) others
+          ∙ ap (λ (x : Lined). with_text (g.text n x) (ran_from g env y (g.line n x) others)) at_is
+          ∙ ap (with_text (g.text n at)) (notes_pass g env y (g.line n at) ts more y_room y_fit) in
           let P : Ran M → Type 0 = λ x.
           SameEnd kept Q (with_text (line_with_report (shown_text line) report) after_it) x in
           subst P (sym is) (record {
@@ -369,44 +369,44 @@ module _ (given : Given) {M : Type 0} (g : FormOf M) (kept : List ℕ → List �
 
   -- of whole lines
   pub read_again : (ls : List (List ℕ)) (p q : Passed) (n : M) → q.reached ≡ p.reached → Q n → AreWhole ls
-      → Room p.lines p.octets ls → Room q.lines q.octets (lines (transcribed given p ls).text)
-      → notes_fit (lines (transcribed given p ls).text) ≡ true
-      → SameEnd kept Q (transcribed given p ls) (ran_from g given q n (lines (transcribed given p ls).text))
+      → Room p.lines p.octets ls → Room q.lines q.octets (lines (transcribed env p ls).text)
+      → notes_fit (lines (transcribed env p ls).text) ≡ true
+      → SameEnd kept Q (transcribed env p ls) (ran_from g env q n (lines (transcribed env p ls).text))
   unfolding ran_from lines
   read_again [] p q n same held whole room again notes =
       record { text = sym r.none; ending = refl; form = held }
   read_again (line ∷ ls) p q n same held (one_whole l others w whole) room again notes =
-      by_line (λ x y k. read_again ls x y k) (next_line given p line) refl again notes where
+      by_line (λ x y k. read_again ls x y k) (next_line env p line) refl again notes where
         by_line : ((x y : Passed) (k : M) → y.reached ≡ x.reached → Q k → AreWhole ls → Room x.lines x.octets ls
-            → Room y.lines y.octets (lines (transcribed given x ls).text)
-            → notes_fit (lines (transcribed given x ls).text) ≡ true
-            → SameEnd kept Q (transcribed given x ls) (ran_from g given y k (lines (transcribed given x ls).text)))
-            → (next : NextLine) → next_line given p line ≡ next
-            → Room q.lines q.octets (lines (transcribed given p (line ∷ ls)).text)
-            → notes_fit (lines (transcribed given p (line ∷ ls)).text) ≡ true
-            → SameEnd kept Q (transcribed given p (line ∷ ls))
-            (ran_from g given q n (lines (transcribed given p (line ∷ ls)).text))
+            → Room y.lines y.octets (lines (transcribed env x ls).text)
+            → notes_fit (lines (transcribed env x ls).text) ≡ true
+            → SameEnd kept Q (transcribed env x ls) (ran_from g env y k (lines (transcribed env x ls).text)))
+            → (next : NextLine) → next_line env p line ≡ next
+            → Room q.lines q.octets (lines (transcribed env p (line ∷ ls)).text)
+            → notes_fit (lines (transcribed env p (line ∷ ls)).text) ≡ true
+            → SameEnd kept Q (transcribed env p (line ∷ ls))
+            (ran_from g env q n (lines (transcribed env p (line ∷ ls)).text))
         by_line rest noted e =
-            let is = by_next transcript_form given p (tt {0}) line noted e ls in
+            let is = by_next transcript_form env p (tt {0}) line noted e ls in
             subst (Again p q n same held line w ls room) (sym is)
             (rest (after_note p line) q n same held whole (room_more p.lines p.octets line ls room))
         by_line rest (scripted (says report next)) e =
-            let is = by_next transcript_form given p (tt {0}) line (scripted (says report next)) e ls in
+            let is = by_next transcript_form env p (tt {0}) line (scripted (says report next)) e ls in
             subst (Again p q n same held line w ls room) (sym is)
             (taken_again p q n same held line w ls room report next e (λ x y k s h. rest x y k s h whole))
         by_line rest (scripted (refused why)) e =
-            let is = by_next transcript_form given p (tt {0}) line (scripted (refused why)) e ls in
+            let is = by_next transcript_form env p (tt {0}) line (scripted (refused why)) e ls in
             subst (Again p q n same held line w ls room) (sym is)
             (stop_again p q n same held line w ls room (refused why) e (λ k. refusal_text k why)
             (λ k. an_ending.Refused k (refusal_number why))
-            (λ x y l others h. by_next g given x y l (scripted (refused why)) h others))
+            (λ x y l others h. by_next g env x y l (scripted (refused why)) h others))
         by_line rest (scripted foreign) e =
-            let is = by_next transcript_form given p (tt {0}) line (scripted foreign) e ls in
+            let is = by_next transcript_form env p (tt {0}) line (scripted foreign) e ls in
             subst (Again p q n same held line w ls room) (sym is)
             (stop_again p q n same held line w ls room foreign e foreign_text (λ k. an_ending.Foreign k)
-            (λ x y l others h. by_next g given x y l (scripted foreign) h others))
+            (λ x y l others h. by_next g env x y l (scripted foreign) h others))
         by_line rest (scripted unjudged) e =
-            let is = by_next transcript_form given p (tt {0}) line (scripted unjudged) e ls in
+            let is = by_next transcript_form env p (tt {0}) line (scripted unjudged) e ls in
             subst (Again p q n same held line w ls room) (sym is)
             (stop_again p q n same held line w ls room unjudged e (λ k. []) (λ k. an_ending.Refused k 0)
-            (λ x y l others h. by_next g given x y l (scripted unjudged) h others))
+            (λ x y l others h. by_next g env x y l (scripted unjudged) h others))

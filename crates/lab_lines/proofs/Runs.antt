@@ -7,14 +7,14 @@ use Rattle.std.specs.List.{filter}
 use Rattle.std.proofs.lemmas.Bool.{cases_Bool}
 use Rattle.std.proofs.lemmas.List.{append-nil, take-append-drop, take_all}
 use Rattle.repo_io.specs.Lines.{IsWhole, lines}
-use Rattle.repo_io.specs.Outside.{GainsFront}
+use Rattle.repo_io.specs.Outside.{GainsPrefix}
 use Rattle.repo_io.proofs.LineLaws.{whole_first}
 use Rattle.script_report.specs.declared.refusal.Refusal.TheVariants.{Limit}
 use Rattle.script_story.specs.declared.ending.Ending.{Ending}
 use Rattle.script_story.specs.declared.ending.Ending.TheVariants as an_ending
-use Rattle.script_story.specs.Judging.{Given, foreign, refused, says, unjudged}
-use Rattle.script_lines.specs.declared.stop.Stop.TheVariants as stop
-use Rattle.script_lines.specs.Stopping.{stop_text}
+use Rattle.script_story.specs.Judging.{RunEnvironment, foreign, refused, says, unjudged}
+use Rattle.script_lines.specs.declared.error.LineError.TheVariants as error
+use Rattle.script_lines.specs.LineErrors.{line_error_text}
 use Rattle.script_lines.specs.Reading.{HasLine, IsTooLong}
 use Rattle.lab_text.specs.declared.status.LabStatus.{LabStatus}
 use Rattle.lab_text.specs.declared.status.LabStatus.TheVariants.{WriteFault}
@@ -40,55 +40,55 @@ with_with {M} x y r =
     ap with_it (sym (append_assoc x y r.text))
 
 -- so many lines are read before it ends
-lines_read : {M : Type 0} (f : FormOf M) (given : Given) (p : Passed) (m : M) (ls : List (List ℕ))
-    → p.lines ≤ (ran_from f given p m ls).read
-lines_read f given p m [] = rw (no_lines f given p m) (omega arith)
-lines_read {M} f given p m (line ∷ others) =
-    by_line (λ q n. lines_read f given q n others) (next_line given p line) refl where
-      by_line : ((q : Passed) (n : M) → q.lines ≤ (ran_from f given q n others).read) → (next : NextLine)
-          → next_line given p line ≡ next → p.lines ≤ (ran_from f given p m (line ∷ others)).read
-      by_line grows noted e = rw (by_next f given p m line noted e others)
+lines_read : {M : Type 0} (f : FormOf M) (env : RunEnvironment) (p : Passed) (m : M) (ls : List (List ℕ))
+    → p.lines ≤ (ran_from f env p m ls).read
+lines_read f env p m [] = rw (no_lines f env p m) (omega arith)
+lines_read {M} f env p m (line ∷ others) =
+    by_line (λ q n. lines_read f env q n others) (next_line env p line) refl where
+      by_line : ((q : Passed) (n : M) → q.lines ≤ (ran_from f env q n others).read) → (next : NextLine)
+          → next_line env p line ≡ next → p.lines ≤ (ran_from f env p m (line ∷ others)).read
+      by_line grows noted e = rw (by_next f env p m line noted e others)
           (omega (arith, grows (after_note p line) (f.note m line)))
       by_line grows (scripted (says report next)) e =
-          rw (by_next f given p m line (scripted (says report next)) e others)
+          rw (by_next f env p m line (scripted (says report next)) e others)
           (omega (arith, grows (after_line p line report next) (f.line m (taken_line p line report next))))
       by_line grows (scripted (refused why)) e =
-          rw (by_next f given p m line (scripted (refused why)) e others) (omega arith)
+          rw (by_next f env p m line (scripted (refused why)) e others) (omega arith)
       by_line grows (scripted foreign) e =
-          rw (by_next f given p m line (scripted foreign) e others) (omega arith)
+          rw (by_next f env p m line (scripted foreign) e others) (omega arith)
       by_line grows (scripted unjudged) e =
-          rw (by_next f given p m line (scripted unjudged) e others) (omega arith)
+          rw (by_next f env p m line (scripted unjudged) e others) (omega arith)
 
-module _ {M : Type 0} (f : FormOf M) (given : Given) (p : Passed) (m : M) where
+module _ {M : Type 0} (f : FormOf M) (env : RunEnvironment) (p : Passed) (m : M) where
   -- the script stops at a line that is too long
-  long_stops : (front more : List ℕ) → IsTooLong front
-      → StopsSo f given p m (front ++ more) (stop.Refused Limit)
-  long_stops front more long = stops_so f given p m (front ++ more) (stop.Refused Limit) (refused Limit)
-      (line_beyond f given p m (front ++ more) (long_beyond front long p.lines p.octets more)) refl (λ e. cc)
+  long_stops : (leading more : List ℕ) → IsTooLong leading
+      → StopsSo f env p m (leading ++ more) (error.Refused Limit)
+  long_stops leading more long = stops_so f env p m (leading ++ more) (error.Refused Limit) (refused Limit)
+      (line_beyond f env p m (leading ++ more) (long_beyond leading long p.lines p.octets more)) refl (λ e. cc)
 
-  bare_stops : (front : List ℕ) → IsTooLong front → StopsSo f given p m front (stop.Refused Limit)
-  bare_stops front long = subst (λ (t : List ℕ). StopsSo f given p m t (stop.Refused Limit)) (append-nil front)
-      (long_stops front [] long)
+  bare_stops : (leading : List ℕ) → IsTooLong leading → StopsSo f env p m leading (error.Refused Limit)
+  bare_stops leading long = subst (λ (t : List ℕ). StopsSo f env p m t (error.Refused Limit)) (append-nil leading)
+      (long_stops leading [] long)
 
   -- and writes the same of it, whatever of it is known
-  long_text : (front more : List ℕ) (others : List (List ℕ)) → IsTooLong front
-      → (ran_from f given p m ((front ++ more) ∷ others)).text ≡ (ran_from f given p m (front ∷ [])).text
-  long_text front more others long =
-      let here = long_stops front more long in
-      let bare = bare_stops front long in
+  long_text : (leading more : List ℕ) (others : List (List ℕ)) → IsTooLong leading
+      → (ran_from f env p m ((leading ++ more) ∷ others)).text ≡ (ran_from f env p m (leading ∷ [])).text
+  long_text leading more others long =
+      let here = long_stops leading more long in
+      let bare = bare_stops leading long in
       let number = p.reached.lines + 1 in
       let at : List ℕ → List ℕ = λ shown.
-      f.text m (lined number shown (stop_text number (stop.Refused Limit)) None) in
-      ap (λ (r : Ran M). r.text) (here.goes others) ∙ ap at (long_shown front long more)
+      f.text m (lined number shown (line_error_text number (error.Refused Limit)) None) in
+      ap (λ (r : Ran M). r.text) (here.goes others) ∙ ap at (long_shown leading long more)
       ∙ sym (ap (λ (r : Ran M). r.text) (bare.goes []))
 
   -- no line that is too long is passed
-  pub long_not_passed : (front : List ℕ) (q : Passed) (n : M) (a b : Option (List ℕ)) → IsTooLong front
-      → Passes f given p m front q n a b → ⊥
-  long_not_passed front q n a b long passes =
-      let bare = bare_stops front long in
+  pub long_not_passed : (leading : List ℕ) (q : Passed) (n : M) (a b : Option (List ℕ)) → IsTooLong leading
+      → Passes f env p m leading q n a b → ⊥
+  long_not_passed leading q n a b long passes =
+      let bare = bare_stops leading long in
       bare.not_done (sym (ap (λ (r : Ran M). r.ending) (bare.goes [])) ∙ ap (λ (r : Ran M). r.ending) (passes.goes [])
-      ∙ ap (λ (r : Ran M). r.ending) (no_lines f given q n))
+      ∙ ap (λ (r : Ran M). r.ending) (no_lines f env q n))
 
   -- ---- the script stops at a line
 
@@ -97,17 +97,17 @@ module _ {M : Type 0} (f : FormOf M) (given : Given) (p : Passed) (m : M) where
   nothing_after l o x = elim (cases_Bool f.reads_on) [ inl on ↦ rw on refl | inr off ↦ rw off refl ]
 
   module _ (line : List ℕ) (ending : Ending) (totals : Totals) (n : M) (a b : Option (List ℕ))
-      (halts : Halts f given p m line ending totals n a b) where
+      (halts : Halts f env p m line ending totals n a b) where
     -- which is too long
     module _ (long : IsTooLong line) where
       seen : List ℕ → Lined
-      seen shown = lined (p.reached.lines + 1) shown (stop_text (p.reached.lines + 1) (stop.Refused Limit)) None
+      seen shown = lined (p.reached.lines + 1) shown (line_error_text (p.reached.lines + 1) (error.Refused Limit)) None
 
-      end_is : (line' : List ℕ) (so : StopsSo f given p m line' (stop.Refused Limit))
+      end_is : (line' : List ℕ) (so : StopsSo f env p m line' (error.Refused Limit))
           → so.ending ≡ an_ending.Refused (p.reached.lines + 1) 4
       end_is line' so = sym (so.only (an_ending.Refused (p.reached.lines + 1) 4) refl)
 
-      long_real : (more : List ℕ) → ran_from f given p m (lines (line ++ more))
+      long_real : (more : List ℕ) → ran_from f env p m (lines (line ++ more))
           ≡ ran halts.text (after_stop f totals.lines (totals.octets + length (through_feed more)) n
           (lines (after_feed more))) ending totals.lines
       unfolding seen
@@ -134,24 +134,24 @@ module _ {M : Type 0} (f : FormOf M) (given : Given) (p : Passed) (m : M) where
           let by_octets : ℕ → Ran M = λ o. go halts.text (p.lines + 1) o n here.ending in
           let by_lines : ℕ → Ran M = λ l. go halts.text l (totals.octets + length tail) n here.ending in
           let by_end : Ending → Ran M = λ e. go halts.text totals.lines (totals.octets + length tail) n e in
-          ap (ran_from f given p m) (first_of line more (long_some line long) long.free) ∙ here.goes others
+          ap (ran_from f env p m) (first_of line more (long_some line long) long.free) ∙ here.goes others
           ∙ ap by_shown (long_shown line long tail) ∙ ap by_text texts ∙ ap by_form forms ∙ ap by_octets octets
           ∙ ap by_lines (sym halts.lines) ∙ ap by_end ends
 
-    pub halts_real : IsWhole line ⊎ IsTooLong line → (more : List ℕ) → ran_from f given p m (lines (line ++ more))
+    pub halts_real : IsWhole line ⊎ IsTooLong line → (more : List ℕ) → ran_from f env p m (lines (line ++ more))
         ≡ ran halts.text (after_stop_at f totals.lines totals.octets n line more) ending totals.lines
     halts_real (inl whole) more =
-        ap (ran_from f given p m) (whole_first line more whole)
+        ap (ran_from f env p m) (whole_first line more whole)
         ∙ rw (whole_ended line whole) (halts.goes (lines more))
     halts_real (inr long) more = rw (not_ended line long.free) (long_real long more)
 
     -- what was written of it, where so much is taken of it
     pub halts_text : IsWhole line ⊎ IsTooLong line → (more : List ℕ)
-        → (ran_from f given p m (filter can_be_judged (lines (line ++ more)))).text ≡ halts.text
+        → (ran_from f env p m (filter can_be_judged (lines (line ++ more)))).text ≡ halts.text
     halts_text (inl whole) more =
         let is : filter can_be_judged (lines (line ++ more)) ≡ line ∷ filter can_be_judged (lines more) =
         ap (filter can_be_judged) (whole_first line more whole) ∙ rw (whole_judged line whole) refl in
-        ap (λ (ls : List (List ℕ)). (ran_from f given p m ls).text) is
+        ap (λ (ls : List (List ℕ)). (ran_from f env p m ls).text) is
         ∙ ap (λ (r : Ran M). r.text) (halts.goes (filter can_be_judged (lines more)))
     halts_text (inr long) more =
         let tail = through_feed more in
@@ -159,28 +159,28 @@ module _ {M : Type 0} (f : FormOf M) (given : Given) (p : Passed) (m : M) where
         let is : filter can_be_judged (lines (line ++ more)) ≡ (line ++ tail) ∷ others =
         ap (filter can_be_judged) (first_of line more (long_some line long) long.free)
         ∙ rw (long_judged line long tail) refl in
-        ap (λ (ls : List (List ℕ)). (ran_from f given p m ls).text) is ∙ long_text line tail others long
+        ap (λ (ls : List (List ℕ)). (ran_from f env p m ls).text) is ∙ long_text line tail others long
         ∙ ap (λ (r : Ran M). r.text) (halts.goes [])
 
   -- it falls short at a line
   pub fails_real : (line : List ℕ) (a b : Option (List ℕ)) (status : LabStatus)
-      → IsWhole line ⊎ IsTooLong line → Fails f given p m line a b status → (more : List ℕ)
-      → GainsFront a b (ran_from f given p m (lines (line ++ more))).text (status ≡ WriteFault)
+      → IsWhole line ⊎ IsTooLong line → Fails f env p m line a b status → (more : List ℕ)
+      → GainsPrefix a b (ran_from f env p m (lines (line ++ more))).text (status ≡ WriteFault)
   fails_real line a b status (inl whole) fails more =
-      let P : List (List ℕ) → Type 0 = λ ls. GainsFront a b (ran_from f given p m ls).text (status ≡ WriteFault) in
+      let P : List (List ℕ) → Type 0 = λ ls. GainsPrefix a b (ran_from f env p m ls).text (status ≡ WriteFault) in
       subst P (sym (whole_first line more whole)) (fails.prefix (lines more))
   fails_real line a b status (inr long) fails more =
       let tail = through_feed more in
       let others = lines (after_feed more) in
-      let same : (ran_from f given p m (lines (line ++ more))).text ≡ (ran_from f given p m (line ∷ [])).text =
-      ap (λ (ls : List (List ℕ)). (ran_from f given p m ls).text)
+      let same : (ran_from f env p m (lines (line ++ more))).text ≡ (ran_from f env p m (line ∷ [])).text =
+      ap (λ (ls : List (List ℕ)). (ran_from f env p m ls).text)
       (first_of line more (long_some line long) long.free) ∙ long_text line tail others long in
-      let P : List ℕ → Type 0 = λ t. GainsFront a b t (status ≡ WriteFault) in
+      let P : List ℕ → Type 0 = λ t. GainsPrefix a b t (status ≡ WriteFault) in
       subst P (sym same) (fails.prefix [])
 
   -- fewer lines are not read before it ends
-  pub read_grows : (ls : List (List ℕ)) → p.lines ≤ (ran_from f given p m ls).read
-  read_grows ls = lines_read f given p m ls
+  pub read_grows : (ls : List (List ℕ)) → p.lines ≤ (ran_from f env p m ls).read
+  read_grows ls = lines_read f env p m ls
 
 -- the line with which what is held begins
 pub line_kind : (held : List ℕ) (count : ℕ) → HasLine count held

@@ -8,7 +8,7 @@ use Rattle.std.proofs.lemmas.List.{append-nil}
 use Rattle.repo_io.specs.Lines.{IsWhole, has_feed, lines}
 use Rattle.repo_io.proofs.LineLaws.{lines_joined}
 use Rattle.script_story.specs.declared.ending.Ending.{Ending}
-use Rattle.script_story.specs.Judging.{Given}
+use Rattle.script_story.specs.Judging.{RunEnvironment}
 use Rattle.lab_text.specs.Cutting.{AreWholeLines}
 use Rattle.lab_text.specs.Differences.{after_common_prefix, are_same, sum_text}
 use Rattle.lab_text.specs.LineTexts.{are_one_line_each, line_texts}
@@ -47,7 +47,7 @@ whole_from [] = record {
   first = 10 ∷ [];
   others = [];
   are = refl;
-  whole = record { front = []; free = refl; is = refl };
+  whole = record { prefix = []; free = refl; is = refl };
   rest = none_whole;
 }
 whole_from (b ∷ bs) = elim (cases_Bool (eqb b 10)) [
@@ -58,7 +58,7 @@ whole_from (b ∷ bs) = elim (cases_Bool (eqb b 10)) [
         first = b ∷ [];
         others = lines (bs ++ 10 ∷ []);
         are = rw feed refl;
-        whole = record { front = []; free = refl; is = ap (λ (x : ℕ). x ∷ []) is };
+        whole = record { prefix = []; free = refl; is = ap (λ (x : ℕ). x ∷ []) is };
         rest = all_whole (lines (bs ++ 10 ∷ [])) so_far;
       }
   | inr other ↦
@@ -68,8 +68,8 @@ whole_from (b ∷ bs) = elim (cases_Bool (eqb b 10)) [
         others = so_far.others;
         are = rw (other, so_far.are) refl;
         whole = record {
-          front = b ∷ so_far.whole.front;
-          free = or_from (eqb b 10) (has_feed so_far.whole.front) other so_far.whole.free;
+          prefix = b ∷ so_far.whole.prefix;
+          free = or_from (eqb b 10) (has_feed so_far.whole.prefix) other so_far.whole.free;
           is = ap (λ (t : List ℕ). b ∷ t) so_far.whole.is;
         };
         rest = so_far.rest;
@@ -99,17 +99,17 @@ transcribes_again = record {
   last = λ n at held passed octets room notes. tt;
 }
 
-module _ (given : Given) (input : List ℕ) (can : CanBeReadAgain given input) where
+module _ (env : RunEnvironment) (input : List ℕ) (can : CanBeReadAgain env input) where
   was : Ran (Unit {0})
-  was = ran_from transcript_form given nothing_passed (tt {0}) (lines input)
+  was = ran_from transcript_form env nothing_passed (tt {0}) (lines input)
 
-  text_is : (transcript_of given input).text ≡ was.text
+  text_is : (transcript_of env input).text ≡ was.text
   unfolding was
-  text_is = append-nil (ran_from transcript_form given nothing_passed (tt {0}) (lines input)).text
+  text_is = append-nil (ran_from transcript_form env nothing_passed (tt {0}) (lines input)).text
 
   room_again : Room 0 0 (lines was.text)
   room_again = subst (λ (t : List ℕ). Room 0 0 (lines t)) text_is
-      (room_of (transcript_of given input).text can.transcript)
+      (room_of (transcript_of env input).text can.transcript)
 
   notes_again : notes_fit (lines was.text) ≡ true
   notes_again = subst (λ (t : List ℕ). notes_fit (lines t) ≡ true) text_is can.notes
@@ -117,19 +117,19 @@ module _ (given : Given) (input : List ℕ) (can : CanBeReadAgain given input) w
   -- a form that finds in the notes what was reported
   module _ {M : Type 0} (g : FormOf M) (kept : List ℕ → List ℕ) (Q : M → Type 0) (r : ReadsAgain g kept Q) (n : M)
       (held : Q n) where
-    same_end : SameEnd kept Q was (ran_from g given nothing_passed n (lines was.text))
+    same_end : SameEnd kept Q was (ran_from g env nothing_passed n (lines was.text))
     unfolding was
-    same_end = read_again given g kept Q r (lines input) nothing_passed nothing_passed n refl held
+    same_end = read_again env g kept Q r (lines input) nothing_passed nothing_passed n refl held
         (input_whole input can.whole) (room_of input can.within) room_again notes_again
 
-  own_transcript : transcript_of given (transcript_of given input).text ≡ transcript_of given input
+  own_transcript : transcript_of env (transcript_of env input).text ≡ transcript_of env input
   unfolding was
   own_transcript =
       let again = same_end transcript_form (λ (t : List ℕ). t) (λ (n : Unit {0}). Unit {0}) transcribes_again (tt {0})
       (tt {0}) in
-      let by_text : List ℕ → Outcome = λ t. transcript_of given t in
+      let by_text : List ℕ → Outcome = λ t. transcript_of env t in
       let of : List ℕ → Ending → Outcome = λ t e. record { text = t ++ []; status = status_at e } in
-      ap by_text text_is ∙ ap (λ (t : List ℕ). of t (ran_from transcript_form given nothing_passed (tt {0})
+      ap by_text text_is ∙ ap (λ (t : List ℕ). of t (ran_from transcript_form env nothing_passed (tt {0})
       (lines was.text)).ending) again.text ∙ ap (of was.text) again.ending
 
 -- ---- a check of a transcript
@@ -203,28 +203,28 @@ nothing_differs : NoneDiffers nothing_checked
 unfolding lines after_common_prefix
 nothing_differs = record { expected = refl; none = refl }
 
-module _ (given : Given) (input : List ℕ) (can : CanBeReadAgain given input) where
-  same_check : IsSame (check_of given (transcript_of given input).text)
+module _ (env : RunEnvironment) (input : List ℕ) (can : CanBeReadAgain env input) where
+  same_check : IsSame (check_of env (transcript_of env input).text)
   same_check =
-      let again = same_end given input can check_form (λ (t : List ℕ). []) NoneDiffers checks_again nothing_checked
+      let again = same_end env input can check_form (λ (t : List ℕ). []) NoneDiffers checks_again nothing_checked
       nothing_differs in
-      let now = ran_from check_form given nothing_passed nothing_checked (lines (was given input can).text) in
+      let now = ran_from check_form env nothing_passed nothing_checked (lines (was env input can).text) in
       let zero_differs : differing_lines now.form ≡ 0 = rw again.form.expected again.form.none in
       let ended : (outcome_of check_form now).text ≡ sum_text 0 now.form.number =
       ap (λ (t : List ℕ). t ++ (last_text now.form ++ sum_text (differing_lines now.form) now.form.number)) again.text
       ∙ ap (λ (t : List ℕ). t ++ sum_text (differing_lines now.form) now.form.number) (check_same now.form again.form)
       ∙ ap (λ (k : ℕ). sum_text k now.form.number) zero_differs in
-      let P : List ℕ → Type 0 = λ t. IsSame (check_of given t) in
-      subst P (sym (text_is given input can)) (record {
+      let P : List ℕ → Type 0 = λ t. IsSame (check_of env t) in
+      subst P (sym (text_is env input can)) (record {
         lines = now.form.number;
         text = ended;
         status = rw zero_differs refl;
       })
 
-pub own_transcripts : (given : Given) (input : List ℕ) → CanBeReadAgain given input
-    → transcript_of given (transcript_of given input).text ≡ transcript_of given input
-own_transcripts given input can = own_transcript given input can
+pub own_transcripts : (env : RunEnvironment) (input : List ℕ) → CanBeReadAgain env input
+    → transcript_of env (transcript_of env input).text ≡ transcript_of env input
+own_transcripts env input can = own_transcript env input can
 
-pub same_checks : (given : Given) (input : List ℕ) → CanBeReadAgain given input
-    → IsSame (check_of given (transcript_of given input).text)
-same_checks given input can = same_check given input can
+pub same_checks : (env : RunEnvironment) (input : List ℕ) → CanBeReadAgain env input
+    → IsSame (check_of env (transcript_of env input).text)
+same_checks env input can = same_check env input can

@@ -6,17 +6,17 @@ use Rattle.std.specs.List.{concat, filter}
 use Rattle.std.specs.Io.KnownBytes.{IsAtEnd}
 use Rattle.repo_io.specs.declared.failed.Failed.{Failed}
 use Rattle.repo_io.specs.Lines.{IsWhole, lines}
-use Rattle.repo_io.specs.Outside.{GainsText, GainsFront}
+use Rattle.repo_io.specs.Outside.{GainsText, GainsPrefix}
 use Rattle.script_lang.specs.Lines.{ends_with}
 use Rattle.script_report.specs.Refusals.{refusal_number}
 use Rattle.script_story.specs.declared.ending.Ending.{Ending}
 use Rattle.script_story.specs.declared.ending.Ending.TheVariants as an_ending
-use Rattle.script_story.specs.Judging.{Given}
+use Rattle.script_story.specs.Judging.{RunEnvironment}
 use Rattle.script_story.specs.Story.{Reached}
-use Rattle.script_lines.specs.declared.stop.Stop.{Stop}
-use Rattle.script_lines.specs.declared.stop.Stop.TheVariants as stop
+use Rattle.script_lines.specs.declared.error.LineError.{LineError}
+use Rattle.script_lines.specs.declared.error.LineError.TheVariants as error
 use Rattle.script_lines.specs.Reading.{IsTooLong, LineIsBegun}
-use Rattle.script_lines.specs.Stopping.{stop_text}
+use Rattle.script_lines.specs.LineErrors.{line_error_text}
 use Rattle.lab_text.specs.declared.status.LabStatus.{LabStatus}
 use Rattle.lab_text.specs.declared.status.LabStatus.TheVariants.{Done, Usage, Refused, ReadFault, WriteFault, NoMemory}
 use Rattle.lab_text.specs.declared.status.LabStatus.TheVariants.{Foreign, Differs}
@@ -54,7 +54,7 @@ IsFailing Differs = ⊥
 -- A text was not written whole.
 pub record FallsShort (text : List ℕ) (old new : Option (List ℕ)) (status : LabStatus) : Type 0 where
   pub failing : IsFailing status
-  pub prefix : GainsFront old new text (status ≡ WriteFault)
+  pub prefix : GainsPrefix old new text (status ≡ WriteFault)
 
 -- A text was written, or not whole.
 abbrev pub Writes : List ℕ → Option (List ℕ) → Option (List ℕ) → Result (Unit {0}) LabStatus → Type 0
@@ -62,61 +62,63 @@ Writes text old new (Ok x) = GainsText old new text
 Writes text old new (Err status) = FallsShort text old new status
 
 -- How a script ends that stops so at the line of this number.
-abbrev pub IsEndingOf : ℕ → Stop → Ending → Type 0
-IsEndingOf line (stop.Refused why) ending = ending ≡ an_ending.Refused line (refusal_number why)
-IsEndingOf line stop.Foreign ending = ending ≡ an_ending.Foreign line
-IsEndingOf line stop.NoMemory ending = ⊥
+abbrev pub IsEndingOf : ℕ → LineError → Ending → Type 0
+IsEndingOf line (error.Refused why) ending = ending ≡ an_ending.Refused line (refusal_number why)
+IsEndingOf line error.Foreign ending = ending ≡ an_ending.Foreign line
+IsEndingOf line error.NoMemory ending = ⊥
 
 -- The line of this number at which the script stops, as a form gets it.
-abbrev pub stopping_at : ℕ → List ℕ → Stop → Lined
-stopping_at number line why = lined number (shown_text line) (stop_text number why) None
+abbrev pub stopping_at : ℕ → List ℕ → LineError → Lined
+stopping_at number line why = lined number (shown_text line) (line_error_text number why) None
 
 -- A form took the line at which the script stops so, and what it writes of that was written.
-pub record TakesStop {M : Type 0} (f : FormOf M) (number : ℕ) (line : List ℕ) (why : Stop) (m n : M)
+pub record TakesStop {M : Type 0} (f : FormOf M) (number : ℕ) (line : List ℕ) (why : LineError) (m n : M)
     (old new : Option (List ℕ)) (ending : Ending) : Type 0 where
   pub ends : IsEndingOf number why ending
   pub form : n ≡ f.line m (stopping_at number line why)
   pub gained : GainsText old new (f.text m (stopping_at number line why))
 
 -- The same, or it was not written whole.
-abbrev pub IsStopWritten : {M : Type 0} → FormOf M → ℕ → List ℕ → Stop → M → M → Option (List ℕ) → Option (List ℕ)
+abbrev pub IsStopWritten : {M : Type 0} → FormOf M → ℕ → List ℕ → LineError → M → M → Option (List ℕ) → Option (List ℕ)
     → Over → Type 0
 IsStopWritten f number line why m n old new (Stopped ending) = TakesStop f number line why m n old new ending
 IsStopWritten f number line why m n old new (Faulted status) =
     FallsShort (f.text m (stopping_at number line why)) old new status
 
 -- The next line was passed.
-pub record Passes {M : Type 0} (f : FormOf M) (given : Given) (p : Passed) (m : M) (line : List ℕ) (next : Passed)
+pub record Passes {M : Type 0} (f : FormOf M) (env : RunEnvironment) (p : Passed) (m : M) (line : List ℕ)
+    (next : Passed)
     (n : M) (old new : Option (List ℕ)) : Type 0 where
   pub text : List ℕ
   pub goes : (others : List (List ℕ))
-      → ran_from f given p m (line ∷ others) ≡ with_text text (ran_from f given next n others)
+      → ran_from f env p m (line ∷ others) ≡ with_text text (ran_from f env next n others)
   pub count : next.lines ≡ p.lines + 1
   pub gained : GainsText old new text
 
 -- The script stops at the next line, and so many lines and octets were passed with it.
-pub record Halts {M : Type 0} (f : FormOf M) (given : Given) (p : Passed) (m : M) (line : List ℕ) (ending : Ending)
+pub record Halts {M : Type 0} (f : FormOf M) (env : RunEnvironment) (p : Passed) (m : M) (line : List ℕ)
+    (ending : Ending)
     (totals : Totals) (n : M) (old new : Option (List ℕ)) : Type 0 where
   pub text : List ℕ
   pub lines : totals.lines ≡ p.lines + 1
   pub octets : totals.octets ≡ p.octets + length line
   pub not_done : ending ≢ an_ending.Done
-  pub goes : (others : List (List ℕ)) → ran_from f given p m (line ∷ others)
+  pub goes : (others : List (List ℕ)) → ran_from f env p m (line ∷ others)
       ≡ ran text (after_stop f totals.lines totals.octets n others) ending totals.lines
   pub gained : GainsText old new text
 
 -- Memory ran out, or the sink failed.
-pub record Fails {M : Type 0} (f : FormOf M) (given : Given) (p : Passed) (m : M) (line : List ℕ)
+pub record Fails {M : Type 0} (f : FormOf M) (env : RunEnvironment) (p : Passed) (m : M) (line : List ℕ)
     (old new : Option (List ℕ)) (status : LabStatus) : Type 0 where
   pub failing : IsFailing status
   pub prefix : (others : List (List ℕ))
-      → GainsFront old new (ran_from f given p m (line ∷ others)).text (status ≡ WriteFault)
+      → GainsPrefix old new (ran_from f env p m (line ∷ others)).text (status ≡ WriteFault)
 
 -- Why no line follows.
-abbrev pub IsOver : {M : Type 0} → FormOf M → Given → Passed → M → List ℕ → Totals → M → Option (List ℕ)
+abbrev pub IsOver : {M : Type 0} → FormOf M → RunEnvironment → Passed → M → List ℕ → Totals → M → Option (List ℕ)
     → Option (List ℕ) → Over → Type 0
-IsOver f given p m line totals n old new (Stopped ending) = Halts f given p m line ending totals n old new
-IsOver f given p m line totals n old new (Faulted status) = Fails f given p m line old new status
+IsOver f env p m line totals n old new (Stopped ending) = Halts f env p m line ending totals n old new
+IsOver f env p m line totals n old new (Faulted status) = Fails f env p m line old new status
 
 -- ---- the end
 
@@ -135,7 +137,7 @@ IsSettled Differs = ⊤
 pub record Ends (o : Outcome) (old new : Option (List ℕ)) (status : LabStatus) : Type 0 where
   pub same : IsEnd status → status ≡ o.status
   pub text : IsEnd status → GainsText old new o.text
-  pub prefix : GainsFront old new o.text (status ≡ WriteFault)
+  pub prefix : GainsPrefix old new o.text (status ≡ WriteFault)
 
 -- Octets up to the first line feed, and it,
 unfoldable pub through_feed : List ℕ → List ℕ
@@ -170,7 +172,7 @@ IsUnread NoMemory = ⊤
 IsUnread Foreign = ⊥
 IsUnread Differs = ⊥
 
--- So many octets are at the front of what is held, and the line ends with them or not: they are a line with its line
+-- So many octets are at the start of what is held, and the line ends with them or not: they are a line with its line
 -- feed, they are more than a line may have and no line feed was read, or they are the last line.
 pub record IsPiece (held : List ℕ) (left : Option (List ℕ)) (count : ℕ) (ended : Bool) : Type 0 where
   pub within : count ≤ length held
@@ -214,7 +216,7 @@ pub record EndsAfter {M : Type 0} (f : FormOf M) (ending : Ending) (passed octet
 -- ---- a run
 
 -- Lines were passed, and then these octets are held.
-pub record Carried {M : Type 0} (f : FormOf M) (given : Given) (begun : M) (held : List ℕ) (p : Passed) (m : M)
+pub record Carried {M : Type 0} (f : FormOf M) (env : RunEnvironment) (begun : M) (held : List ℕ) (p : Passed) (m : M)
     (old new : Option (List ℕ)) (input rest : List ℕ) : Type 0 where
   pub done : List (List ℕ)
   pub octets : List ℕ
@@ -225,11 +227,11 @@ pub record Carried {M : Type 0} (f : FormOf M) (given : Given) (begun : M) (held
   pub count : p.lines ≡ length done
   pub judged : filter can_be_judged done ≡ done
   pub goes : (others : List (List ℕ))
-      → ran_over f given begun (done ++ others) ≡ with_text text (ran_from f given p m others)
+      → ran_over f env begun (done ++ others) ≡ with_text text (ran_from f env p m others)
   pub gained : GainsText old new text
 
 -- What comes of a form over a known input.
-pub record RunEnds {M : Type 0} (f : FormOf M) (given : Given) (begun : M) (old new : Option (List ℕ))
+pub record RunEnds {M : Type 0} (f : FormOf M) (env : RunEnvironment) (begun : M) (old new : Option (List ℕ))
     (status : LabStatus) (input rest : List ℕ) : Type 0 where
-  pub ends : Ends (form_outcome f given begun input) old new status
-  pub lines : WritesLines f given begun old new status input rest
+  pub ends : Ends (form_outcome f env begun input) old new status
+  pub lines : WritesLines f env begun old new status input rest

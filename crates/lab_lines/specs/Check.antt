@@ -1,7 +1,7 @@
 -- The check of a script with notes: each line's report against the notes right after it.
 use Rattle.std.specs.Prelude.{ℕ, Bool, true, List, [], ◌++◌, ◌==◌, if◌then◌else◌}
 use Rattle.repo_io.specs.InMemory.{one_more}
-use Rattle.script_story.specs.Judging.{Given}
+use Rattle.script_story.specs.Judging.{RunEnvironment}
 use Rattle.lab_text.specs.declared.status.LabStatus.TheVariants.{Done, Differs}
 use Rattle.lab_text.specs.Differences.{are_same, line_difference_text, sum_text}
 use Rattle.lab_text.specs.LineTexts.{line_texts}
@@ -68,5 +68,5 @@ check_form = record {
 }
 
 -- The check of an input.
-abbrev pub check_of : Given → List ℕ → Outcome
-check_of given input = form_outcome check_form given nothing_checked input
+abbrev pub check_of : RunEnvironment → List ℕ → Outcome
+check_of env input = form_outcome check_form env nothing_checked input

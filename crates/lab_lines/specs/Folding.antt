@@ -7,8 +7,8 @@ use Rattle.script_report.specs.Refusals.{refusal_number, refusal_text}
 use Rattle.script_report.specs.Texts.{foreign_text}
 use Rattle.script_story.specs.declared.ending.Ending.{Ending}
 use Rattle.script_story.specs.declared.ending.Ending.TheVariants as ending
-use Rattle.script_story.specs.Judging.{Given, State, Verdict, says, foreign, refused, unjudged}
-use Rattle.script_story.specs.Story.{Reached, judged_next, nothing_reached, reached_behind}
+use Rattle.script_story.specs.Judging.{RunEnvironment, State, Verdict, says, foreign, refused, unjudged}
+use Rattle.script_story.specs.Story.{Reached, judged_next, nothing_reached, reached_after}
 use Rattle.repo_io.specs.Lines.{lines}
 use Rattle.lab_text.specs.LineTexts.{without_feed}
 use Rattle.lab_text.specs.Notes.{is_note}
@@ -75,7 +75,7 @@ abbrev pub after_line : Passed → List ℕ → List ℕ → State → Passed
 after_line p line report next = record {
   lines = p.lines + 1;
   octets = p.octets + length line;
-  reached = reached_behind p.reached line report next;
+  reached = reached_after p.reached line report next;
 }
 
 -- The next line is a note, or a line of the script that is judged so.
@@ -84,9 +84,9 @@ pub data NextLine : Type 0 where
   scripted : Verdict → NextLine
 
 -- A line beyond the limits is refused, a note too.
-abbrev pub next_line : Given → Passed → List ℕ → NextLine
-next_line given p line =
-    if fits p.lines p.octets line then (if is_note line then noted else scripted (judged_next given p.reached line))
+abbrev pub next_line : RunEnvironment → Passed → List ℕ → NextLine
+next_line env p line =
+    if fits p.lines p.octets line then (if is_note line then noted else scripted (judged_next env p.reached line))
     else scripted (refused Limit)
 
 -- ---- a form over lines
@@ -150,14 +150,14 @@ ran_line f go p m line others (scripted unjudged) =
     stops f p m line others (stopping_line p line []) (ending.Refused (p.reached.lines + 1) 0)
 
 -- A form over lines that follow those that were passed.
-unfoldable pub ran_from : {M : Type 0} → FormOf M → Given → Passed → M → List (List ℕ) → Ran M
-ran_from f given p m [] = record { text = []; form = m; ending = ending.Done; read = p.lines }
-ran_from f given p m (line ∷ others) =
-    ran_line f (λ next form. ran_from f given next form others) p m line others (next_line given p line)
+unfoldable pub ran_from : {M : Type 0} → FormOf M → RunEnvironment → Passed → M → List (List ℕ) → Ran M
+ran_from f env p m [] = record { text = []; form = m; ending = ending.Done; read = p.lines }
+ran_from f env p m (line ∷ others) =
+    ran_line f (λ next form. ran_from f env next form others) p m line others (next_line env p line)
 
 -- A form over all lines.
-abbrev pub ran_over : {M : Type 0} → FormOf M → Given → M → List (List ℕ) → Ran M
-ran_over f given m input_lines = ran_from f given nothing_passed m input_lines
+abbrev pub ran_over : {M : Type 0} → FormOf M → RunEnvironment → M → List (List ℕ) → Ran M
+ran_over f env m input_lines = ran_from f env nothing_passed m input_lines
 
 -- What comes of a form at the end.
 abbrev pub outcome_of : {M : Type 0} → FormOf M → Ran M → Outcome
@@ -167,5 +167,5 @@ outcome_of f ran = record {
 }
 
 -- What comes of a form over an input.
-abbrev pub form_outcome : {M : Type 0} → FormOf M → Given → M → List ℕ → Outcome
-form_outcome f given m input = outcome_of f (ran_over f given m (lines input))
+abbrev pub form_outcome : {M : Type 0} → FormOf M → RunEnvironment → M → List ℕ → Outcome
+form_outcome f env m input = outcome_of f (ran_over f env m (lines input))

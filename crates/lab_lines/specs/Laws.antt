@@ -2,7 +2,7 @@
 use Rattle.std.specs.Prelude.{◌≡◌, ◌≤◌, ◌||◌, ℕ, Bool, true, not, List, length, nat_le}
 use Rattle.std.specs.List.{list_all}
 use Rattle.script_lang.specs.Limits.{line_octets}
-use Rattle.script_story.specs.Judging.{Given}
+use Rattle.script_story.specs.Judging.{RunEnvironment}
 use Rattle.repo_io.specs.Lines.{lines}
 use Rattle.lab_text.specs.declared.status.LabStatus.TheVariants.{Done}
 use Rattle.lab_text.specs.Cutting.{AreWholeLines}
@@ -23,11 +23,11 @@ abbrev pub notes_fit : List (List ℕ) → Bool
 notes_fit ls = list_all (λ line. not (is_note line) || nat_le (length (without_feed line)) line_octets) ls
 
 -- An input of whole lines, whose transcript is within the limits of an input, too, and has no note that is too long.
-pub record CanBeReadAgain (given : Given) (input : List ℕ) : Type 0 where
+pub record CanBeReadAgain (env : RunEnvironment) (input : List ℕ) : Type 0 where
   pub whole : AreWholeLines input
   pub within : IsWithin input
-  pub transcript : IsWithin (transcript_of given input).text
-  pub notes : notes_fit (lines (transcript_of given input).text) ≡ true
+  pub transcript : IsWithin (transcript_of env input).text
+  pub notes : notes_fit (lines (transcript_of env input).text) ≡ true
 
 -- A check found that no line differs.
 pub record IsSame (outcome : Outcome) : Type 0 where

@@ -2,7 +2,7 @@
 use Rattle.std.specs.Prelude.{ℕ, false, List, []}
 use Rattle.script_story.specs.declared.ending.Ending.{Ending}
 use Rattle.script_story.specs.declared.ending.Ending.TheVariants as ending
-use Rattle.script_story.specs.Judging.{Given}
+use Rattle.script_story.specs.Judging.{RunEnvironment}
 use Rattle.lab_text.specs.declared.status.LabStatus.{LabStatus}
 use Rattle.lab_text.specs.declared.status.LabStatus.TheVariants.{Done, Refused, Foreign}
 use Rattle.lab_text.specs.Outcomes.{Outcome}
@@ -26,5 +26,5 @@ transcript_form = record {
 }
 
 -- The transcript of an input.
-abbrev pub transcript_of : Given → List ℕ → Outcome
-transcript_of given input = form_outcome transcript_form given (tt {0}) input
+abbrev pub transcript_of : RunEnvironment → List ℕ → Outcome
+transcript_of env input = form_outcome transcript_form env (tt {0}) input

@@ -4,7 +4,7 @@ use Rattle.std.specs.Prelude.{nat_lt}
 use Rattle.std.specs.List.{concat, filter}
 use Rattle.script_lang.specs.Limits.{line_octets}
 use Rattle.script_story.specs.declared.ending.Ending.TheVariants as ending
-use Rattle.script_story.specs.Judging.{Given}
+use Rattle.script_story.specs.Judging.{RunEnvironment}
 use Rattle.repo_io.specs.Lines.{has_feed, lines}
 use Rattle.repo_io.specs.Outside.{GainsText}
 use Rattle.lab_text.specs.declared.status.LabStatus.{LabStatus}
@@ -39,13 +39,13 @@ abbrev pub IsTakenNear : ℕ → List ℕ → List ℕ → Type 0
 IsTakenNear count input rest = length input ≤ length rest + (end_of_lines count input + 65536)
 
 -- A form writes line by line.
-pub record WritesLines {M : Type 0} (f : FormOf M) (given : Given) (form : M) (old new : Option (List ℕ))
+pub record WritesLines {M : Type 0} (f : FormOf M) (env : RunEnvironment) (form : M) (old new : Option (List ℕ))
     (status : LabStatus) (input rest : List ℕ) : Type 0 where
   -- After `ReadFault` all was written that the form writes of the lines that were taken whole.
   pub exact_after_read_fault : status ≡ ReadFault
-      → GainsText old new (ran_over f given form (lines_so_far (taken input rest))).text
+      → GainsText old new (ran_over f env form (lines_so_far (taken input rest))).text
   -- Where a script is done, the input was read to its end.
-  pub read_to_end : IsEnd status → (ran_over f given form (lines input)).ending ≡ ending.Done → rest ≡ []
+  pub read_to_end : IsEnd status → (ran_over f env form (lines input)).ending ≡ ending.Done → rest ≡ []
   -- Unless the form reads on, at most 65,536 octets are taken past the end of the line that stops the script.
   pub bounded : IsEnd status → f.reads_on ≡ false
-      → IsTakenNear (ran_over f given form (lines input)).read input rest
+      → IsTakenNear (ran_over f env form (lines input)).read input rest

@@ -1,8 +1,8 @@
 ghost use Rattle.std.specs.Prelude.{◌≡◌, ◌≤◌, ◌+◌, None, Err, length, IfErr, IfOk, OnOk, option_map};
 ghost use Rattle.repo_io.specs.Outside.{HasRisen};
-ghost use Rattle.script_story.specs.Judging.{given_by};
+ghost use Rattle.script_story.specs.Judging.{env_by};
 ghost use Rattle.script_lines.specs.Scripts.{IsScript, reached};
-ghost use Rattle.script_lines.specs.Stopping.{stop_text};
+ghost use Rattle.script_lines.specs.LineErrors.{line_error_text};
 ghost use Rattle.lab_text.specs.Transcripts.{shown_text};
 ghost use Rattle.lab_lines.specs.Carrying.{Ends, IsEndingOf, IsOver, IsSettled, IsStopWritten, Passes, Writes, passed};
 ghost use Rattle.lab_lines.specs.Folding.{lined, most_lines, most_octets};
@@ -13,7 +13,7 @@ use crate::totals::Totals;
 use bench_net::{Draws, Net};
 use lab_text::{LabStatus, is_note, shown_text};
 use repo_io::{Sink, write_whole};
-use script_lines::{Script, Stop, put_stop};
+use script_lines::{LineError, Script, put_line_error};
 use script_report::Refusal;
 use script_story::Ending;
 use std::alloc::{AllocError, Global};
@@ -51,13 +51,13 @@ pub(crate) fn pass_line<R: Threads + Sync, F: Form, K: Sink, N: Net + Sync, D: D
     requires lines { totals.old.lines ≤ most_lines }
     requires octets { totals.old.octets ≤ most_octets }
     requires short { length line.now ≤ 65536 }
-    ensures passes { IfOk result (λ next. Passes F.form (given_by (D.draw draws.now) (N.passes net.now))
+    ensures passes { IfOk result (λ next. Passes F.form (env_by (D.draw draws.now) (N.passes net.now))
         (passed totals.old (reached script)) form.old line.now (passed totals.new (reached next)) form.new
         (K.out sink.old) (K.out sink.new)) }
     ensures is { IfOk result IsScript }
     ensures lines { IfOk result (λ _. totals.new.lines ≤ most_lines) }
     ensures octets { IfOk result (λ _. totals.new.octets ≤ most_octets) }
-    ensures over { IfErr result (IsOver F.form (given_by (D.draw draws.now) (N.passes net.now))
+    ensures over { IfErr result (IsOver F.form (env_by (D.draw draws.now) (N.passes net.now))
         (passed totals.old (reached script)) form.old line.now totals.new form.new
         (K.out sink.old) (K.out sink.new)) }
     ensures risen { result ≡ Err (Over.Faulted LabStatus.WriteFault)
@@ -71,7 +71,7 @@ pub(crate) fn pass_line<R: Threads + Sync, F: Form, K: Sink, N: Net + Sync, D: D
         return Err(stop_at(
             number,
             line,
-            Stop::Refused(Refusal::Limit),
+            LineError::Refused(Refusal::Limit),
             form,
             page,
             sink,
@@ -88,7 +88,7 @@ pub(crate) fn pass_line<R: Threads + Sync, F: Form, K: Sink, N: Net + Sync, D: D
             Ok(()) => Ok(next),
             Err(status) => Err(Over::Faulted(status)),
         },
-        Err(stop) => Err(stop_at(number, line, stop, form, page, sink)),
+        Err(error) => Err(stop_at(number, line, error, form, page, sink)),
     }
 }
 
@@ -96,20 +96,20 @@ pub(crate) fn pass_line<R: Threads + Sync, F: Form, K: Sink, N: Net + Sync, D: D
 fn stop_at<F: Form, K: Sink>(
     number: u32,
     line: &[u8],
-    stop: Stop,
+    error: LineError,
     form: &mut F,
     page: &mut Page,
     sink: &mut K,
 ) -> Over
-    ensures stops { IsStopWritten F.form number line.now stop form.old form.new (K.out sink.old) (K.out sink.new)
+    ensures stops { IsStopWritten F.form number line.now error form.old form.new (K.out sink.old) (K.out sink.new)
         result }
-    ensures no_memory { stop ≡ Stop.NoMemory → (result ≡ Over.Faulted LabStatus.NoMemory)
+    ensures no_memory { error ≡ LineError.NoMemory → (result ≡ Over.Faulted LabStatus.NoMemory)
         × (K.out sink.new ≡ K.out sink.old) }
     ensures risen { result ≡ Over.Faulted LabStatus.WriteFault
         → HasRisen (K.faults sink.old) (K.faults sink.new) }
     ensures faults { K.faults sink.old ≤ K.faults sink.new }
 {
-    let Ok(ending) = put_ending(&mut page.report, number, stop) else {
+    let Ok(ending) = put_ending(&mut page.report, number, error) else {
         return Over::Faulted(LabStatus::NoMemory);
     };
     match write_line(number, line, None, form, page, sink) {
@@ -119,18 +119,18 @@ fn stop_at<F: Form, K: Sink>(
 }
 
 // Puts down why the script stops at the line of this number, in place of what stood there.
-fn put_ending(report: &mut Vec<u8>, line: u32, stop: Stop) -> Result<Ending, AllocError>
-    ensures ending { IfOk result (IsEndingOf line stop) }
-    ensures text { OnOk result (report.new.items ≡ stop_text line stop) }
+fn put_ending(report: &mut Vec<u8>, line: u32, error: LineError) -> Result<Ending, AllocError>
+    ensures ending { IfOk result (IsEndingOf line error) }
+    ensures text { OnOk result (report.new.items ≡ line_error_text line error) }
 {
-    put_stop(report, line, stop)?;
-    match stop {
-        Stop::Refused(refusal) => Ok(Ending::Refused {
+    put_line_error(report, line, error)?;
+    match error {
+        LineError::Refused(refusal) => Ok(Ending::Refused {
             line,
             number: refusal.number(),
         }),
-        Stop::Foreign => Ok(Ending::Foreign { line }),
-        Stop::NoMemory => Err(AllocError),
+        LineError::Foreign => Ok(Ending::Foreign { line }),
+        LineError::NoMemory => Err(AllocError),
     }
 }
 

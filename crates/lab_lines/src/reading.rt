@@ -2,7 +2,7 @@ ghost use Rattle.std.specs.Prelude.{◌≡◌, ◌≢◌, ◌≤◌, []};
 ghost use Rattle.std.specs.Option.{option_map};
 ghost use Rattle.repo_io.specs.Lines.{lines};
 ghost use Rattle.repo_io.specs.Outside.{HasRisen};
-ghost use Rattle.script_story.specs.Judging.{given_by};
+ghost use Rattle.script_story.specs.Judging.{env_by};
 ghost use Rattle.script_story.specs.Story.{nothing_reached};
 ghost use Rattle.script_lines.specs.Reading.{LineIsBegun};
 ghost use Rattle.script_lines.specs.Scripts.{IsScript, reached};
@@ -37,11 +37,11 @@ pub fn run_form<R: Threads + Sync, F: Form, S: Source, K: Sink, N: Net + Sync, D
 ) -> LabStatus
     // What was written is what the form makes of the script, and the status is its status, where source and sink know
     // their octets. Whatever comes, it is a prefix of that text.
-    ensures writes { WritesOutcome (option_map (form_outcome F.form (given_by (D.draw draws.now) (N.passes net.now))
+    ensures writes { WritesOutcome (option_map (form_outcome F.form (env_by (D.draw draws.now) (N.passes net.now))
         form.old) (S.left source.old)) (K.out sink.old) (K.out sink.new) result }
 
     // The other answers have their causes. Memory may run out at any time.
-    ensures causes { HasCause (option_map (form_outcome F.form (given_by (D.draw draws.now) (N.passes net.now))
+    ensures causes { HasCause (option_map (form_outcome F.form (env_by (D.draw draws.now) (N.passes net.now))
         form.old) (S.left source.old)) result (HasRisen (S.faults source.old) (S.faults source.new))
         (HasRisen (K.faults sink.old) (K.faults sink.new)) }
     ensures never_usage { result ≢ LabStatus.Usage }
@@ -49,7 +49,7 @@ pub fn run_form<R: Threads + Sync, F: Form, S: Source, K: Sink, N: Net + Sync, D
     // The text of a line is written before the next line is looked for, and little is read past the line that stops the
     // script.
     ensures lines { Known (S.left source.old) (S.left source.new) (WritesLines F.form
-        (given_by (D.draw draws.now) (N.passes net.now)) form.old (K.out sink.old) (K.out sink.new) result) }
+        (env_by (D.draw draws.now) (N.passes net.now)) form.old (K.out sink.old) (K.out sink.new) result) }
 {
     let Ok(mut reader) = LineReader::new(alloc) else {
         return LabStatus::NoMemory;
@@ -84,7 +84,7 @@ fn run_lines<R: Threads + Sync, F: Form, S: Source, K: Sink, N: Net + Sync, D: D
     requires begun { reached begun ≡ nothing_reached }
     requires is { IsScript begun }
     ensures runs { Known (S.left source.old) (S.left source.new) (RunEnds F.form
-        (given_by (D.draw draws.now) (N.passes net.now)) form.old (K.out sink.old) (K.out sink.new) result) }
+        (env_by (D.draw draws.now) (N.passes net.now)) form.old (K.out sink.old) (K.out sink.new) result) }
     ensures read_fault { result ≡ LabStatus.ReadFault → HasRisen (S.faults source.old) (S.faults source.new) }
     ensures write_fault { result ≡ LabStatus.WriteFault → HasRisen (K.faults sink.old) (K.faults sink.new) }
     ensures never_usage { result ≢ LabStatus.Usage }
@@ -94,7 +94,7 @@ fn run_lines<R: Threads + Sync, F: Form, S: Source, K: Sink, N: Net + Sync, D: D
     loop {
         match reader.next(source) {
             Ok(Next::Line(count)) => {
-                let line = reader.front(count);
+                let line = reader.prefix(count);
                 script = match pass_line(
                     rt,
                     script,
@@ -139,7 +139,7 @@ fn run_last<R: Threads + Sync, F: Form, K: Sink, N: Net + Sync, D: Draws>(
     requires last { LineIsBegun line.now }
     requires lines { totals.lines ≤ most_lines }
     requires octets { totals.octets ≤ most_octets }
-    ensures ends { Ends (outcome_of F.form (ran_from F.form (given_by (D.draw draws.now) (N.passes net.now))
+    ensures ends { Ends (outcome_of F.form (ran_from F.form (env_by (D.draw draws.now) (N.passes net.now))
         (passed totals (reached script)) form.old (lines line.now))) (K.out sink.old) (K.out sink.new) result }
     ensures settled { IsSettled result }
     ensures write_fault { result ≡ LabStatus.WriteFault → HasRisen (K.faults sink.old) (K.faults sink.new) }

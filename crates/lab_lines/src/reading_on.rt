@@ -37,7 +37,7 @@ pub(crate) fn after_stop<F: Form, S: Source, K: Sink>(
     if !form.reads_on() {
         return end_form(form, ending, page, sink);
     }
-    let ended = has_end(reader.front(count));
+    let ended = has_end(reader.prefix(count));
     reader.pass(count);
     match read_on(ended, totals, form, reader, source) {
         Ok(()) => end_form(form, ending, page, sink),
@@ -82,7 +82,7 @@ fn pass_rest<S: Source>(
 {
     while totals.is_open() {
         let (count, ended) = next_piece(reader, source)?;
-        totals.count_more(reader.front(count));
+        totals.count_more(reader.prefix(count));
         reader.pass(count);
         if ended {
             return Ok(());
@@ -108,7 +108,7 @@ fn read_notes<F: Form, S: Source>(
         let Ok((count, _)) = next_piece(reader, source) else {
             return Err(LabStatus::ReadFault);
         };
-        let line = reader.front(count);
+        let line = reader.prefix(count);
         if !is_next_note(totals, line) {
             return Ok(());
         }
@@ -136,7 +136,7 @@ fn next_piece<S: Source>(reader: &mut LineReader, source: &mut S) -> Result<(usi
     ensures faults { S.faults source.old ≤ S.faults source.new }
 {
     match reader.next(source)? {
-        Next::Line(count) => Ok((count, has_end(reader.front(count)))),
+        Next::Line(count) => Ok((count, has_end(reader.prefix(count)))),
         Next::Last => Ok((reader.held().len(), true)),
     }
 }

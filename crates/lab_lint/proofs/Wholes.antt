@@ -4,8 +4,8 @@ use Rattle.std.proofs.Common.{None, sym, ap, subst}
 use Rattle.std.proofs.Common.{◌∙◌, if◌then◌else◌}
 use Rattle.std.specs.Option.{option_map}
 use Rattle.std.specs.Io.KnownBytes.{Keeps, prepend_known}
-use Rattle.repo_io.specs.Outside.{GainsFront, GainsText}
-use Rattle.repo_io.proofs.Outputs.{front_taken, front_whole}
+use Rattle.repo_io.specs.Outside.{GainsPrefix, GainsText}
+use Rattle.repo_io.proofs.Outputs.{prefix_taken, prefix_whole}
 use Rattle.lab_text.specs.declared.status.LabStatus.{LabStatus}
 use Rattle.lab_text.specs.declared.status.LabStatus.TheVariants.{Done, NoMemory, Refused, WriteFault}
 use Rattle.lab_text.specs.Outcomes.{HasCause, IsEnd, Outcome, WritesOutcome}
@@ -24,17 +24,17 @@ pub written_whole : (o : Outcome) (status : LabStatus) (a b : Option (List ℕ))
     → status ≡ o.status → status ≢ WriteFault → GainsText a b text → WritesOutcome (Some o) a b status
 written_whole o status a b text same ended sound gained =
     let all : GainsText a b o.text = subst (GainsText a b) same gained in
-    record { end = λ e. ended; text = λ e. all; prefix = front_whole a b o.text sound all }
+    record { end = λ e. ended; text = λ e. all; prefix = prefix_whole a b o.text sound all }
 
 -- the sink failed
 pub written_short : (o : Outcome) (a b : Option (List ℕ)) (text : List ℕ) (n : ℕ) → text ≡ o.text
     → n < length text → GainsText a b (take n text) → WritesOutcome (Some o) a b WriteFault
 written_short o a b text n same less gained =
-    let P : List ℕ → Type 0 = λ t. GainsFront a b t (WriteFault ≡ WriteFault) in
+    let P : List ℕ → Type 0 = λ t. GainsPrefix a b t (WriteFault ≡ WriteFault) in
     record {
       end = λ e. absurd e;
       text = λ e. absurd e;
-      prefix = subst P same (front_taken a b n text less gained);
+      prefix = subst P same (prefix_taken a b n text less gained);
     }
 
 outcome_is : (read rest input : List ℕ) → Keeps (Some input) (prepend_known read (Some rest))

@@ -143,7 +143,7 @@ module _ (ns sorted : List ℕ) (same : IsPermutation ns sorted) (up : IsNonDecr
       fewer x less =
           let p = λ (n : ℕ). leb n x in
           let parts = sum_by-take-drop (λ n. cond (p n) 1 0) sorted middle in
-          let front = count_by-le-length p (take middle sorted) in
+          let prefix = count_by-le-length p (take middle sorted) in
           let len = length-take middle sorted in
           let left = length-drop middle sorted in
           let each : (i : ℕ) → i < length (drop middle sorted) → p (get_or (drop middle sorted) i 0) ≡ false =

@@ -32,26 +32,26 @@ not_ended (b ∷ bs) free = elim (cases_Bool (eqb (get_or (b ∷ bs) (length (b 
 ]
 
 -- without its line feed a line is at least as long as octets before it
-left_long : (front more : List ℕ) → has_feed front ≡ false → length front ≤ length (without_feed (front ++ more))
-left_long front [] free =
-    let all : front ++ [] ≡ front = append-nil front in
-    rw (all, not_ended front free) (omega arith)
-left_long front (b ∷ bs) free = elim (cases_Bool (ends_with 10 (front ++ b ∷ bs))) [
+left_long : (prefix more : List ℕ) → has_feed prefix ≡ false → length prefix ≤ length (without_feed (prefix ++ more))
+left_long prefix [] free =
+    let all : prefix ++ [] ≡ prefix = append-nil prefix in
+    rw (all, not_ended prefix free) (omega arith)
+left_long prefix (b ∷ bs) free = elim (cases_Bool (ends_with 10 (prefix ++ b ∷ bs))) [
   | inl ended ↦
-      let size = length-take (length (front ++ b ∷ bs) - 1) (front ++ b ∷ bs) in
-      rw ended (omega (arith, size, length-append front (b ∷ bs)))
-  | inr open_ ↦ rw open_ (omega (arith, length-append front (b ∷ bs)))
+      let size = length-take (length (prefix ++ b ∷ bs) - 1) (prefix ++ b ∷ bs) in
+      rw ended (omega (arith, size, length-append prefix (b ∷ bs)))
+  | inr open_ ↦ rw open_ (omega (arith, length-append prefix (b ∷ bs)))
 ]
 
-module _ (front : List ℕ) (long : IsTooLong front) where
-  long_some : front ≢ []
+module _ (prefix : List ℕ) (long : IsTooLong prefix) where
+  long_some : prefix ≢ []
   long_some e = let none = ap length e in omega (arith, none, long.long)
 
-  long_beyond : (t : Totals) (more : List ℕ) → fits t (front ++ more) ≡ false
+  long_beyond : (t : Totals) (more : List ℕ) → fits t (prefix ++ more) ≡ false
   long_beyond t more =
-      let line = front ++ more in
+      let line = prefix ++ more in
       let test : leb (length (without_feed line)) 32768 ≡ false =
-      lt-leb (length (without_feed line)) 32768 (omega (arith, left_long front more long.free, long.long)) in
+      lt-leb (length (without_feed line)) 32768 (omega (arith, left_long prefix more long.free, long.long)) in
       and_left (fits_input t line) (is_note line || fits_script t line)
       (and_left (leb (length (without_feed line)) 32768 && ltb t.lines 1000000) (leb (t.octets + length line) 300000000)
       (and_left (leb (length (without_feed line)) 32768) (ltb t.lines 1000000) test))
@@ -86,17 +86,17 @@ before_before a b s =
 -- ---- what is read
 
 -- So much is held of an input, these lines of its script were read, and the totals are these.
-pub record Reads (held : List ℕ) (front : List (List ℕ)) (t : Totals) (input rest : List ℕ) : Type 0 where
-  pub script : script_of input ≡ lines_before front (script_from t (lines (held ++ rest)))
+pub record Reads (held : List ℕ) (prefix : List (List ℕ)) (t : Totals) (input rest : List ℕ) : Type 0 where
+  pub script : script_of input ≡ lines_before prefix (script_from t (lines (held ++ rest)))
 
-reads_read : (held held' : List ℕ) (front : List (List ℕ)) (t : Totals) (input rest rest' : List ℕ)
-    → held' ++ rest' ≡ held ++ rest → Reads held front t input rest → Reads held' front t input rest'
-reads_read held held' front t input rest rest' e r = record {
-  script = r.script ∙ ap (λ (octets : List ℕ). lines_before front (script_from t (lines octets))) (sym e);
+reads_read : (held held' : List ℕ) (prefix : List (List ℕ)) (t : Totals) (input rest rest' : List ℕ)
+    → held' ++ rest' ≡ held ++ rest → Reads held prefix t input rest → Reads held' prefix t input rest'
+reads_read held held' prefix t input rest rest' e r = record {
+  script = r.script ∙ ap (λ (octets : List ℕ). lines_before prefix (script_from t (lines octets))) (sym e);
 }
 
-module _ (held : List ℕ) (front : List (List ℕ)) (t : Totals) (input rest : List ℕ) (count : ℕ)
-    (h : HasLine count held) (r : Reads held front t input rest) where
+module _ (held : List ℕ) (prefix : List (List ℕ)) (t : Totals) (input rest : List ℕ) (count : ℕ)
+    (h : HasLine count held) (r : Reads held prefix t input rest) where
   by_whole : IsWhole (take count held)
       → lines (held ++ rest) ≡ take count held ∷ lines (drop count held ++ rest)
   by_whole whole =
@@ -114,29 +114,29 @@ module _ (held : List ℕ) (front : List (List ℕ)) (t : Totals) (input rest : 
       both_ways (fits t (held ++ [])) (long_beyond held long.0 t []) (subst (λ (l : List ℕ). fits t l ≡ true) all e)
 
   reads_line : fits t (take count held) ≡ true
-      → Reads (drop count held) (front ++ kept_line (take count held)) (with_line t (take count held)) input rest
+      → Reads (drop count held) (prefix ++ kept_line (take count held)) (with_line t (take count held)) input rest
   reads_line e = by_line h.line where
     by_line : (IsWhole (take count held) ⊎ (IsTooLong held × (count ≡ length held)))
-        → Reads (drop count held) (front ++ kept_line (take count held)) (with_line t (take count held)) input rest
+        → Reads (drop count held) (prefix ++ kept_line (take count held)) (with_line t (take count held)) input rest
     by_line (inl whole) = record {
-      script = r.script ∙ ap (λ (ls : List (List ℕ)). lines_before front (script_from t ls)) (by_whole whole)
-          ∙ ap (lines_before front) (first_taken t (take count held) (lines (drop count held ++ rest)) e)
-          ∙ before_before front (kept_line (take count held))
+      script = r.script ∙ ap (λ (ls : List (List ℕ)). lines_before prefix (script_from t ls)) (by_whole whole)
+          ∙ ap (lines_before prefix) (first_taken t (take count held) (lines (drop count held ++ rest)) e)
+          ∙ before_before prefix (kept_line (take count held))
           (script_from (with_line t (take count held)) (lines (drop count held ++ rest)));
     }
     by_line (inr long) = absurd (long_not_taken long e)
 
-  reads_cut : fits t (take count held) ≡ false → script_of input ≡ script_lines_are front true
+  reads_cut : fits t (take count held) ≡ false → script_of input ≡ script_lines_are prefix true
   reads_cut e = by_line h.line where
     cut : (line : List ℕ) (others : List (List ℕ)) → lines (held ++ rest) ≡ line ∷ others → fits t line ≡ false
-        → script_of input ≡ script_lines_are front true
+        → script_of input ≡ script_lines_are prefix true
     cut line others is beyond = r.script
-        ∙ ap (λ (ls : List (List ℕ)). lines_before front (script_from t ls)) is
-        ∙ ap (lines_before front) (first_cut t line others beyond)
-        ∙ ap (λ (ls : List (List ℕ)). script_lines_are ls true) (append-nil front)
+        ∙ ap (λ (ls : List (List ℕ)). lines_before prefix (script_from t ls)) is
+        ∙ ap (lines_before prefix) (first_cut t line others beyond)
+        ∙ ap (λ (ls : List (List ℕ)). script_lines_are ls true) (append-nil prefix)
 
     by_line : (IsWhole (take count held) ⊎ (IsTooLong held × (count ≡ length held)))
-        → script_of input ≡ script_lines_are front true
+        → script_of input ≡ script_lines_are prefix true
     by_line (inl whole) = cut (take count held) (lines (drop count held ++ rest)) (by_whole whole) e
     by_line (inr long) =
         let b = long_line held rest (long_some held long.0) long.0.free in
@@ -144,29 +144,30 @@ module _ (held : List ℕ) (front : List (List ℕ)) (t : Totals) (input rest : 
 
 -- ---- the octets after the last line feed
 
-pub last_none : (t : Totals) (front : List (List ℕ)) (held : List ℕ) → held ≡ []
-    → script_lines_are front false ≡ lines_before front (script_from t (lines held))
+pub last_none : (t : Totals) (prefix : List (List ℕ)) (held : List ℕ) → held ≡ []
+    → script_lines_are prefix false ≡ lines_before prefix (script_from t (lines held))
 unfolding lines
-last_none t front held none =
-    sym (ap (λ (octets : List ℕ). lines_before front (script_from t (lines octets))) none
-    ∙ ap (lines_before front) (no_lines t) ∙ ap (λ (ls : List (List ℕ)). script_lines_are ls false) (append-nil front))
+last_none t prefix held none =
+    sym (ap (λ (octets : List ℕ). lines_before prefix (script_from t (lines octets))) none
+    ∙ ap (lines_before prefix) (no_lines t) ∙ ap (λ (ls : List (List ℕ)). script_lines_are ls false)
+    (append-nil prefix))
 
-module _ (t : Totals) (front : List (List ℕ)) (held : List ℕ) (begun : LineIsBegun held) (some : held ≢ []) where
+module _ (t : Totals) (prefix : List (List ℕ)) (held : List ℕ) (begun : LineIsBegun held) (some : held ≢ []) where
   pub last_taken : fits t held ≡ true
-      → script_lines_are (front ++ kept_line held) false ≡ lines_before front (script_from t (lines held))
+      → script_lines_are (prefix ++ kept_line held) false ≡ lines_before prefix (script_from t (lines held))
   last_taken e =
-      sym (ap (λ (ls : List (List ℕ)). lines_before front (script_from t ls)) (open_line held some begun.free)
-      ∙ ap (lines_before front) (first_taken t held [] e
+      sym (ap (λ (ls : List (List ℕ)). lines_before prefix (script_from t ls)) (open_line held some begun.free)
+      ∙ ap (lines_before prefix) (first_taken t held [] e
       ∙ ap (lines_before (kept_line held)) (no_lines (with_line t held)))
-      ∙ before_before front (kept_line held) (script_lines_are [] false)
-      ∙ ap (λ (ls : List (List ℕ)). script_lines_are ls false) (append-nil (front ++ kept_line held)))
+      ∙ before_before prefix (kept_line held) (script_lines_are [] false)
+      ∙ ap (λ (ls : List (List ℕ)). script_lines_are ls false) (append-nil (prefix ++ kept_line held)))
 
   pub last_cut : fits t held ≡ false
-      → script_lines_are front true ≡ lines_before front (script_from t (lines held))
+      → script_lines_are prefix true ≡ lines_before prefix (script_from t (lines held))
   last_cut e =
-      sym (ap (λ (ls : List (List ℕ)). lines_before front (script_from t ls)) (open_line held some begun.free)
-      ∙ ap (lines_before front) (first_cut t held [] e)
-      ∙ ap (λ (ls : List (List ℕ)). script_lines_are ls true) (append-nil front))
+      sym (ap (λ (ls : List (List ℕ)). lines_before prefix (script_from t ls)) (open_line held some begun.free)
+      ∙ ap (lines_before prefix) (first_cut t held [] e)
+      ∙ ap (λ (ls : List (List ℕ)). script_lines_are ls true) (append-nil prefix))
 
 -- ---- where the input is known
 
@@ -176,14 +177,14 @@ known_map P Q f None now h = tt
 known_map P Q f (Some input) None h = absurd h
 known_map P Q f (Some input) (Some rest) h = f input rest h
 
-pub known_read : (held held' : List ℕ) (front : List (List ℕ)) (t : Totals) (before now now' : Option (List ℕ))
-    → Keeps (prepend_known held now) (prepend_known held' now') → Known before now (Reads held front t)
-    → Known before now' (Reads held' front t)
-known_read held held' front t None now now' k h = tt
-known_read held held' front t (Some input) None now' k h = absurd h
-known_read held held' front t (Some input) (Some rest) None k h = absurd k
-known_read held held' front t (Some input) (Some rest) (Some rest') k h =
-    reads_read held held' front t input rest rest' k h
+pub known_read : (held held' : List ℕ) (prefix : List (List ℕ)) (t : Totals) (before now now' : Option (List ℕ))
+    → Keeps (prepend_known held now) (prepend_known held' now') → Known before now (Reads held prefix t)
+    → Known before now' (Reads held' prefix t)
+known_read held held' prefix t None now now' k h = tt
+known_read held held' prefix t (Some input) None now' k h = absurd h
+known_read held held' prefix t (Some input) (Some rest) None k h = absurd k
+known_read held held' prefix t (Some input) (Some rest) (Some rest') k h =
+    reads_read held held' prefix t input rest rest' k h
 
 module _ (held : List ℕ) (before now : Option (List ℕ)) (count : ℕ) (h : HasLine count held) where
   pub known_taken : (old new : SoFar) → Takes old (take count held) new
@@ -202,11 +203,11 @@ module _ (held : List ℕ) (before now : Option (List ℕ)) (count : ℕ) (h : H
             (subst (λ (t : Totals). Reads (drop count held)
             (octets_of old.lines.items ++ kept_line (take count held)) t input rest) (sym takes.totals) r)
 
-  pub known_cut : (front : List (List ℕ)) (t : Totals) (s : Kept) → fits t (take count held) ≡ false
-      → lines_read s ≡ script_lines_are front true → Known before now (Reads held front t)
+  pub known_cut : (prefix : List (List ℕ)) (t : Totals) (s : Kept) → fits t (take count held) ≡ false
+      → lines_read s ≡ script_lines_are prefix true → Known before now (Reads held prefix t)
       → Known before now (IsRead s)
-  known_cut front t s beyond is = known_map (Reads held front t) (IsRead s)
+  known_cut prefix t s beyond is = known_map (Reads held prefix t) (IsRead s)
       (λ input rest r. record {
-        whole = reads_cut held front t input rest count h r beyond ∙ sym is;
+        whole = reads_cut held prefix t input rest count h r beyond ∙ sym is;
         ended = λ whole. absurd (both_ways s.cut whole (ap (λ (l : ScriptLines). l.cut) is));
       }) before now

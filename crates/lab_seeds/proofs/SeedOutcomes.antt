@@ -14,8 +14,8 @@ use Rattle.script_report.specs.declared.refusal.Refusal.TheVariants.{BadPacket, 
 use Rattle.script_report.specs.Refusals.{refusal_number, refusal_word}
 use Rattle.script_story.specs.declared.ending.Ending.{Ending}
 use Rattle.script_story.specs.Story.{Story}
-use Rattle.repo_io.specs.Outside.{GainsText, GainsFront}
-use Rattle.repo_io.proofs.Outputs.{front_taken, front_whole}
+use Rattle.repo_io.specs.Outside.{GainsText, GainsPrefix}
+use Rattle.repo_io.proofs.Outputs.{prefix_taken, prefix_whole}
 use Rattle.lab_text.specs.declared.status.LabStatus.{LabStatus}
 use Rattle.lab_text.specs.declared.status.LabStatus.TheVariants as lab
 use Rattle.lab_text.specs.Outcomes.{Outcome}
@@ -137,8 +137,8 @@ module _ (it : Outcome) (old : Option (List ℕ)) (Failed : Type 0) where
     fell_short n lt gained failed = record {
       end = λ e. absurd e;
       text = λ e. absurd e;
-      prefix = subst (λ (t : List ℕ). GainsFront old new t (lab.WriteFault ≡ lab.WriteFault)) is
-          (front_taken old new n text lt gained);
+      prefix = subst (λ (t : List ℕ). GainsPrefix old new t (lab.WriteFault ≡ lab.WriteFault)) is
+          (prefix_taken old new n text lt gained);
       write_fault = λ e. failed;
       others = inr (inl refl);
       never_usage = λ e. absurd cc;
@@ -154,7 +154,7 @@ module _ (it : Outcome) (old : Option (List ℕ)) (Failed : Type 0) where
         record {
           end = λ e. same;
           text = λ e. gains;
-          prefix = front_whole old new it.text whole gains;
+          prefix = prefix_whole old new it.text whole gains;
           write_fault = λ e. absurd (whole e);
           others = inl same;
           never_usage = not_failing ends (λ (s : LabStatus). s ≡ lab.Usage → ⊥) (λ e. absurd cc) (λ e. absurd cc);

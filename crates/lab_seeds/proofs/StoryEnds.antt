@@ -5,13 +5,13 @@ use Rattle.std.proofs.Common.{subst, ◌∙◌, arith}
 use Rattle.std.proofs.Common.{◌<◌, drop, get_or, Vec, Global}
 use Rattle.std.specs.Bool.{⊤}
 use Rattle.std.proofs.lemmas.List.{drop_more}
-use Rattle.script_story.specs.Judging.{Given, Verdict, says}
-use Rattle.script_story.specs.Story.{Reached, Story, behind_text, judged_next, nothing_reached, reached_behind}
+use Rattle.script_story.specs.Judging.{RunEnvironment, Verdict, says}
+use Rattle.script_story.specs.Story.{Reached, Story, after_text, judged_next, nothing_reached, reached_after}
 use Rattle.script_story.specs.Story.{story_from}
 use Rattle.script_story.specs.Story.{story_of_line}
-use Rattle.script_lines.specs.declared.stop.Stop.{Stop}
-use Rattle.script_lines.specs.declared.stop.Stop.TheVariants as stop
-use Rattle.script_lines.specs.Progressing.{IsStop}
+use Rattle.script_lines.specs.declared.error.LineError.{LineError}
+use Rattle.script_lines.specs.declared.error.LineError.TheVariants as error
+use Rattle.script_lines.specs.RunStates.{IsLineError}
 use Rattle.lab_seeds.specs.declared.end.SeedEnd.{SeedEnd}
 use Rattle.lab_seeds.specs.declared.end.SeedEnd.TheVariants.{Done, Refused, Foreign}
 use Rattle.lab_seeds.specs.Counted.{figures_at}
@@ -46,20 +46,20 @@ alike_cut true n s t a = record { ending = ap (ending_at n) a.ending; world = a.
 
 -- ---- a line
 
-module _ (given : Given) (r : Reached) (line : List ℕ) (others : List (List ℕ)) where
-  story_line : story_from given r (line ∷ others)
-      ≡ story_of_line (λ next. story_from given next others) r line (judged_next given r line)
+module _ (env : RunEnvironment) (r : Reached) (line : List ℕ) (others : List (List ℕ)) where
+  story_line : story_from env r (line ∷ others)
+      ≡ story_of_line (λ next. story_from env next others) r line (judged_next env r line)
   unfolding story_from
   story_line = refl
 
   -- it is taken
-  goes_on : (report : List ℕ) (next : Reached) → judged_next given r line ≡ says report next.state
-      → next ≡ reached_behind r line report next.state
-      → EndsAlike (story_from given r (line ∷ others)) (story_from given next others)
+  goes_on : (report : List ℕ) (next : Reached) → judged_next env r line ≡ says report next.state
+      → next ≡ reached_after r line report next.state
+      → EndsAlike (story_from env r (line ∷ others)) (story_from env next others)
   goes_on report next verdict then =
-      let tell : Verdict → Story = λ v. story_of_line (λ n. story_from given n others) r line v in
-      let follow : Reached → Story = λ n. behind_text report (story_from given n others) in
-      let is : story_from given r (line ∷ others) ≡ behind_text report (story_from given next others) =
+      let tell : Verdict → Story = λ v. story_of_line (λ n. story_from env n others) r line v in
+      let follow : Reached → Story = λ n. after_text report (story_from env n others) in
+      let is : story_from env r (line ∷ others) ≡ after_text report (story_from env next others) =
       story_line ∙ ap tell verdict ∙ ap follow (sym then) in
       record { ending = ap (λ (s : Story). s.ending) is; world = ap (λ (s : Story). s.world) is }
 
@@ -75,75 +75,75 @@ early_cut true n s (Done f) early is = absurd early
 early_cut true n s (Refused line why) early is = ap (ending_at n) is
 early_cut true n s (Foreign line) early is = ap (ending_at n) is
 
-module _ (given : Given) (r : Reached) (line : List ℕ) (others : List (List ℕ)) where
+module _ (env : RunEnvironment) (r : Reached) (line : List ℕ) (others : List (List ℕ)) where
   -- the script stops at it
-  stops : (why : Stop) (e : SeedEnd) → IsStop (judged_next given r line) why → IsEndAt (r.lines + 1) why e
-      → IsEarly e × IsEndOf (story_from given r (line ∷ others)) e
-  stops (stop.Refused why) e is end =
-      let tell : Verdict → Story = λ v. story_of_line (λ n. story_from given n others) r line v in
-      let story = story_line given r line others ∙ ap tell is in (
+  stops : (why : LineError) (e : SeedEnd) → IsLineError (judged_next env r line) why → IsEndAt (r.lines + 1) why e
+      → IsEarly e × IsEndOf (story_from env r (line ∷ others)) e
+  stops (error.Refused why) e is end =
+      let tell : Verdict → Story = λ v. story_of_line (λ n. story_from env n others) r line v in
+      let story = story_line env r line others ∙ ap tell is in (
         subst IsEarly (sym end) tt,
-        subst (IsEndOf (story_from given r (line ∷ others))) (sym end) (ap (λ (s : Story). s.ending) story),
+        subst (IsEndOf (story_from env r (line ∷ others))) (sym end) (ap (λ (s : Story). s.ending) story),
       )
-  stops stop.Foreign e is end =
-      let tell : Verdict → Story = λ v. story_of_line (λ n. story_from given n others) r line v in
-      let story = story_line given r line others ∙ ap tell is in (
+  stops error.Foreign e is end =
+      let tell : Verdict → Story = λ v. story_of_line (λ n. story_from env n others) r line v in
+      let story = story_line env r line others ∙ ap tell is in (
         subst IsEarly (sym end) tt,
-        subst (IsEndOf (story_from given r (line ∷ others))) (sym end) (ap (λ (s : Story). s.ending) story),
+        subst (IsEndOf (story_from env r (line ∷ others))) (sym end) (ap (λ (s : Story). s.ending) story),
       )
-  stops stop.NoMemory e is end = absurd end
+  stops error.NoMemory e is end = absurd end
 
 -- no line is left
-last : (given : Given) (r : Reached) (cut : Bool) (e : SeedEnd) → EndsAfter r cut e
-    → IsEndOf (cut_at cut (r.lines + 1) (story_from given r [])) e
+last : (env : RunEnvironment) (r : Reached) (cut : Bool) (e : SeedEnd) → EndsAfter r cut e
+    → IsEndOf (cut_at cut (r.lines + 1) (story_from env r [])) e
 unfolding story_from
-last given r true e is = subst (IsEndOf (cut_at true (r.lines + 1) (story_from given r []))) (sym is) refl
-last given r false e is = subst (IsEndOf (story_from given r [])) (sym is) (record { ending = refl; figures = refl })
+last env r true e is = subst (IsEndOf (cut_at true (r.lines + 1) (story_from env r []))) (sym is) refl
+last env r false e is = subst (IsEndOf (story_from env r [])) (sym is) (record { ending = refl; figures = refl })
 
 -- ---- a script
 
 -- Lines were carried out, and these are left.
-pub record Carries (given : Given) (s : ScriptLines) (left : List (List ℕ)) (r : Reached) : Type 0 where
-  pub alike : EndsAlike (story_from given nothing_reached s.lines) (story_from given r left)
+pub record Carries (env : RunEnvironment) (s : ScriptLines) (left : List (List ℕ)) (r : Reached) : Type 0 where
+  pub alike : EndsAlike (story_from env nothing_reached s.lines) (story_from env r left)
   pub count : r.lines + length left ≡ length s.lines
 
-module _ (given : Given) (s : ScriptLines) (r : Reached) where
+module _ (env : RunEnvironment) (s : ScriptLines) (r : Reached) where
   pub carries_more : (line : List ℕ) (others : List (List ℕ)) (report : List ℕ) (next : Reached)
-      → judged_next given r line ≡ says report next.state → next ≡ reached_behind r line report next.state
-      → Carries given s (line ∷ others) r → Carries given s others next
+      → judged_next env r line ≡ says report next.state → next ≡ reached_after r line report next.state
+      → Carries env s (line ∷ others) r → Carries env s others next
   carries_more line others report next verdict then so_far = record {
-    alike = alike_then (story_from given nothing_reached s.lines) (story_from given r (line ∷ others))
-        (story_from given next others) so_far.alike (goes_on given r line others report next verdict then);
+    alike = alike_then (story_from env nothing_reached s.lines) (story_from env r (line ∷ others))
+        (story_from env next others) so_far.alike (goes_on env r line others report next verdict then);
     count =
         let lines : next.lines ≡ r.lines + 1 = ap (λ (n : Reached). n.lines) then in
         let count = so_far.count in
         omega arith;
   }
 
-  pub carries_stopped : (line : List ℕ) (others : List (List ℕ)) (number : ℕ) (why : Stop)
-      → number ≡ r.lines + 1 → IsStop (judged_next given r line) why → Carries given s (line ∷ others) r
-      → (e : SeedEnd) → IsEndAt number why e → IsEndOf (script_story given s) e
+  pub carries_stopped : (line : List ℕ) (others : List (List ℕ)) (number : ℕ) (why : LineError)
+      → number ≡ r.lines + 1 → IsLineError (judged_next env r line) why → Carries env s (line ∷ others) r
+      → (e : SeedEnd) → IsEndAt number why e → IsEndOf (script_story env s) e
   carries_stopped line others number why at is so_far e end =
       let here : IsEndAt (r.lines + 1) why e = subst (λ (n : ℕ). IsEndAt n why e) at end in
-      let h = stops given r line others why e is here in
-      early_cut s.cut (length s.lines + 1) (story_from given nothing_reached s.lines) e h.0
-      (alike_end (story_from given nothing_reached s.lines) (story_from given r (line ∷ others)) e so_far.alike h.1)
+      let h = stops env r line others why e is here in
+      early_cut s.cut (length s.lines + 1) (story_from env nothing_reached s.lines) e h.0
+      (alike_end (story_from env nothing_reached s.lines) (story_from env r (line ∷ others)) e so_far.alike h.1)
 
-  pub carries_none : Carries given s [] r → (e : SeedEnd) → EndsAfter r s.cut e → IsEndOf (script_story given s) e
+  pub carries_none : Carries env s [] r → (e : SeedEnd) → EndsAfter r s.cut e → IsEndOf (script_story env s) e
   carries_none so_far e end =
       let count = so_far.count in
       let number : r.lines + 1 ≡ length s.lines + 1 = omega arith in
-      alike_end (script_story given s) (cut_at s.cut (length s.lines + 1) (story_from given r [])) e
-      (alike_cut s.cut (length s.lines + 1) (story_from given nothing_reached s.lines) (story_from given r [])
+      alike_end (script_story env s) (cut_at s.cut (length s.lines + 1) (story_from env r [])) e
+      (alike_cut s.cut (length s.lines + 1) (story_from env nothing_reached s.lines) (story_from env r [])
       so_far.alike)
-      (subst (λ (n : ℕ). IsEndOf (cut_at s.cut n (story_from given r [])) e) number (last given r s.cut e end))
+      (subst (λ (n : ℕ). IsEndOf (cut_at s.cut n (story_from env r [])) e) number (last env r s.cut e end))
 
 -- the next line of those that are kept
-pub next_line : (given : Given) (s : ScriptLines) (items : List (Vec ℕ Global)) (i : ℕ) (item : Vec ℕ Global)
-    (r : Reached) → i < length items → item ≡ get_or items i item → Carries given s (octets_of (drop i items)) r
-    → Carries given s (item.items ∷ octets_of (drop (i + 1) items)) r
-next_line given s items i item r lt is so_far =
+pub next_line : (env : RunEnvironment) (s : ScriptLines) (items : List (Vec ℕ Global)) (i : ℕ) (item : Vec ℕ Global)
+    (r : Reached) → i < length items → item ≡ get_or items i item → Carries env s (octets_of (drop i items)) r
+    → Carries env s (item.items ∷ octets_of (drop (i + 1) items)) r
+next_line env s items i item r lt is so_far =
     let left : octets_of (drop i items) ≡ item.items ∷ octets_of (drop (i + 1) items) =
     ap octets_of (drop_more items i item lt)
     ∙ ap (λ (v : Vec ℕ Global). v.items ∷ octets_of (drop (i + 1) items)) (sym is) in
-    subst (λ (ls : List (List ℕ)). Carries given s ls r) left so_far
+    subst (λ (ls : List (List ℕ)). Carries env s ls r) left so_far

@@ -2,8 +2,8 @@
 use Rattle.std.specs.Prelude.{◌≡◌, ⊤, ℕ, ◌+◌, Bool, true, false, List, [], ◌∷◌}
 use Rattle.script_report.specs.declared.refusal.Refusal.TheVariants.{Limit}
 use Rattle.script_report.specs.Refusals.{refusal_number}
-use Rattle.script_lines.specs.declared.stop.Stop.{Stop}
-use Rattle.script_lines.specs.declared.stop.Stop.TheVariants as stop
+use Rattle.script_lines.specs.declared.error.LineError.{LineError}
+use Rattle.script_lines.specs.declared.error.LineError.TheVariants as error
 use Rattle.script_story.specs.declared.ending.Ending.TheVariants as ending
 use Rattle.script_story.specs.Story.{Reached, Story}
 use Rattle.lab_seeds.specs.declared.end.SeedEnd.{SeedEnd}
@@ -25,10 +25,10 @@ IsEndOf s (Foreign line) = s.ending ≡ ending.Foreign line
 -- ---- as a script is carried out
 
 -- The end is that of a script that stops so at a line.
-abbrev pub IsEndAt : ℕ → Stop → SeedEnd → Type 0
-IsEndAt line (stop.Refused why) end = end ≡ Refused line why
-IsEndAt line stop.Foreign end = end ≡ Foreign line
-IsEndAt line stop.NoMemory end = ⊥
+abbrev pub IsEndAt : ℕ → LineError → SeedEnd → Type 0
+IsEndAt line (error.Refused why) end = end ≡ Refused line why
+IsEndAt line error.Foreign end = end ≡ Foreign line
+IsEndAt line error.NoMemory end = ⊥
 
 -- The end is that of a script whose lines were taken, where another line may follow that leaves a limit.
 abbrev pub EndsAfter : Reached → Bool → SeedEnd → Type 0

@@ -41,7 +41,7 @@ pub record Takes (old : SoFar) (line : List ℕ) (new : SoFar) : Type 0 where
 
 -- Lines before those of a script.
 abbrev pub lines_before : List (List ℕ) → ScriptLines → ScriptLines
-lines_before front s = script_lines_are (front ++ s.lines) s.cut
+lines_before prefix s = script_lines_are (prefix ++ s.lines) s.cut
 
 -- What holds of an input and of what is left of it, where both are known.
 abbrev pub Known : Option (List ℕ) → Option (List ℕ) → (List ℕ → List ℕ → Type 0) → Type 0

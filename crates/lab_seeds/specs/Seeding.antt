@@ -15,7 +15,7 @@ use Rattle.lab_text.specs.declared.status.LabStatus.{LabStatus}
 use Rattle.lab_text.specs.declared.status.LabStatus.TheVariants.{Done, Usage, Refused, ReadFault}
 use Rattle.lab_text.specs.declared.status.LabStatus.TheVariants.{WriteFault, NoMemory}
 use Rattle.lab_text.specs.Outcomes.{IsEnd, Outcome}
-use Rattle.repo_io.specs.Outside.{GainsText, GainsFront}
+use Rattle.repo_io.specs.Outside.{GainsText, GainsPrefix}
 use Rattle.lab_seeds.specs.declared.end.SeedEnd.{SeedEnd}
 use Rattle.lab_seeds.specs.declared.figures.Figures.{Figures}
 use Rattle.lab_seeds.specs.Counted.{figures_at}
@@ -79,7 +79,7 @@ pub record WritesSeeds (it : Outcome) (old new : Option (List ℕ)) (SinkFailed 
     : Type 0 where
   pub end : IsEnd status → status ≡ it.status
   pub text : IsEnd status → GainsText old new it.text
-  pub prefix : GainsFront old new it.text (status ≡ WriteFault)
+  pub prefix : GainsPrefix old new it.text (status ≡ WriteFault)
   pub write_fault : status ≡ WriteFault → SinkFailed
   pub others : (status ≡ it.status) ⊎ ((status ≡ WriteFault) ⊎ (status ≡ NoMemory))
   pub never_usage : status ≢ Usage

@@ -5,7 +5,7 @@ use Rattle.script_report.specs.Refusals.{refusal_number, refusal_text}
 use Rattle.script_story.specs.declared.ending.Ending.{Ending}
 use Rattle.script_story.specs.declared.ending.Ending.TheVariants.{Done, Refused, Foreign}
 use Rattle.bench_net.specs.Keystream.{seeded_draw, seeded_passes}
-use Rattle.script_story.specs.Judging.{Given, given_by}
+use Rattle.script_story.specs.Judging.{RunEnvironment, env_by}
 use Rattle.script_story.specs.Story.{Story, nothing_reached, story_from}
 use Rattle.lab_seeds.specs.Inputs.{ScriptLines}
 use Rattle.lab_seeds.specs.Seeds.{seed_octets}
@@ -28,12 +28,12 @@ cut_at false number s = s
 cut_at true number s = record s { text = text_at number s.ending s.text; ending = ending_at number s.ending }
 
 -- The story of a script.
-abbrev pub script_story : Given → ScriptLines → Story
-script_story given s = cut_at s.cut (length s.lines + 1) (story_from given nothing_reached s.lines)
+abbrev pub script_story : RunEnvironment → ScriptLines → Story
+script_story env s = cut_at s.cut (length s.lines + 1) (story_from env nothing_reached s.lines)
 
 -- What a seed decides: the draws, and which attempts the network passes.
-abbrev pub given_of : ℕ → Given
-given_of seed = given_by (seeded_draw (seed_octets seed)) (seeded_passes (seed_octets seed))
+abbrev pub given_of : ℕ → RunEnvironment
+given_of seed = env_by (seeded_draw (seed_octets seed)) (seeded_passes (seed_octets seed))
 
 -- The same under a seed.
 abbrev pub seed_story : ScriptLines → ℕ → Story

@@ -212,7 +212,7 @@ fn read_lines<S: Source>(
     loop {
         match reader.next(source)? {
             Next::Line(count) => {
-                if !so_far.take(reader.front(count))? {
+                if !so_far.take(reader.prefix(count))? {
                     return Ok(so_far.cut_off());
                 }
                 reader.pass(count);

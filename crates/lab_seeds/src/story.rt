@@ -1,6 +1,6 @@
 ghost use Rattle.std.specs.Prelude.{◌≡◌, ◌+◌, IfOk};
 ghost use Rattle.bench_net.specs.Keystream.{seeded_draw, seeded_passes};
-ghost use Rattle.script_story.specs.Judging.{given_by};
+ghost use Rattle.script_story.specs.Judging.{env_by};
 ghost use Rattle.script_lines.specs.Scripts.{IsScript, reached};
 ghost use Rattle.lab_seeds.specs.Counted.{figures_at};
 ghost use Rattle.lab_seeds.specs.Endings.{EndsAfter, IsEndAt, IsEndOf};
@@ -12,7 +12,7 @@ use crate::end::SeedEnd;
 use crate::figures::{Figures, NO_FIGURES};
 use crate::input::ScriptLines;
 use bench_net::Seeded;
-use script_lines::{Script, Stop};
+use script_lines::{LineError, Script};
 use script_report::Refusal;
 use std::alloc::{AllocError, Global};
 use std::thread::Threads;
@@ -24,7 +24,7 @@ pub(crate) fn end_of<R: Threads + Sync>(
     script: &ScriptLines,
     seeded: &Seeded,
 ) -> Result<SeedEnd, AllocError>
-    ensures { IfOk result (IsEndOf (script_story (given_by (seeded_draw seeded.now) (seeded_passes seeded.now))
+    ensures { IfOk result (IsEndOf (script_story (env_by (seeded_draw seeded.now) (seeded_passes seeded.now))
         (lines_read script.now))) }
 {
     let mut state = Script::new(alloc);
@@ -33,20 +33,20 @@ pub(crate) fn end_of<R: Threads + Sync>(
         let number = state.next_line();
         state = match state.take(rt, line, &mut report, seeded, seeded) {
             Ok(next) => next,
-            Err(stop) => return stopped(number, stop),
+            Err(error) => return stopped(number, error),
         };
     }
     Ok(end_after(&state, script.cut))
 }
 
 // The end at the line of this number.
-fn stopped(line: u32, stop: Stop) -> Result<SeedEnd, AllocError>
-    ensures { IfOk result (IsEndAt line stop) }
+fn stopped(line: u32, error: LineError) -> Result<SeedEnd, AllocError>
+    ensures { IfOk result (IsEndAt line error) }
 {
-    match stop {
-        Stop::Refused(refusal) => Ok(SeedEnd::Refused { line, refusal }),
-        Stop::Foreign => Ok(SeedEnd::Foreign { line }),
-        Stop::NoMemory => Err(AllocError),
+    match error {
+        LineError::Refused(refusal) => Ok(SeedEnd::Refused { line, refusal }),
+        LineError::Foreign => Ok(SeedEnd::Foreign { line }),
+        LineError::NoMemory => Err(AllocError),
     }
 }
 

@@ -1,5 +1,5 @@
-//! Tests of the lab: what its forms write over scripts with notes, and how they end where the words, the input, a read or
-//! a write is at fault.
+//! Tests of the lab: what its forms write over scripts with notes, and how they end where the words, the input, a read
+//! or a write is at fault.
 //!
 //! They stand in a crate of their own, since a library is proved once more for the tests that stand in it.
 #![tactic(auto)]

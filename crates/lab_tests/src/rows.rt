@@ -127,7 +127,7 @@ const LINES: [Row; 19] = [
         LabStatus::Done,
         "same 2\n",
     ),
-    // Notes that stand after another line are no notes of this one, and two lines are told.
+    // Notes that stand after another line are no notes of this one, and two lines are reported.
     (
         "check",
         "group /g\nsettle 1\n# c\n#> settle syncs 0 kept 0\n",

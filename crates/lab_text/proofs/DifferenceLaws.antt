@@ -95,14 +95,14 @@ rest_ended rest p e back = sym (reverse-reverse rest) ∙ ap reverse back ∙ re
 
 pub differing_between : (expected came : List (List ℕ)) → LiesBetween expected came (differing expected came)
 differing_between expected came =
-    let front = shares_prefix expected came in
+    let leading = shares_prefix expected came in
     let first = after_common_prefix expected came in
     let back = shares_prefix (reverse first.expected) (reverse first.came) in
     record {
-      prefix = front.prefix;
+      prefix = leading.prefix;
       suffix = reverse back.prefix;
-      expected_is = joined expected front.prefix first.expected back.prefix _ front.expected_is back.expected_is;
-      came_is = joined came front.prefix first.came back.prefix _ front.came_is back.came_is;
+      expected_is = joined expected leading.prefix first.expected back.prefix _ leading.expected_is back.expected_is;
+      came_is = joined came leading.prefix first.came back.prefix _ leading.came_is back.came_is;
     } where
       joined : (all prefix rest p e : List (List ℕ)) → all ≡ prefix ++ rest → reverse rest ≡ p ++ e
           → all ≡ (prefix ++ reverse e) ++ reverse p

@@ -58,8 +58,8 @@ feed_or_not octets = go (ends_with 10 octets) refl where
 
 -- ---- no line feed
 
-pub free_both : (front back : List ℕ) → has_feed front ≡ false → has_feed back ≡ false
-    → has_feed (front ++ back) ≡ false
+pub free_both : (prefix back : List ℕ) → has_feed prefix ≡ false → has_feed back ≡ false
+    → has_feed (prefix ++ back) ≡ false
 free_both [] back f g = g
 free_both (b ∷ bs) back f g =
     let parts = or_parts (eqb b 10) (has_feed bs) f in
@@ -96,7 +96,7 @@ free_of line one = go (has_feed (without_feed line)) one where
   go false e = refl
 
 pub whole_is_one : (line : List ℕ) → IsWhole line → is_one_line line ≡ true
-whole_is_one line w = rw (w.is, feed_gone w.front, w.free) refl
+whole_is_one line w = rw (w.is, feed_gone w.prefix, w.free) refl
 
 open_is_one : (line : List ℕ) → IsOpen line → is_one_line line ≡ true
 open_is_one line o = rw (free_is_text line o.free, o.free) refl

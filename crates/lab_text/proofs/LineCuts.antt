@@ -8,7 +8,7 @@ use Rattle.std.proofs.lemmas.Bool.Decides.{eqb_tells}
 use Rattle.std.proofs.lemmas.List.{append-nil, drop_all}
 use Rattle.std.proofs.Math.Seq.{take-append_seam, take-length, drop-append_seam}
 use Rattle.std.proofs.Math.Nat.{le_refl}
-use Rattle.repo_io.specs.Lines.{has_feed, octet_in_front, lines}
+use Rattle.repo_io.specs.Lines.{has_feed, octet_before, lines}
 use Rattle.repo_io.proofs.LineLaws.{no_feed_found, open_line, whole_first}
 use Rattle.lab_text.specs.Cutting.{AreWholeLines, HasOpenEnd}
 use Rattle.lab_text.specs.LineTexts.{line_texts, marked_lines, without_feed}
@@ -49,28 +49,28 @@ open_cut octets some e = rw (take-length octets, drop_all (length octets) octets
 
 -- ---- lines after lines
 
-in_front_some : (b : ℕ) (ends : Bool) (ls : List (List ℕ)) → octet_in_front b ends ls ≢ []
-in_front_some b true ls = λ e. cc
-in_front_some b false [] = λ e. cc
-in_front_some b false (line ∷ ls) = λ e. cc
+before_some : (b : ℕ) (ends : Bool) (ls : List (List ℕ)) → octet_before b ends ls ≢ []
+before_some b true ls = λ e. cc
+before_some b false [] = λ e. cc
+before_some b false (line ∷ ls) = λ e. cc
 
 pub lines_some : (b : ℕ) (octets : List ℕ) → lines (b ∷ octets) ≢ []
 unfolding lines
-lines_some b octets = in_front_some b (eqb b 10) (lines octets)
+lines_some b octets = before_some b (eqb b 10) (lines octets)
 
-in_front_more : (b : ℕ) (ends : Bool) (ls ms : List (List ℕ)) → ls ≢ []
-    → octet_in_front b ends (ls ++ ms) ≡ octet_in_front b ends ls ++ ms
-in_front_more b true ls ms some = refl
-in_front_more b false [] ms some = absurd (some refl)
-in_front_more b false (line ∷ ls) ms some = refl
+before_more : (b : ℕ) (ends : Bool) (ls ms : List (List ℕ)) → ls ≢ []
+    → octet_before b ends (ls ++ ms) ≡ octet_before b ends ls ++ ms
+before_more b true ls ms some = refl
+before_more b false [] ms some = absurd (some refl)
+before_more b false (line ∷ ls) ms some = refl
 
 -- lines that end with a line feed are so whatever follows
 after_feed : (text more : List ℕ) → lines ((text ++ 10 ∷ []) ++ more) ≡ lines (text ++ 10 ∷ []) ++ lines more
 unfolding lines
 after_feed [] more = refl
-after_feed (b ∷ []) more = rw (after_feed [] more) (in_front_more b (eqb b 10) (lines (10 ∷ [])) (lines more)
+after_feed (b ∷ []) more = rw (after_feed [] more) (before_more b (eqb b 10) (lines (10 ∷ [])) (lines more)
     (lines_some 10 []))
-after_feed (b ∷ d ∷ text) more = rw (after_feed (d ∷ text) more) (in_front_more b (eqb b 10)
+after_feed (b ∷ d ∷ text) more = rw (after_feed (d ∷ text) more) (before_more b (eqb b 10)
     (lines (d ∷ (text ++ 10 ∷ []))) (lines more) (lines_some d (text ++ 10 ∷ [])))
 
 pub lines_then : (octets more : List ℕ) → AreWholeLines octets → lines (octets ++ more) ≡ lines octets ++ lines more
@@ -84,7 +84,7 @@ one_line : (text : List ℕ) (last : ℕ) → has_feed text ≡ false → lines 
 unfolding lines
 one_line text last free = elim (eqb_tells last 10) [
   | inl same ↦ ap lines (sym (append-nil (text ++ last ∷ [])))
-      ∙ whole_first (text ++ last ∷ []) [] (record { front = text; free = free; is = rw same.1 refl })
+      ∙ whole_first (text ++ last ∷ []) [] (record { prefix = text; free = free; is = rw same.1 refl })
   | inr other ↦ open_line (text ++ last ∷ []) (some text) (free_then text free other.0)
 ] where
   some : (t : List ℕ) → t ++ last ∷ [] ≢ []
@@ -96,10 +96,10 @@ one_line text last free = elim (eqb_tells last 10) [
   free_then (b ∷ t) f e = let parts = or_parts (eqb b 10) (has_feed t) f in
       or_from (eqb b 10) (has_feed (t ++ last ∷ [])) parts.0 (free_then t parts.1 e)
 
-pub last_cut : (octets front before : List ℕ) (last : ℕ) → octets ≡ front ++ last ∷ [] → AreWholeLines before
-    → HasOpenEnd before front
+pub last_cut : (octets prefix before : List ℕ) (last : ℕ) → octets ≡ prefix ++ last ∷ [] → AreWholeLines before
+    → HasOpenEnd before prefix
     → lines octets ≡ lines (take (length before) octets) ++ drop (length before) octets ∷ []
-last_cut octets front before last e whole w =
+last_cut octets prefix before last e whole w =
     let is : octets ≡ before ++ (w.after ++ last ∷ []) =
     e ∙ ap (λ (t : List ℕ). t ++ last ∷ []) w.is ∙ append_assoc before w.after (last ∷ []) in
     rw (is, take-append_seam before (w.after ++ last ∷ []), drop-append_seam before (w.after ++ last ∷ []))
@@ -109,11 +109,11 @@ last_cut octets front before last e whole w =
 pub nothing_open : (octets : List ℕ) → HasOpenEnd octets octets
 nothing_open octets = record { after = []; is = sym (append-nil octets); free = refl }
 
-pub one_more_open : (octets before front : List ℕ) (last : ℕ) → before ≡ front ++ last ∷ [] → eqb last 10 ≡ false
-    → HasOpenEnd before octets → HasOpenEnd front octets
-one_more_open octets before front last e other w = record {
+pub one_more_open : (octets before prefix : List ℕ) (last : ℕ) → before ≡ prefix ++ last ∷ [] → eqb last 10 ≡ false
+    → HasOpenEnd before octets → HasOpenEnd prefix octets
+one_more_open octets before prefix last e other w = record {
   after = last ∷ w.after;
-  is = w.is ∙ ap (λ (t : List ℕ). t ++ w.after) e ∙ append_assoc front (last ∷ []) w.after;
+  is = w.is ∙ ap (λ (t : List ℕ). t ++ w.after) e ∙ append_assoc prefix (last ∷ []) w.after;
   free = or_from (eqb last 10) (has_feed w.after) other w.free;
 }
 

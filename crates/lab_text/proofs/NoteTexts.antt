@@ -112,7 +112,7 @@ note_as_shown line short =
 
 pub shown_of_whole : (line : List ℕ) → IsWhole line → length (without_feed line) ≤ 32769 → shown_line line ≡ line
 shown_of_whole line whole short =
-    ap (λ (t : List ℕ). t ++ 10 ∷ []) (shown_of_short line short ∙ ap without_feed whole.is ∙ feed_gone whole.front)
+    ap (λ (t : List ℕ). t ++ 10 ∷ []) (shown_of_short line short ∙ ap without_feed whole.is ∙ feed_gone whole.prefix)
     ∙ sym whole.is
 
 pub shown_again : (line : List ℕ) → shown_line (shown_line line) ≡ shown_line line

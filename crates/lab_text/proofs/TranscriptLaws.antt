@@ -5,7 +5,7 @@ use Rattle.std.specs.List.{concat, flat_map}
 use Rattle.std.proofs.lemmas.Bool.{or_from}
 use Rattle.std.proofs.lemmas.Bool.Decides.{eqb_tells}
 use Rattle.std.proofs.lemmas.List.{append-nil}
-use Rattle.repo_io.specs.Lines.{IsWhole, has_feed, lines, octet_in_front}
+use Rattle.repo_io.specs.Lines.{IsWhole, has_feed, lines, octet_before}
 use Rattle.repo_io.proofs.LineLaws.{lines_joined, whole_first}
 use Rattle.lab_text.specs.Cutting.{AreWholeLines}
 use Rattle.lab_text.specs.LineTexts.{are_one_line_each, is_one_line, line_texts, marked_line, marked_lines}
@@ -21,27 +21,27 @@ AreFree : List (List ℕ) → Type 0
 AreFree [] = Unit {0}
 AreFree (t ∷ ts) = (has_feed t ≡ false) × AreFree ts
 
-both_true : (a b : Bool) → (a && b) ≡ true → (a ≡ true) × (b ≡ true)
-both_true true b e = (refl, e)
-both_true false b e = absurd cc
+both_consistent : (a b : Bool) → (a && b) ≡ true → (a ≡ true) × (b ≡ true)
+both_consistent true b e = (refl, e)
+both_consistent false b e = absurd cc
 
 texts_are_free : (ls : List (List ℕ)) → are_one_line_each ls ≡ true → AreFree (map without_feed ls)
 unfolding AreFree
 texts_are_free [] e = tt
-texts_are_free (l ∷ ls) e = let both = both_true (is_one_line l) (are_one_line_each ls) e in
+texts_are_free (l ∷ ls) e = let both = both_consistent (is_one_line l) (are_one_line_each ls) e in
     (free_of l both.0, texts_are_free ls both.1)
 
 notes_are_free : (ns : List (List ℕ)) → are_one_line_each ns ≡ true → AreFree (map note_text ns)
 unfolding AreFree
 notes_are_free [] e = tt
-notes_are_free (n ∷ ns) e = let both = both_true (is_one_line n) (are_one_line_each ns) e in
+notes_are_free (n ∷ ns) e = let both = both_consistent (is_one_line n) (are_one_line_each ns) e in
     (free_note_text n both.0, notes_are_free ns both.1)
 
 -- ---- the lines of marked lines
 
 marked_is_whole : (mark text : List ℕ) → has_feed mark ≡ false → has_feed text ≡ false → IsWhole (marked_line mark text)
 marked_is_whole mark text f g = record {
-  front = mark ++ text;
+  prefix = mark ++ text;
   free = free_both mark text f g;
   is = sym (append_assoc mark text (10 ∷ []));
 }
@@ -59,7 +59,7 @@ lines_of_marked mark f (t ∷ ts) free more =
 
 shown_is_whole : (line : List ℕ) → is_one_line line ≡ true → IsWhole (shown_line line)
 shown_is_whole line one = record {
-  front = shown_text line;
+  prefix = shown_text line;
   free = free_take 32769 (without_feed line) (free_of line one);
   is = refl;
 }
@@ -119,18 +119,19 @@ notes_joined (l ∷ ls) whole = rw (text_of_note (without_feed l), notes_joined 
     (ap (λ (t : List ℕ). t ++ concat ls) (feed_again l whole.0)) where
       feed_again : (line : List ℕ) → IsWhole line → without_feed line ++ 10 ∷ [] ≡ line
       feed_again line w =
-          ap (λ (t : List ℕ). t ++ 10 ∷ []) (ap without_feed w.is ∙ feed_gone w.front) ∙ sym w.is
+          ap (λ (t : List ℕ). t ++ 10 ∷ []) (ap without_feed w.is ∙ feed_gone w.prefix) ∙ sym w.is
 
-whole_in_front : (b : ℕ) (ends : Bool) (ls : List (List ℕ)) → (ends ≡ true → b ≡ 10) → (ends ≡ false → eqb b 10 ≡ false)
-    → ls ≢ [] → AreWhole ls → AreWhole (octet_in_front b ends ls)
+whole_before : (b : ℕ) (ends : Bool) (ls : List (List ℕ)) → (ends ≡ true → b ≡ 10)
+    → (ends ≡ false → eqb b 10 ≡ false)
+    → ls ≢ [] → AreWhole ls → AreWhole (octet_before b ends ls)
 unfolding AreWhole
-whole_in_front b true ls feed other some whole =
-    (record { front = []; free = refl; is = ap (λ (x : ℕ). x ∷ []) (feed refl) }, whole)
-whole_in_front b false [] feed other some whole = absurd (some refl)
-whole_in_front b false (l ∷ ls) feed other some whole = (
+whole_before b true ls feed other some whole =
+    (record { prefix = []; free = refl; is = ap (λ (x : ℕ). x ∷ []) (feed refl) }, whole)
+whole_before b false [] feed other some whole = absurd (some refl)
+whole_before b false (l ∷ ls) feed other some whole = (
   record {
-    front = b ∷ whole.0.front;
-    free = or_from (eqb b 10) (has_feed whole.0.front) (other refl) whole.0.free;
+    prefix = b ∷ whole.0.prefix;
+    free = or_from (eqb b 10) (has_feed whole.0.prefix) (other refl) whole.0.free;
     is = ap (λ (t : List ℕ). b ∷ t) whole.0.is;
   },
   whole.1,
@@ -138,11 +139,11 @@ whole_in_front b false (l ∷ ls) feed other some whole = (
 
 whole_lines : (text : List ℕ) → AreWhole (lines (text ++ 10 ∷ []))
 unfolding lines AreWhole
-whole_lines [] = (record { front = []; free = refl; is = refl }, tt)
+whole_lines [] = (record { prefix = []; free = refl; is = refl }, tt)
 whole_lines (b ∷ bs) = elim (eqb_tells b 10) [
-  | inl same ↦ whole_in_front b (eqb b 10) (lines (bs ++ 10 ∷ [])) (λ _. same.1) (λ e. absurd cc) (some bs)
+  | inl same ↦ whole_before b (eqb b 10) (lines (bs ++ 10 ∷ [])) (λ _. same.1) (λ e. absurd cc) (some bs)
       (whole_lines bs)
-  | inr else ↦ whole_in_front b (eqb b 10) (lines (bs ++ 10 ∷ [])) (λ e. absurd cc) (λ _. else.0) (some bs)
+  | inr else ↦ whole_before b (eqb b 10) (lines (bs ++ 10 ∷ [])) (λ e. absurd cc) (λ _. else.0) (some bs)
       (whole_lines bs)
 ] where
   some : (t : List ℕ) → lines (t ++ 10 ∷ []) ≢ []

@@ -1,6 +1,6 @@
 -- What a form of the lab writes and answers over an input, and what its call promises of that.
 use Rattle.std.specs.Prelude.{◌≡◌, ◌⊎◌, ℕ, ⊤, List, Option, IfSome}
-use Rattle.repo_io.specs.Outside.{GainsText, GainsFront}
+use Rattle.repo_io.specs.Outside.{GainsText, GainsPrefix}
 use Rattle.lab_text.specs.declared.status.LabStatus.{LabStatus}
 use Rattle.lab_text.specs.declared.status.LabStatus.TheVariants.{Done, Usage, Refused, ReadFault, WriteFault, NoMemory}
 use Rattle.lab_text.specs.declared.status.LabStatus.TheVariants.{Foreign, Differs}
@@ -38,7 +38,7 @@ pub record WritesOutcome (outcome : Option Outcome) (old new : Option (List ℕ)
   -- and what was written is its text.
   pub text : IsEnd status → IfSome outcome (λ it. GainsText old new it.text)
   -- Whatever comes, what was written is a prefix of that text, and after `WriteFault` not the whole of it.
-  pub prefix : IfSome outcome (λ it. GainsFront old new it.text (status ≡ WriteFault))
+  pub prefix : IfSome outcome (λ it. GainsPrefix old new it.text (status ≡ WriteFault))
 
 -- The other answers have their causes. Memory may run out at any time.
 pub record HasCause (outcome : Option Outcome) (status : LabStatus) (SourceFailed SinkFailed : Type 0) : Type 0 where

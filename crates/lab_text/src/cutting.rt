@@ -34,8 +34,8 @@ pub(crate) fn split_last_line(octets: &[u8]) -> Option<(&[u8], &[u8])>
         (λ parts. lines octets.now ≡ lines parts.0.now ++ parts.1.now ∷ []) }
     ensures fewer { IfSome result (λ parts. length parts.0.now < length octets.now) }
 {
-    let (_, front) = octets.split_last()?;
-    let before = up_to_last_feed(front);
+    let (_, prefix) = octets.split_last()?;
+    let before = up_to_last_feed(prefix);
     Some(octets.split_at(before.len()))
 }
 

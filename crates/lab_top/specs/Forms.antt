@@ -1,5 +1,6 @@
 -- The forms of the lab: what the words of a command line ask for.
-use Rattle.std.specs.Prelude.{◌≡◌, ◌-◌, ⊤, ℕ, Bool, true, ◌&&◌, List, [], ◌∷◌, Option, Some, None, codes, nat_le, nat_lt}
+use Rattle.std.specs.Prelude.{◌≡◌, ◌-◌, ⊤, ℕ, Bool, true, ◌&&◌, List, [], ◌∷◌, Option, Some, None, codes, nat_le}
+use Rattle.std.specs.Prelude.{nat_lt}
 use Rattle.std.specs.Prelude.{if◌then◌else◌}
 use Rattle.std.specs.Option.{option_map}
 use Rattle.std.specs.Str.{bytes_eq}

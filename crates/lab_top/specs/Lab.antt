@@ -40,8 +40,8 @@ pub record UsageIsOfWords (asked : Option Asked) (status : LabStatus) (SameSourc
   -- and unless the sink fails the usage is written.
   pub written : status ≡ Usage → (SinkFailed → ⊥) → GainsText old new usage_text
 
--- What a form reads, and what it has written by then: a transcript is written line by line, and where all seeds are done
--- the input was read to its end.
+-- What a form reads, and what it has written by then: a transcript is written line by line, and where all seeds are
+-- done the input was read to its end.
 abbrev pub ReadsInput : Option Asked → (left rest old new : Option (List ℕ)) → LabStatus → Type 0
 ReadsInput None left rest old new status = ⊤
 ReadsInput (Some (Transcript seed)) left rest old new status =

@@ -1,5 +1,5 @@
 ghost use Rattle.std.specs.Prelude.{◌≡◌, ◌≢◌, Some, map, string_bytes};
-ghost use Rattle.repo_io.specs.Outside.{GainsFront, GainsText, HasRisen};
+ghost use Rattle.repo_io.specs.Outside.{GainsPrefix, GainsText, HasRisen};
 ghost use Rattle.lab_text.specs.Outcomes.{HasCause, WritesOutcome};
 ghost use Rattle.lab_top.specs.Forms.{IsWithin, asked_of};
 ghost use Rattle.lab_top.specs.Lab.{ReadsInput, UsageIsOfWords, lab_outcome};
@@ -74,12 +74,12 @@ fn run_form<R: Threads + Sync, S: Source, K: Sink>(
 {
     match asked {
         Asked::Transcript(seed) => {
-            let given = seeded(seed);
-            transcript(rt, alloc, source, sink, &given, &given)
+            let env = seeded(seed);
+            transcript(rt, alloc, source, sink, &env, &env)
         }
         Asked::Check(seed) => {
-            let given = seeded(seed);
-            check(rt, alloc, source, sink, &given, &given)
+            let env = seeded(seed);
+            check(rt, alloc, source, sink, &env, &env)
         }
         Asked::Lint => lint(alloc, source, sink),
         Asked::Seeds(span) => {
@@ -94,7 +94,7 @@ fn write_usage<K: Sink>(sink: &mut K) -> LabStatus
     ensures usage { result ≡ LabStatus.Usage }
     ensures whole { ¬ HasRisen (K.faults sink.old) (K.faults sink.new)
         → GainsText (K.out sink.old) (K.out sink.new) usage_text }
-    ensures prefix { GainsFront (K.out sink.old) (K.out sink.new) usage_text (result ≡ LabStatus.WriteFault) }
+    ensures prefix { GainsPrefix (K.out sink.old) (K.out sink.new) usage_text (result ≡ LabStatus.WriteFault) }
 {
     let _ = write_whole(sink, USAGE.as_bytes());
     LabStatus::Usage

@@ -10,7 +10,7 @@ use Rattle.std.proofs.lemmas.Bool.{lt-ltb, le-ltb, eq-eqb, ne_eqb}
 use Rattle.repo_plan.specs.declared.part.Part.{Part}
 use Rattle.live_member.specs.declared.event.LiveReply.{LiveReply}
 use Rattle.live_member.specs.declared.event.LiveReply.TheVariants as reply
-use Rattle.live_member.specs.Tellings.{Loan}
+use Rattle.live_member.specs.Reports.{Loan}
 use Rattle.live_actors.specs.ActorCalls.{Call, Progress, Makes, spends, Turn, EndsClaim, end_calls, fetches, turn_calls}
 use Rattle.live_actors.specs.ActorCalls.{fetcher_calls, TakesTurn, Fetches, tells, Heard, hears, hears_some, HearsSome}
 use Rattle.live_actors.specs.ActorCalls.{Round, round_calls, rounds_calls, last_calls, PublishesNext, Publishes}
@@ -140,7 +140,7 @@ module _ (m f : ℕ) (a b c : Progress) (e : LiveReply) (passed : Makes (Pass m 
 -- ---- the actor that publishes
 
 abbrev heard_calls : ℕ → Heard → List Call
-heard_calls m h = Take (Some h.told) ∷ Pass m 0 ∷ Hear m h.told h.replied ∷ []
+heard_calls m h = Take (Some h.reported) ∷ Pass m 0 ∷ Hear m h.reported h.replied ∷ []
 
 hears_snoc : (m : ℕ) (hs : List Heard) (h : Heard) → hears m (hs ++ h ∷ []) ≡ hears m hs ++ heard_calls m h
 hears_snoc m [] h = refl
@@ -162,7 +162,7 @@ module _ (m n : ℕ) (a b : Progress) (before : Hears m n a b) where
   pub one_heard : (c d e : Progress) (o : Option (List ℕ)) (t : List ℕ) (r : LiveReply) → o ≡ Some t
       → Makes (Take o ∷ []) b c → Makes (Pass m 0 ∷ []) c d → Makes (Hear m t r ∷ []) d e → Hears m (n + 1) a e
   one_heard c d e o t r some took passed heard =
-      let h : Heard = record { told = t; replied = r } in
+      let h : Heard = record { reported = t; replied = r } in
       let took_it = subst (λ p. Makes (Take p ∷ []) b c) some took in
       let two = both_made b c d (Take (Some t) ∷ []) (Pass m 0 ∷ []) took_it passed in
       let three = both_made b d e (Take (Some t) ∷ Pass m 0 ∷ []) (Hear m t r ∷ []) two heard in
@@ -202,12 +202,12 @@ module _ (m : ℕ) (a b c : Progress) (o : Option (List ℕ)) (passed : Makes (P
   pub one_published : (t : List ℕ) → o ≡ Some t → (d e : Progress) (members : ℕ) → members ≡ a.members
       → Makes (tells members m t) c d → HearsSome m d e → PublishesNext m true a e
   one_published t some d e members same those heard =
-      let told = subst (λ (k : ℕ). Makes (tells k m t) c d) same those in
+      let reported = subst (λ (k : ℕ). Makes (tells k m t) c d) same those in
       let begun = subst (λ p. Makes (Pass m 0 ∷ Publish m p ∷ []) a c) some first_calls in
-      let two = both_made a c d (Pass m 0 ∷ Publish m (Some t) ∷ []) (tells a.members m t) begun told in
+      let two = both_made a c d (Pass m 0 ∷ Publish m (Some t) ∷ []) (tells a.members m t) begun reported in
       let all =
       both_made a d e (Pass m 0 ∷ Publish m (Some t) ∷ tells a.members m t) (hears_some m heard.0) two heard.2 in
-      (record { told = t; heard = heard.0 }, heard.1, all)
+      (record { reported = t; heard = heard.0 }, heard.1, all)
 
 rounds_snoc : (members m : ℕ) (rs : List Round) (r : Round)
     → rounds_calls members m (rs ++ r ∷ []) ≡ rounds_calls members m rs ++ round_calls members m r
@@ -251,11 +251,11 @@ module _ (m : ℕ) (a b c : Progress) (before : Rounds m a b) where
 
 module _ (m n : ℕ) (t : List ℕ) (a b c : Progress) (before : Makes (tells n m t) a b) where
   -- the next other
-  pub one_told : n ≢ m → Makes (Tell n t ∷ []) b c → Makes (tells (n + 1) m t) a c
-  one_told other told =
+  pub one_reported : n ≢ m → Makes (Tell n t ∷ []) b c → Makes (tells (n + 1) m t) a c
+  one_reported other reported =
       rw add-one (subst (λ (own : Bool). Makes (tells n m t ++ (if own then [] else Tell n t ∷ [])) a c)
       (sym (ne_eqb n m other))
-      (both_made a b c (tells n m t) (Tell n t ∷ []) before told))
+      (both_made a b c (tells n m t) (Tell n t ∷ []) before reported))
 
   -- the member itself
   pub itself_passed : n ≡ m → Makes (tells (n + 1) m t) a b
@@ -265,12 +265,12 @@ module _ (m n : ℕ) (t : List ℕ) (a b c : Progress) (before : Makes (tells n 
 
 -- ---- tickets of who publishes
 
-tells_free : (n m : ℕ) (t : List ℕ) → sum_by spends (tells n m t) ≡ 0
-tells_free zero m t = refl
-tells_free (suc n) m t =
+reports_free : (n m : ℕ) (t : List ℕ) → sum_by spends (tells n m t) ≡ 0
+reports_free zero m t = refl
+reports_free (suc n) m t =
     omega (
       arith,
-      tells_free n m t,
+      reports_free n m t,
       one_free (n == m),
       sum_by-append spends (tells n m t) (if n == m then [] else Tell n t ∷ []),
     )
@@ -300,9 +300,9 @@ round_free : (members m : ℕ) (r : Round) → sum_by spends (round_calls member
 round_free members m r =
     omega (
       arith,
-      tells_free members m r.told,
+      reports_free members m r.reported,
       some_free m r.heard,
-      sum_by-append spends (tells members m r.told) (hears_some m r.heard),
+      sum_by-append spends (tells members m r.reported) (hears_some m r.heard),
     )
 
 rounds_free : (members m : ℕ) (rs : List Round) → sum_by spends (rounds_calls members m rs) ≡ 0

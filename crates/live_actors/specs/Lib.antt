@@ -1,4 +1,4 @@
 pub use Rattle.repo_plan.specs.Calls
-pub use Rattle.live_member.specs.Tellings
+pub use Rattle.live_member.specs.Reports
 pub mod ActorCalls
 pub mod Noting

@@ -47,7 +47,7 @@ pub fn publish<L: Lists, R: Wait, P: Places<L>>(
     member: u32,
 ) -> Result<(), AllocError>
     requires members { members ≡ (P.progress places.old).members }
-    requires lines { members ≡ (P.progress places.old).lines }
+    requires senders { members ≡ (P.progress places.old).senders }
     requires member { member < members }
     requires ticket { 0 < (P.progress places.old).left }
     ensures { OnOk result (Publishes member (P.progress places.old) (P.progress places.new)) }
@@ -68,16 +68,16 @@ fn publish_next<L: Lists, P: Places<L>>(
     member: u32,
 ) -> Result<bool, AllocError>
     requires members { members ≡ (P.progress places.old).members }
-    requires lines { members ≡ (P.progress places.old).lines }
+    requires senders { members ≡ (P.progress places.old).senders }
     requires member { member < members }
     requires ticket { 0 < (P.progress places.old).left }
     ensures { IfOk result (λ more. PublishesNext member more (P.progress places.old) (P.progress places.new)) }
 {
     places.pass(member, PUBLISHER)?;
-    let Some(told) = places.publish_next(member)? else {
+    let Some(reported) = places.publish_next(member)? else {
         return Ok(false);
     };
-    tell_others(places, members, member, &told)?;
+    tell_others(places, members, member, &reported)?;
     hear_some(places, member)?;
     Ok(true)
 }
@@ -87,14 +87,14 @@ fn tell_others<L: Lists, P: Places<L>>(
     places: &mut P,
     members: u32,
     member: u32,
-    told: &Told<L>,
+    reported: &Told<L>,
 ) -> Result<(), AllocError>
-    requires { members ≡ (P.progress places.old).lines }
-    ensures { OnOk result (Makes (tells members member told.now) (P.progress places.old) (P.progress places.new)) }
+    requires { members ≡ (P.progress places.old).senders }
+    ensures { OnOk result (Makes (tells members member reported.now) (P.progress places.old) (P.progress places.new)) }
 {
     for other in 0..members {
         if other != member {
-            places.tell(other, told)?;
+            places.tell(other, reported)?;
         }
     }
     Ok(())
@@ -106,11 +106,11 @@ fn hear_some<L: Lists, P: Places<L>>(places: &mut P, member: u32) -> Result<(), 
     ensures { OnOk result (HearsSome member (P.progress places.old) (P.progress places.new)) }
 {
     for _heard in 0..HEARD_AT_ONCE {
-        let Some(told) = places.take()? else {
+        let Some(reported) = places.take()? else {
             return Ok(());
         };
         places.pass(member, PUBLISHER)?;
-        places.hear(member, &told)?;
+        places.hear(member, &reported)?;
     }
     Ok(())
 }

@@ -12,18 +12,18 @@ pub enum Noted<L: Lists> {
     },
     Publish {
         member: u32,
-        told: Snapshot<Option<Told<L>>>,
+        reported: Snapshot<Option<Told<L>>>,
     },
     Tell {
         other: u32,
-        told: Snapshot<Told<L>>,
+        reported: Snapshot<Told<L>>,
     },
     Take {
-        told: Snapshot<Option<Told<L>>>,
+        reported: Snapshot<Option<Told<L>>>,
     },
     Hear {
         member: u32,
-        told: Snapshot<Told<L>>,
+        reported: Snapshot<Told<L>>,
         replied: LiveReply,
     },
     Claim {

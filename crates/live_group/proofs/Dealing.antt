@@ -8,31 +8,31 @@ use Rattle.std.proofs.lemmas.List.{get_or-set_other, length-set, length-map, len
 use Rattle.std.proofs.lemmas.List.Elements.{All-push}
 use Rattle.atomic_table.specs.Seated.{TableId}
 use Rattle.live_inbox.specs.Ends.{InboxView, fresh_port, fresh_ports}
-use Rattle.live_group.specs.Lines.{LineView, EarView, OpenedView, HavePorts, HaveCapacity, inbox_capacity}
+use Rattle.live_group.specs.Senders.{SenderView, ReceiverView, OpenedView, HavePorts, HaveCapacity, inbox_capacity}
 
 abbrev pub inboxes_of : List OpenedView → List InboxView
 inboxes_of os = map (λ (o : OpenedView). o.inbox) os
 
-abbrev pub inboxes_of_lines : List LineView → List InboxView
-inboxes_of_lines ls = map (λ (l : LineView). l.inbox) ls
+abbrev pub inboxes_of_lines : List SenderView → List InboxView
+inboxes_of_lines ls = map (λ (l : SenderView). l.inbox) ls
 
-abbrev pub inboxes_of_ears : List EarView → List InboxView
-inboxes_of_ears es = map (λ (e : EarView). e.inbox) es
+abbrev pub inboxes_of_ears : List ReceiverView → List InboxView
+inboxes_of_ears es = map (λ (e : ReceiverView). e.inbox) es
 
 -- so many inboxes are open, each of one capacity and with a port for each member
-pub record AreOpen (members n : ℕ) (opened : List OpenedView) (ears : List EarView) : Type 0 where
+pub record AreOpen (members n : ℕ) (opened : List OpenedView) (ears : List ReceiverView) : Type 0 where
   pub width : length opened ≡ n
   pub same : inboxes_of_ears ears ≡ inboxes_of opened
   pub capacity : HaveCapacity inbox_capacity (inboxes_of opened)
   pub ports : HavePorts members opened
 
-pub one_open : (members n : ℕ) (opened : List OpenedView) (ears : List EarView) (o : OpenedView) (e : EarView)
+pub one_open : (members n : ℕ) (opened : List OpenedView) (ears : List ReceiverView) (o : OpenedView) (e : ReceiverView)
     → AreOpen members n opened ears → o.inbox ≡ e.inbox → o.inbox.capacity ≡ inbox_capacity → length o.ports ≡ members
     → AreOpen members (n + 1) (opened ++ o ∷ []) (ears ++ e ∷ [])
 one_open members n opened ears o e is its capacity ports = record {
   width = let long = length-append opened (o ∷ []) in let width = is.width in omega arith;
   same =
-      map-append (λ (e : EarView). e.inbox) ears (e ∷ [])
+      map-append (λ (e : ReceiverView). e.inbox) ears (e ∷ [])
       ∙ ap (λ (is : List InboxView). is ++ e.inbox ∷ []) is.same
       ∙ ap (λ (i : InboxView). inboxes_of opened ++ i ∷ []) (sym its)
       ∙ sym (map-append (λ (o : OpenedView). o.inbox) opened (o ∷ []));
@@ -50,16 +50,16 @@ fresh_count b all (suc n) =
     let earlier = fresh_count b all n in omega arith
 
 -- these lines are of the first `i` inboxes, which have one port less
-pub record AreDealt (i : ℕ) (old now : List OpenedView) (lines : List LineView) : Type 0 where
+pub record AreDealt (i : ℕ) (old now : List OpenedView) (senders : List SenderView) : Type 0 where
   pub width : length now ≡ length old
-  pub dealt : inboxes_of_lines lines ≡ take i (inboxes_of old)
+  pub dealt : inboxes_of_lines senders ≡ take i (inboxes_of old)
   pub same : inboxes_of now ≡ inboxes_of old
   pub fewer : (k : ℕ) (d : OpenedView) → k < i → length (get_or now k d).ports + 1 ≡ length (get_or old k d).ports
   pub rest : (k : ℕ) (d : OpenedView) → i ≤ k → get_or now k d ≡ get_or old k d
 
-module _ (i : ℕ) (old now : List OpenedView) (lines : List LineView) (o new : OpenedView) (line : LineView)
-    (is : AreDealt i old now lines) (there : i < length now) (at : o ≡ get_or now i o)
-    (its : line.inbox ≡ o.inbox) (same : new.inbox ≡ o.inbox) (ports : length new.ports + 1 ≡ length o.ports) where
+module _ (i : ℕ) (old now : List OpenedView) (senders : List SenderView) (o new : OpenedView) (sender : SenderView)
+    (is : AreDealt i old now senders) (there : i < length now) (at : o ≡ get_or now i o)
+    (its : sender.inbox ≡ o.inbox) (same : new.inbox ≡ o.inbox) (ports : length new.ports + 1 ≡ length o.ports) where
   in_old : i < length old
   in_old = let width = is.width in omega arith
 
@@ -75,15 +75,15 @@ module _ (i : ℕ) (old now : List OpenedView) (lines : List LineView) (o new : 
       ∙ set-get_or (inboxes_of now) i o.inbox
       ∙ is.same
 
-  its_place : line.inbox ≡ get_or (inboxes_of old) i o.inbox
+  its_place : sender.inbox ≡ get_or (inboxes_of old) i o.inbox
   its_place =
       its ∙ ap (λ (x : OpenedView). x.inbox) was
       ∙ sym (get_or-map (λ (x : OpenedView). x.inbox) old i o o.inbox in_old)
 
-  one_line : inboxes_of_lines (lines ++ line ∷ []) ≡ take (i + 1) (inboxes_of old)
+  one_line : inboxes_of_lines (senders ++ sender ∷ []) ≡ take (i + 1) (inboxes_of old)
   one_line =
-      map-append (λ (l : LineView). l.inbox) lines (line ∷ [])
-      ∙ ap (λ (ls : List InboxView). ls ++ line.inbox ∷ []) is.dealt
+      map-append (λ (l : SenderView). l.inbox) senders (sender ∷ [])
+      ∙ ap (λ (ls : List InboxView). ls ++ sender.inbox ∷ []) is.dealt
       ∙ ap (λ (b : InboxView). take i (inboxes_of old) ++ b ∷ []) its_place
       ∙ sym (take_more (inboxes_of old) i o.inbox
       (let wide = length-map old (λ (x : OpenedView). x.inbox) in omega (arith, wide, in_old)))
@@ -101,7 +101,7 @@ module _ (i : ℕ) (old now : List OpenedView) (lines : List LineView) (o new : 
         ∙ ap (λ (x : OpenedView). length x.ports) (was ∙ get_or_default old i o d in_old))
   ]
 
-  pub one_dealt : AreDealt (i + 1) old (set now i new) (lines ++ line ∷ [])
+  pub one_dealt : AreDealt (i + 1) old (set now i new) (senders ++ sender ∷ [])
   one_dealt = record {
     width = length-set now i new ∙ is.width;
     dealt = one_line;

@@ -13,26 +13,26 @@ use Rattle.live_group.specs.Seats.{IsSeat}
 -- so many places are made, of the first lists
 pub record IsSeating (t : Meaning) (seats : List ℕ) (rest : List (List NamedContents)) : Type 0 where
   pub numbers : seats ≡ numbers_below (length seats)
-  pub front : List (List NamedContents)
-  pub long : length front ≡ length seats
-  pub whole : front ++ rest ≡ t.lists
+  pub prefix : List (List NamedContents)
+  pub long : length prefix ≡ length seats
+  pub whole : prefix ++ rest ≡ t.lists
 
 pub few_lists : (t : Meaning) → IsWithinLimits t → length t.lists ≤ 16
 few_lists t within = omega (arith, within.logs.width, width_whole t, within.logs.group.members.roster.few)
 
 module _ (t : Meaning) (seats : List ℕ) (rest later : List (List NamedContents)) (objects : List NamedContents)
     (is : IsSeating t seats rest) (next : rest ≡ objects ∷ later) where
-  whole : is.front ++ objects ∷ later ≡ t.lists
-  whole = ap (λ (ls : List (List NamedContents)). is.front ++ ls) (sym next) ∙ is.whole
+  whole : is.prefix ++ objects ∷ later ≡ t.lists
+  whole = ap (λ (ls : List (List NamedContents)). is.prefix ++ ls) (sym next) ∙ is.whole
 
   pub next_there : length seats < length t.lists
   next_there =
-      let long = ap length whole in omega (arith, long, is.long, length-append is.front (objects ∷ later))
+      let long = ap length whole in omega (arith, long, is.long, length-append is.prefix (objects ∷ later))
 
   pub next_list : objects ≡ objects_of t (length seats)
   next_list =
-      sym (get_or-append_seam is.front objects later [])
-      ∙ ap (λ (ls : List (List NamedContents)). get_or ls (length is.front) []) whole
+      sym (get_or-append_seam is.prefix objects later [])
+      ∙ ap (λ (ls : List (List NamedContents)). get_or ls (length is.prefix) []) whole
       ∙ ap (λ (n : ℕ). get_or t.lists n []) is.long
 
   pub next_seat : (draw : ℕ) → IsWithinLimits t → draw ≡ slice_index t.draws (length seats)
@@ -53,9 +53,9 @@ module _ (t : Meaning) (seats : List ℕ) (rest later : List (List NamedContents
             ap (λ (ns : List ℕ). ns ++ n ∷ []) is.numbers
             ∙ ap (λ (k : ℕ). numbers_below (length seats) ++ k ∷ []) same
             ∙ ap numbers_below (sym more);
-        front = is.front ++ objects ∷ [];
+        prefix = is.prefix ++ objects ∷ [];
         long =
-            let long = length-append is.front (objects ∷ []) in
+            let long = length-append is.prefix (objects ∷ []) in
             let longer = length-append seats (n ∷ []) in omega (arith, long, longer, is.long);
-        whole = append_assoc is.front (objects ∷ []) later ∙ whole;
+        whole = append_assoc is.prefix (objects ∷ []) later ∙ whole;
       }

@@ -8,9 +8,9 @@ use Rattle.std.proofs.lemmas.List.Sums.{sum_by-append, sum_by-cons}
 use Rattle.live_actors.specs.declared.actor.Actor.{Actor}
 use Rattle.live_actors.specs.declared.actor.Actor.TheVariants as actor
 use Rattle.live_actors.specs.ActorCalls.{Progress, IsActorIn, tickets_of}
-use Rattle.live_group.specs.declared.hand.Job.{Job}
-use Rattle.live_group.specs.declared.hand.Job.TheVariants.{Publish, First, Second}
-use Rattle.live_group.specs.Jobs.{actor_of, actors_below, all_tickets, IsActorBelow, HasLines}
+use Rattle.live_group.specs.declared.actor_job.Job.{Job}
+use Rattle.live_group.specs.declared.actor_job.Job.TheVariants.{Publish, First, Second}
+use Rattle.live_group.specs.Jobs.{actor_of, actors_below, all_tickets, IsActorBelow, HasSenders}
 use Rattle.live_group.specs.Desks.{tickets_each}
 use Rattle.live_group.specs.Outs.{OutView, all_left}
 
@@ -50,12 +50,13 @@ module _ {L : Type 0} where
       let long = ap (λ (js : List (Job L)). length js) same in omega (arith, less, wide, long))))
 
   -- an actor of a run is one of those that it can have
-  pub is_actor_in : (members lines : ℕ) (job : Job L) (p : Progress) → IsActorBelow members job → HasLines members job
-      → HasLines lines job → p.members ≡ members → p.lines ≡ lines → IsActorIn p (actor_of job)
-  is_actor_in members lines (Publish hand) p there all its same those =
+  pub is_actor_in : (members senders : ℕ) (job : Job L) (p : Progress) → IsActorBelow members job
+      → HasSenders members job
+      → HasSenders senders job → p.members ≡ members → p.senders ≡ senders → IsActorIn p (actor_of job)
+  is_actor_in members senders (Publish publisher) p there all its same those =
       (omega (arith, there, same), those ∙ its ∙ sym all ∙ sym same)
-  is_actor_in members lines (First member) p there all its same those = omega (arith, there, same)
-  is_actor_in members lines (Second member) p there all its same those = omega (arith, there, same)
+  is_actor_in members senders (First member) p there all its same those = omega (arith, there, same)
+  is_actor_in members senders (Second member) p there all its same those = omega (arith, there, same)
 
 -- where none is left in all, none is left of any
 pub none_left : (outs : List OutView) → all_left outs ≡ 0 → All (λ (o : OutView). o.left ≡ 0) outs

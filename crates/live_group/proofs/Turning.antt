@@ -24,12 +24,12 @@ use Rattle.live_member.specs.LockedCalls.{IsEntered, StepsBy}
 use Rattle.live_actors.specs.ActorCalls.{IsOfMember}
 use Rattle.live_settle.proofs.Turning.{in_range}
 
-told_part : (c d : Option Part) (part : Part)
+reported_part : (c d : Option Part) (part : Part)
     → (if is_some c then reply.Refused else live_reply (Reply.Claimed d)) ≡ reply.Claimed part
     → (c ≡ None) × (d ≡ Some part)
-told_part (Some p) d part is = absurd cc
-told_part None None part is = absurd cc
-told_part None (Some p) part is = (refl, cc)
+reported_part (Some p) d part is = absurd cc
+reported_part None None part is = absurd cc
+reported_part None (Some p) part is = (refl, cc)
 
 module _ (t : Meaning) (most : ℕ) (old new : Living) (r : LiveReply) (f : ℕ) (part : Part) (fetcher : IsFetcher f)
     (steps : StepsBy t most (event.Claim f) old new r) (its : r ≡ reply.Claimed part) where
@@ -52,7 +52,7 @@ module _ (t : Meaning) (most : ℕ) (old new : Living) (r : LiveReply) (f : ℕ)
   w = world_at t j m
 
   claims_it : (claim_at w j f ≡ None) × (to_claim w j ≡ Some part)
-  claims_it = told_part (claim_at w j f) (to_claim w j) part (sym entered.replied)
+  claims_it = reported_part (claim_at w j f) (to_claim w j) part (sym entered.replied)
 
   wide : length w.members ≡ length t.lists
   wide =
@@ -63,7 +63,7 @@ module _ (t : Meaning) (most : ℕ) (old new : Living) (r : LiveReply) (f : ℕ)
 
   there : j < length w.members
   there =
-      let less = is.2.truly.there in
+      let less = is.2.consistent.there in
       let same = entered.number in omega (arith, wide, wide_logs, less, same)
 
   abbrev claimed : Member
@@ -85,7 +85,7 @@ module _ (t : Meaning) (most : ℕ) (old new : Living) (r : LiveReply) (f : ℕ)
   sixteen =
       sym (length-set (member w j).claims (f - 1) (Some part))
       ∙ ap (λ (x : Member). length x.claims) (sym after_is)
-      ∙ is.2.truly.sound.fetchers
+      ∙ is.2.consistent.sound.fetchers
 
   its_claim : get_or (in_group new.state).claims (f - 1) None ≡ Some part
   its_claim =
@@ -97,10 +97,10 @@ module _ (t : Meaning) (most : ℕ) (old new : Living) (r : LiveReply) (f : ℕ)
   pub publisher_there : part.publisher < length t.lists
   publisher_there =
       let ls = logs_at t new.state.number new.state.log in
-      let sound = is.2.truly.sound in
+      let sound = is.2.consistent.sound in
       let known = (wanted_parts ls (in_group new.state) part (sound.claimed (f - 1) part its_claim)).known in
-      let most_told = sound.known part.publisher in
-      let less = in_range ls part.publisher part.seq known.from_one (omega (arith, known.to_known, most_told)) in
+      let most_reported = sound.known part.publisher in
+      let less = in_range ls part.publisher part.seq known.from_one (omega (arith, known.to_known, most_reported)) in
       omega (arith, less, wide_logs)
 
 -- what is claimed, whatever is replied

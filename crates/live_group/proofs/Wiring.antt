@@ -6,13 +6,13 @@ use Rattle.std.specs.List.{All}
 use Rattle.std.proofs.lemmas.List.{map-append, get_or-map, length-map}
 use Rattle.std.proofs.lemmas.List.Elements.{All-push, All-append, All-cons, All-nil, All-weaker}
 use Rattle.live_inbox.specs.Ends.{InboxView}
-use Rattle.live_group.specs.declared.hand.Hand.{Hand}
-use Rattle.live_group.specs.declared.hand.Job.{Job}
-use Rattle.live_group.specs.declared.hand.Job.TheVariants.{Publish, First, Second}
-use Rattle.live_group.specs.Lines.{LineView, EarView, OpenedView, HavePorts, HaveCapacity, inbox_capacity}
+use Rattle.live_group.specs.declared.actor_job.PublisherEnds.{PublisherEnds}
+use Rattle.live_group.specs.declared.actor_job.Job.{Job}
+use Rattle.live_group.specs.declared.actor_job.Job.TheVariants.{Publish, First, Second}
+use Rattle.live_group.specs.Senders.{SenderView, ReceiverView, OpenedView, HavePorts, HaveCapacity, inbox_capacity}
 use Rattle.live_actors.specs.declared.actor.Actor.{Actor}
 use Rattle.live_actors.specs.declared.actor.Actor.TheVariants as actor
-use Rattle.live_group.specs.Jobs.{member_of, actor_of, actors_below, IsWired, IsActorBelow, HasLines}
+use Rattle.live_group.specs.Jobs.{member_of, actor_of, actors_below, IsWired, IsActorBelow, HasSenders}
 use Rattle.live_group.proofs.Dealing.{inboxes_of, inboxes_of_lines, inboxes_of_ears}
 
 below : (n : ℕ) → All (λ (a : Actor). member_of a < n) (actors_below n)
@@ -28,7 +28,7 @@ below (suc n) =
 module _ {L : Type 0} where
   -- the actors of the first `n` members, and what is left for the others
   pub record AreWired (members n : ℕ) (inboxes : List InboxView) (opened : List OpenedView) (jobs : List (Job L))
-      (rest : List EarView) : Type 0 where
+      (rest : List ReceiverView) : Type 0 where
     pub width : length inboxes ≡ members
     pub capacity : HaveCapacity inbox_capacity inboxes
     pub left : n + length rest ≡ members
@@ -39,38 +39,39 @@ module _ {L : Type 0} where
     pub ports : (k : ℕ) → n + k ≡ members → HavePorts k opened
 
   module _ (members n : ℕ) (inboxes : List InboxView) (opened now : List OpenedView) (jobs : List (Job L))
-      (rest later : List EarView) (hand : Hand L) (is : AreWired members n inboxes opened jobs rest)
-      (next : rest ≡ hand.ear ∷ later) (number : hand.member ≡ n)
-      (lines : inboxes_of_lines hand.lines.items ≡ inboxes_of opened) (same : inboxes_of now ≡ inboxes_of opened)
+      (rest later : List ReceiverView) (publisher : PublisherEnds L) (is : AreWired members n inboxes opened jobs rest)
+      (next : rest ≡ publisher.receiver ∷ later) (number : publisher.member ≡ n)
+      (senders : inboxes_of_lines publisher.senders.items ≡ inboxes_of opened)
+      (same : inboxes_of now ≡ inboxes_of opened)
       (fewer : (k : ℕ) → HavePorts (k + 1) opened → HavePorts k now) where
     one_left : n + (1 + length later) ≡ members
-    one_left = let long = ap (λ (es : List EarView). length es) next in let left = is.left in omega arith
+    one_left = let long = ap (λ (es : List ReceiverView). length es) next in let left = is.left in omega arith
 
     pub there : n < length inboxes
     there = let wide = is.width in omega (arith, one_left)
 
     both : (d : InboxView)
-        → get_or inboxes n d ∷ drop (suc n) inboxes ≡ hand.ear.inbox ∷ inboxes_of_ears later
+        → get_or inboxes n d ∷ drop (suc n) inboxes ≡ publisher.receiver.inbox ∷ inboxes_of_ears later
     both d = sym (drop-cons inboxes n d there) ∙ sym is.ears ∙ ap inboxes_of_ears next
 
-    is_wired : IsWired inboxes (Publish hand)
+    is_wired : IsWired inboxes (Publish publisher)
     is_wired = (
-      lines ∙ is.opened_those,
+      senders ∙ is.opened_those,
       λ d. let e = both d in ap (λ (k : ℕ). get_or inboxes k d) number ∙ cc,
     )
 
     abbrev pub after : List (Job L)
-    after = ((jobs ++ Publish hand ∷ []) ++ First n ∷ []) ++ Second n ∷ []
+    after = ((jobs ++ Publish publisher ∷ []) ++ First n ∷ []) ++ Second n ∷ []
 
-    three : after ≡ jobs ++ Publish hand ∷ First n ∷ Second n ∷ []
+    three : after ≡ jobs ++ Publish publisher ∷ First n ∷ Second n ∷ []
     three =
-        append_assoc (jobs ++ Publish hand ∷ []) (First n ∷ []) (Second n ∷ [])
-        ∙ append_assoc jobs (Publish hand ∷ []) (First n ∷ Second n ∷ [])
+        append_assoc (jobs ++ Publish publisher ∷ []) (First n ∷ []) (Second n ∷ [])
+        ∙ append_assoc jobs (Publish publisher ∷ []) (First n ∷ Second n ∷ [])
 
     suc_actors : map actor_of after ≡ actors_below (suc n)
     suc_actors =
         ap (λ (js : List (Job L)). map actor_of js) three
-        ∙ map-append actor_of jobs (Publish hand ∷ First n ∷ Second n ∷ [])
+        ∙ map-append actor_of jobs (Publish publisher ∷ First n ∷ Second n ∷ [])
         ∙ ap (λ (k : ℕ). map actor_of jobs ++ actor.Publish k ∷ actor.First n ∷ actor.Second n ∷ []) number
         ∙ ap (λ (those : List Actor). those ++ actor.Publish n ∷ actor.First n ∷ actor.Second n ∷ []) is.actors
 
@@ -78,7 +79,7 @@ module _ {L : Type 0} where
     more_actors = rw add-one suc_actors
 
     ears_left : inboxes_of_ears later ≡ drop (n + 1) inboxes
-    ears_left = rw add-one (let e = both hand.ear.inbox in cc)
+    ears_left = rw add-one (let e = both publisher.receiver.inbox in cc)
 
     pub one_wired : AreWired members (n + 1) inboxes now after later
     one_wired = record {
@@ -87,9 +88,9 @@ module _ {L : Type 0} where
       left = let left = one_left in omega arith;
       actors = more_actors;
       wired =
-          All-push (IsWired inboxes) ((jobs ++ Publish hand ∷ []) ++ First n ∷ []) (Second n)
-          (All-push (IsWired inboxes) (jobs ++ Publish hand ∷ []) (First n)
-          (All-push (IsWired inboxes) jobs (Publish hand) is.wired is_wired) tt)
+          All-push (IsWired inboxes) ((jobs ++ Publish publisher ∷ []) ++ First n ∷ []) (Second n)
+          (All-push (IsWired inboxes) (jobs ++ Publish publisher ∷ []) (First n)
+          (All-push (IsWired inboxes) jobs (Publish publisher) is.wired is_wired) tt)
           tt;
       ears = ears_left;
       opened_those = same ∙ is.opened_those;
@@ -98,10 +99,11 @@ module _ {L : Type 0} where
 
   -- each inbox has a port for the next member
   pub some_ports : (members n : ℕ) (inboxes : List InboxView) (opened : List OpenedView) (jobs : List (Job L))
-      (rest later : List EarView) (ear : EarView) → AreWired members n inboxes opened jobs rest → rest ≡ ear ∷ later
+      (rest later : List ReceiverView) (receiver : ReceiverView) → AreWired members n inboxes opened jobs rest → rest
+      ≡ receiver ∷ later
       → All (λ (o : OpenedView). 0 < length o.ports) opened
-  some_ports members n inboxes opened jobs rest later ear is next k d less =
-      let long = ap (λ (es : List EarView). length es) next in
+  some_ports members n inboxes opened jobs rest later receiver is next k d less =
+      let long = ap (λ (es : List ReceiverView). length es) next in
       let left = is.left in
       let have = is.ports (1 + length later) (omega arith) k d less in
       omega (arith, have)
@@ -119,11 +121,11 @@ module _ {L : Type 0} where
 
   -- the first actor of each has a line to each inbox
   pub lines_there : (members : ℕ) (inboxes : List InboxView) (jobs : List (Job L)) → length inboxes ≡ members
-      → All (IsWired inboxes) jobs → All (HasLines members) jobs
-  lines_there members inboxes jobs wide wired = All-weaker (IsWired inboxes) (HasLines members) has jobs wired where
-    has : (job : Job L) → IsWired inboxes job → HasLines members job
-    has (Publish hand) is =
+      → All (IsWired inboxes) jobs → All (HasSenders members) jobs
+  lines_there members inboxes jobs wide wired = All-weaker (IsWired inboxes) (HasSenders members) has jobs wired where
+    has : (job : Job L) → IsWired inboxes job → HasSenders members job
+    has (Publish publisher) is =
         let long = ap (λ (is : List InboxView). length is) is.0 in
-        omega (arith, wide, long, length-map hand.lines.items (λ (l : LineView). l.inbox))
+        omega (arith, wide, long, length-map publisher.senders.items (λ (l : SenderView). l.inbox))
     has (First member) is = tt
     has (Second member) is = tt

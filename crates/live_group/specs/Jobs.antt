@@ -5,9 +5,9 @@ use Rattle.live_inbox.specs.Ends.{InboxView}
 use Rattle.live_actors.specs.declared.actor.Actor.{Actor}
 use Rattle.live_actors.specs.declared.actor.Actor.TheVariants as actor
 use Rattle.live_actors.specs.ActorCalls.{tickets_of}
-use Rattle.live_group.specs.declared.hand.Job.{Job}
-use Rattle.live_group.specs.declared.hand.Job.TheVariants.{Publish, First, Second}
-use Rattle.live_group.specs.Lines.{HaveCapacity, inbox_capacity}
+use Rattle.live_group.specs.declared.actor_job.Job.{Job}
+use Rattle.live_group.specs.declared.actor_job.Job.TheVariants.{Publish, First, Second}
+use Rattle.live_group.specs.Senders.{HaveCapacity, inbox_capacity}
 
 -- Whose actor it is.
 abbrev pub member_of : Actor → ℕ
@@ -18,15 +18,15 @@ member_of (actor.Second member) = member
 module _ {L : Type 0} where
   -- Which actor it is.
   abbrev pub actor_of : Job L → Actor
-  actor_of (Publish hand) = actor.Publish hand.member
+  actor_of (Publish publisher) = actor.Publish publisher.member
   actor_of (First member) = actor.First member
   actor_of (Second member) = actor.Second member
 
   -- The first actor of a member has a line to each member's inbox, in order, and hears what comes into its own.
   abbrev pub IsWired : List InboxView → Job L → Type 0
-  IsWired inboxes (Publish hand) =
-      (map (λ line. line.inbox) hand.lines.items ≡ inboxes)
-      × ((d : InboxView) → slice_index_or inboxes hand.member d ≡ hand.ear.inbox)
+  IsWired inboxes (Publish publisher) =
+      (map (λ sender. sender.inbox) publisher.senders.items ≡ inboxes)
+      × ((d : InboxView) → slice_index_or inboxes publisher.member d ≡ publisher.receiver.inbox)
   IsWired inboxes (First member) = Unit {0}
   IsWired inboxes (Second member) = Unit {0}
 
@@ -35,10 +35,10 @@ module _ {L : Type 0} where
   IsActorBelow members job = member_of (actor_of job) < members
 
   -- The first actor has so many lines.
-  abbrev pub HasLines : ℕ → Job L → Type 0
-  HasLines lines (Publish hand) = lines ≡ length hand.lines.items
-  HasLines lines (First member) = Unit {0}
-  HasLines lines (Second member) = Unit {0}
+  abbrev pub HasSenders : ℕ → Job L → Type 0
+  HasSenders senders (Publish publisher) = senders ≡ length publisher.senders.items
+  HasSenders senders (First member) = Unit {0}
+  HasSenders senders (Second member) = Unit {0}
 
 -- Three actors for each of so many members, in order.
 abbrev pub actors_below : ℕ → List Actor

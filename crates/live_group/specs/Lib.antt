@@ -10,7 +10,7 @@ pub use Rattle.live_settle.specs.Rans
 pub use Rattle.live_inbox.specs.Ends
 pub use Rattle.crossbeam_queue.specs.Fifo
 pub mod Seats
-pub mod Lines
+pub mod Senders
 pub mod Jobs
 pub mod Desks
 pub mod Outs

@@ -1,11 +1,11 @@
 ghost use Rattle.std.specs.Prelude.{◌≡◌, ◌≤◌, All, length, vec_len, IfOk};
-ghost use Rattle.live_group.specs.Jobs.{IsActorBelow, HasLines};
+ghost use Rattle.live_group.specs.Jobs.{IsActorBelow, HasSenders};
 
 use crate::gate::Gate;
 use crate::handle::Handle;
 use crate::run::Run;
 use crate::seat::Seat;
-use crate::ticketed::{Done, Ticketed};
+use crate::ticketed::{Done, TicketedActor};
 use live_actors::act;
 use repo_member::Group;
 use std::alloc::{AllocError, Global};
@@ -20,24 +20,24 @@ pub fn act_all<L: Run + Send + Sync, R: Threads + Wait + Sync, G: Gate + Sync>(
     g: &Group,
     seats: &[Seat<L>],
     gate: &G,
-    jobs: Vec<Ticketed<L>>,
+    jobs: Vec<TicketedActor<L>>,
 ) -> Result<Vec<Done<L>>, AllocError>
     requires group { g.now ≡ L.meaning.group }
     requires members { length seats.now ≡ length L.meaning.lists }
     requires few { length seats.now ≤ 16 }
     requires jobs { All (λ t. IsActorBelow (length seats.now) t.job) jobs.items }
-    requires lines { All (λ t. HasLines (length seats.now) t.job) jobs.items }
+    requires senders { All (λ t. HasSenders (length seats.now) t.job) jobs.items }
     ensures { IfOk result (λ done. vec_len done ≡ vec_len jobs) }
 {
     let ends = thread::map_vec(
         rt,
         jobs,
-        &|job: Ticketed<L>| -> Result<Done<L>, AllocError>
+        &|job: TicketedActor<L>| -> Result<Done<L>, AllocError>
             requires group { g.now ≡ L.meaning.group }
             requires members { length seats.now ≡ length L.meaning.lists }
             requires few { length seats.now ≤ 16 }
             requires job { IsActorBelow (length seats.now) job.job }
-            requires lines { HasLines (length seats.now) job.job }
+            requires senders { HasSenders (length seats.now) job.job }
         { act_one(rt, alloc, g, seats, gate, job) },
     )?;
     let mut done = Vec::with_capacity(alloc, ends.len())?;
@@ -54,15 +54,15 @@ fn act_one<L: Run, R: Wait, G: Gate>(
     g: &Group,
     seats: &[Seat<L>],
     gate: &G,
-    ticketed: Ticketed<L>,
+    ticketed: TicketedActor<L>,
 ) -> Result<Done<L>, AllocError>
     requires group { g.now ≡ L.meaning.group }
     requires members { length seats.now ≡ length L.meaning.lists }
     requires few { length seats.now ≤ 16 }
     requires job { IsActorBelow (length seats.now) ticketed.job }
-    requires lines { HasLines (length seats.now) ticketed.job }
+    requires senders { HasSenders (length seats.now) ticketed.job }
 {
-    let Ticketed {
+    let TicketedActor {
         job,
         turns,
         tickets,

@@ -1,6 +1,6 @@
 ghost use Rattle.std.specs.Prelude.{◌≡◌};
 
-use crate::line::{Ear, Line};
+use crate::sender::{Receiver, Sender};
 use live_member::{Lists, Told};
 use std::sync::Wait;
 
@@ -8,18 +8,18 @@ use std::sync::Wait;
 /// fetcher has none.
 #[derive(Drop)]
 pub struct Ends<L: Lists> {
-    pub lines: Vec<Line<L>>,
-    pub ear: Option<Ear<L>>,
+    pub senders: Vec<Sender<L>>,
+    pub receiver: Option<Receiver<L>>,
 }
 
 impl<L: Lists> Ends<L> {
     /// What came first of what wasn't taken yet, if anything did.
     pub fn next<R: Wait>(&mut self, rt: &R) -> Option<Told<L>>
-        ensures { self.new.lines ≡ self.old.lines }
+        ensures { self.new.senders ≡ self.old.senders }
     {
-        let Ends { ear, .. } = self;
-        match ear {
-            Some(ear) => ear.next(rt),
+        let Ends { receiver, .. } = self;
+        match receiver {
+            Some(receiver) => receiver.next(rt),
             None => None,
         }
     }

@@ -45,7 +45,7 @@ impl<'a, L: Run, R: Wait, G: Gate> Handle<'a, L, R, G> {
         requires members { length seats.now ≡ length L.meaning.lists }
         ensures tickets { result.tickets ≡ tickets }
         ensures seats { length result.seats.now ≡ length L.meaning.lists }
-        ensures lines { length result.ends.lines.items ≡ length ends.lines.items }
+        ensures senders { length result.ends.senders.items ≡ length ends.senders.items }
     {
         Handle {
             rt,
@@ -73,7 +73,7 @@ impl<'a, L: Run, R: Wait, G: Gate> Places<L> for Handle<'a, L, R, G> {
 
     ghost progress = { λ h. record {
       members = length h.seats.now;
-      lines = length h.ends.lines.items;
+      senders = length h.ends.senders.items;
       calls = map (λ c. call_of c.value) h.calls.items;
       left = h.tickets.amount;
     } };
@@ -86,42 +86,42 @@ impl<'a, L: Run, R: Wait, G: Gate> Places<L> for Handle<'a, L, R, G> {
     }
 
     fn publish_next(&mut self, member: u32) -> Result<Option<Told<L>>, AllocError> {
-        let told = self.seats[member as usize]
+        let reported = self.seats[member as usize]
             .lock()
             .lock(self.rt)
             .publish_next(self.g, &mut self.tickets)?;
         self.calls.push(Snapshot::of(&Noted::Publish {
             member,
-            told: Snapshot::of(&told),
+            reported: Snapshot::of(&reported),
         }))?;
-        Ok(told)
+        Ok(reported)
     }
 
-    fn tell(&mut self, other: u32, told: &Told<L>) -> Result<(), AllocError> {
-        self.ends.lines[other as usize].tell(self.rt, told.copy(self.alloc)?);
+    fn tell(&mut self, other: u32, reported: &Told<L>) -> Result<(), AllocError> {
+        self.ends.senders[other as usize].tell(self.rt, reported.copy(self.alloc)?);
         self.calls.push(Snapshot::of(&Noted::Tell {
             other,
-            told: Snapshot::of(told),
+            reported: Snapshot::of(reported),
         }))?;
         Ok(())
     }
 
     fn take(&mut self) -> Result<Option<Told<L>>, AllocError> {
-        let told = self.ends.next(self.rt);
+        let reported = self.ends.next(self.rt);
         self.calls.push(Snapshot::of(&Noted::Take {
-            told: Snapshot::of(&told),
+            reported: Snapshot::of(&reported),
         }))?;
-        Ok(told)
+        Ok(reported)
     }
 
-    fn hear(&mut self, member: u32, told: &Told<L>) -> Result<LiveReply, AllocError> {
+    fn hear(&mut self, member: u32, reported: &Told<L>) -> Result<LiveReply, AllocError> {
         let replied = self.seats[member as usize]
             .lock()
             .lock(self.rt)
-            .hear(self.g, told)?;
+            .hear(self.g, reported)?;
         self.calls.push(Snapshot::of(&Noted::Hear {
             member,
-            told: Snapshot::of(told),
+            reported: Snapshot::of(reported),
             replied,
         }))?;
         Ok(replied)

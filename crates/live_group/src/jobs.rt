@@ -1,8 +1,8 @@
 ghost use Rattle.std.specs.Prelude.{◌≡◌, ◌≤◌, IfOk};
 ghost use Rattle.live_group.specs.Jobs.{AreJobs};
 
-use crate::hand::{Hand, Job};
-use crate::opened::{all_inboxes, line_to_each};
+use crate::actor_job::{Job, PublisherEnds};
+use crate::opened::{all_inboxes, sender_to_each};
 use live_member::Lists;
 use std::alloc::{AllocError, Global};
 
@@ -14,9 +14,13 @@ pub fn all_jobs<L: Lists>(alloc: Global, members: usize) -> Result<Vec<Job<L>>, 
     let (mut inboxes, ears) = all_inboxes(alloc, members)?;
     let mut jobs = Vec::new(alloc);
     let mut member = 0;
-    for ear in ears {
-        let lines = line_to_each(alloc, inboxes.as_mut_slice())?;
-        jobs.push(Job::Publish(Hand { member, lines, ear }))?;
+    for receiver in ears {
+        let senders = sender_to_each(alloc, inboxes.as_mut_slice())?;
+        jobs.push(Job::Publish(PublisherEnds {
+            member,
+            senders,
+            receiver,
+        }))?;
         jobs.push(Job::First { member })?;
         jobs.push(Job::Second { member })?;
         member += 1;

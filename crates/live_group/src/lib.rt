@@ -5,18 +5,18 @@
 #![tactic(auto)]
 
 mod acting;
-mod desk;
+mod actor_job;
+mod closed_place;
 mod ends;
 mod gate;
-mod hand;
 mod handle;
 mod jobs;
-mod line;
+mod locked_member;
 mod opened;
-mod out;
 mod run;
 mod running;
 mod seat;
+mod sender;
 mod ticketed;
 
 pub use gate::{Gate, OpenGate};

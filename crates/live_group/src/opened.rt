@@ -1,7 +1,7 @@
 ghost use Rattle.std.specs.Prelude.{ℕ, ◌≡◌, ◌≤◌, ◌+◌, ◌<◌, All, map, length, vec_len, IfOk, OnOk};
-ghost use Rattle.live_group.specs.Lines.{HavePorts, HaveCapacity, inbox_capacity};
+ghost use Rattle.live_group.specs.Senders.{HavePorts, HaveCapacity, inbox_capacity};
 
-use crate::line::{Ear, Line, Shared};
+use crate::sender::{Receiver, Sender, Shared};
 use live_inbox::{Inbox, Port};
 use live_member::{Lists, Told};
 use std::alloc::{AllocError, Global};
@@ -22,7 +22,7 @@ impl<L: Lists> Model for Opened<L> {
     ghost use Rattle.std.specs.Arc.{arc_value};
     ghost use Rattle.std.specs.List.{All};
     ghost use Rattle.live_inbox.specs.Ends.{IsPortOf};
-    ghost use Rattle.live_group.specs.Lines.{OpenedView};
+    ghost use Rattle.live_group.specs.Senders.{OpenedView};
 
     ghost Value = { OpenedView };
 
@@ -33,7 +33,7 @@ impl<L: Lists> Model for Opened<L> {
 
 impl<L: Lists> Opened<L> {
     // An inbox for one member, with a port for each.
-    fn new(alloc: Global, members: usize) -> Result<(Opened<L>, Ear<L>), AllocError>
+    fn new(alloc: Global, members: usize) -> Result<(Opened<L>, Receiver<L>), AllocError>
         requires some { 1 ≤ members }
         requires few { members ≤ 16 }
         ensures inbox { IfOk result (λ r. r.0.inbox ≡ r.1.inbox) }
@@ -42,14 +42,14 @@ impl<L: Lists> Opened<L> {
     {
         let (inbox, ports, mouth) = Inbox::new(alloc, INBOX_CAPACITY, members)?;
         let inbox = Arc::new(alloc, inbox)?;
-        let ear = Ear::new(Arc::try_clone(&inbox)?, mouth);
-        Ok((Opened { inbox, ports }, ear))
+        let receiver = Receiver::new(Arc::try_clone(&inbox)?, mouth);
+        Ok((Opened { inbox, ports }, receiver))
     }
 
     // A line to this inbox.
-    fn line(&mut self) -> Result<Line<L>, AllocError>
+    fn sender(&mut self) -> Result<Sender<L>, AllocError>
         requires { 0 < length self.old.ports }
-        ensures line { IfOk result (λ line. line.inbox ≡ self.old.inbox) }
+        ensures sender { IfOk result (λ sender. sender.inbox ≡ self.old.inbox) }
         ensures inbox { OnOk result (self.new.inbox ≡ self.old.inbox) }
         ensures ports { OnOk result (length self.new.ports + 1 ≡ length self.old.ports) }
     {
@@ -57,7 +57,7 @@ impl<L: Lists> Opened<L> {
         let Some(port) = self.ports.pop() else {
             unreachable!()
         };
-        Ok(Line::new(inbox, port))
+        Ok(Sender::new(inbox, port))
     }
 }
 
@@ -65,7 +65,7 @@ impl<L: Lists> Opened<L> {
 pub fn all_inboxes<L: Lists>(
     alloc: Global,
     members: usize,
-) -> Result<(Vec<Opened<L>>, Vec<Ear<L>>), AllocError>
+) -> Result<(Vec<Opened<L>>, Vec<Receiver<L>>), AllocError>
     requires { members ≤ 16 }
     ensures members { IfOk result (λ r. length r.0.items ≡ members) }
     ensures inboxes { IfOk result (λ r. map (λ e. e.inbox) r.1.items ≡ map (λ o. o.inbox) r.0.items) }
@@ -75,27 +75,27 @@ pub fn all_inboxes<L: Lists>(
     let mut inboxes = Vec::with_capacity(alloc, members)?;
     let mut ears = Vec::with_capacity(alloc, members)?;
     for _member in 0..members {
-        let (opened, ear) = Opened::new(alloc, members)?;
+        let (opened, receiver) = Opened::new(alloc, members)?;
         inboxes.push(opened)?;
-        ears.push(ear)?;
+        ears.push(receiver)?;
     }
     Ok((inboxes, ears))
 }
 
 /// A line to each of these inboxes, in order.
-pub fn line_to_each<L: Lists>(
+pub fn sender_to_each<L: Lists>(
     alloc: Global,
     inboxes: &mut [Opened<L>],
-) -> Result<Vec<Line<L>>, AllocError>
+) -> Result<Vec<Sender<L>>, AllocError>
     requires { All (λ o. 0 < length o.ports) inboxes.old }
-    ensures lines { IfOk result (λ lines.
-        map (λ l. l.inbox) lines.items ≡ map (λ o. o.inbox) inboxes.old) }
+    ensures senders { IfOk result (λ senders.
+        map (λ l. l.inbox) senders.items ≡ map (λ o. o.inbox) inboxes.old) }
     ensures inboxes { OnOk result (map (λ o. o.inbox) inboxes.new ≡ map (λ o. o.inbox) inboxes.old) }
     ensures ports { OnOk result ((n : ℕ) → HavePorts (n + 1) inboxes.old → HavePorts n inboxes.new) }
 {
-    let mut lines = Vec::with_capacity(alloc, inboxes.len())?;
+    let mut senders = Vec::with_capacity(alloc, inboxes.len())?;
     for i in 0..inboxes.len() {
-        lines.push(inboxes[i].line()?)?;
+        senders.push(inboxes[i].sender()?)?;
     }
-    Ok(lines)
+    Ok(senders)
 }

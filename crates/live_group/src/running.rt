@@ -6,9 +6,9 @@ ghost use Rattle.live_group.specs.Desks.{tickets_each};
 ghost use Rattle.live_group.specs.Outs.{IsOut, HasRun, all_left, turns_of};
 
 use crate::acting::act_all;
+use crate::closed_place::ClosedPlace;
 use crate::gate::Gate;
 use crate::jobs::all_jobs;
-use crate::out::Out;
 use crate::run::Run;
 use crate::seat::Seat;
 use crate::ticketed::{all_ticketed, give_back};
@@ -121,7 +121,7 @@ fn all_out<L: Run>(
     alloc: Global,
     seats: Vec<Seat<L>>,
     all: &mut Share<L>,
-) -> Result<Vec<Out<L>>, AllocError>
+) -> Result<Vec<ClosedPlace<L>>, AllocError>
     ensures numbers { IfOk result (λ outs. map (λ o. o.number) outs.items ≡ seats.items) }
     ensures parts { OnOk result (all.new.parts ≡ all.old.parts + length seats.items) }
     ensures amount { IfOk result (λ outs.
@@ -138,7 +138,7 @@ fn all_out<L: Run>(
 fn all_placed<L: Run>(
     alloc: Global,
     g: &Group,
-    outs: Vec<Out<L>>,
+    outs: Vec<ClosedPlace<L>>,
 ) -> Result<Vec<Live<L, 1000000>>, AllocError>
     requires group { g.now ≡ L.meaning.group }
     requires none_left { All (λ o. o.left ≡ 0) outs.items }

@@ -2,8 +2,8 @@ ghost use Rattle.std.specs.Prelude.{◌≡◌, ◌+◌, IfOk};
 ghost use Rattle.live_group.specs.Seats.{IsSeat};
 ghost use Rattle.live_group.specs.Desks.{tickets_each};
 
-use crate::desk::Desk;
-use crate::out::Out;
+use crate::closed_place::ClosedPlace;
+use crate::locked_member::LockedMember;
 use crate::run::Run;
 use live_member::Live;
 use repo_member::Group;
@@ -19,7 +19,7 @@ pub struct Seat<L: Run> {
     number: u32,
     draw: u32,
     objects: Vec<Object>,
-    lock: Mutex<Desk<L>>,
+    lock: Mutex<LockedMember<L>>,
 }
 
 // A place is seen as its number. What stands under the lock no contract can tell.
@@ -55,16 +55,20 @@ impl<L: Run> Seat<L> {
             number,
             draw,
             objects: copied(alloc, objects.as_slice())?,
-            lock: Mutex::new(Desk::new(Live::new(alloc, g, number, objects, draw)?, turns, spent)),
+            lock: Mutex::new(LockedMember::new(
+                Live::new(alloc, g, number, objects, draw)?,
+                turns,
+                spent,
+            )),
         })
     }
 
-    pub fn lock(&self) -> &Mutex<Desk<L>> {
+    pub fn lock(&self) -> &Mutex<LockedMember<L>> {
         &self.lock
     }
 
     /// What lay under the lock. The tickets that were spent on it come back, and those that weren't are what is left.
-    pub fn out(self, all: &mut Share<L>) -> Out<L>
+    pub fn out(self, all: &mut Share<L>) -> ClosedPlace<L>
         ensures number { result.number ≡ self }
         ensures parts { all.new.parts ≡ all.old.parts + 1 }
         ensures amount { all.new.amount + result.left ≡ all.old.amount + tickets_each L.turns }
@@ -77,7 +81,7 @@ impl<L: Run> Seat<L> {
         } = self;
         let (live, left, spent) = lock.into_inner().into_parts();
         all.merge(spent);
-        Out::new(number, draw, objects, live, left)
+        ClosedPlace::new(number, draw, objects, live, left)
     }
 }
 

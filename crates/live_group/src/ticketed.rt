@@ -2,7 +2,7 @@ ghost use Rattle.std.specs.Prelude.{◌≡◌, ◌<◌, ◌≤◌, ◌+◌, map,
 ghost use Rattle.live_actors.specs.ActorCalls.{tickets_of};
 ghost use Rattle.live_group.specs.Jobs.{actor_of, all_tickets};
 
-use crate::hand::Job;
+use crate::actor_job::Job;
 use crate::run::Run;
 use live_actors::Actor;
 use std::alloc::{AllocError, Global};
@@ -10,7 +10,7 @@ use std::sync::ledger::Share;
 
 /// An actor, with its tickets: one for each claim that it is to make, or one for its last look for a publication.
 #[derive(Drop)]
-pub struct Ticketed<L: Run> {
+pub struct TicketedActor<L: Run> {
     pub job: Job<L>,
     pub turns: u32,
     pub tickets: Share<L>,
@@ -18,14 +18,14 @@ pub struct Ticketed<L: Run> {
     pub ghost funded: { tickets.amount ≡ tickets_of (actor_of job) turns },
 }
 
-impl<L: Run> Ticketed<L> {
-    fn new(job: Job<L>, turns: u32, tickets: Share<L>) -> Ticketed<L>
+impl<L: Run> TicketedActor<L> {
+    fn new(job: Job<L>, turns: u32, tickets: Share<L>) -> TicketedActor<L>
         requires parts { tickets.parts ≡ 1 }
         requires funded { tickets.amount ≡ tickets_of (actor_of job) turns }
         ensures job { result.job ≡ job }
         ensures turns { result.turns ≡ turns }
     {
-        Ticketed {
+        TicketedActor {
             job,
             turns,
             tickets,
@@ -56,7 +56,7 @@ pub fn all_ticketed<L: Run>(
     all: &mut Share<L>,
     jobs: Vec<Job<L>>,
     turns: u32,
-) -> Result<Vec<Ticketed<L>>, AllocError>
+) -> Result<Vec<TicketedActor<L>>, AllocError>
     requires parts { length jobs.items < all.old.parts }
     requires tickets { all_tickets turns (map actor_of jobs.items) ≤ all.old.amount }
     ensures jobs { IfOk result (λ ticketed. map (λ t. t.job) ticketed.items ≡ jobs.items) }
@@ -66,7 +66,7 @@ pub fn all_ticketed<L: Run>(
     let mut ticketed = Vec::with_capacity(alloc, jobs.len())?;
     for job in jobs {
         let tickets = all.split_off(1, ticket_count(job.actor(), turns));
-        ticketed.push(Ticketed::new(job, turns, tickets))?;
+        ticketed.push(TicketedActor::new(job, turns, tickets))?;
     }
     Ok(ticketed)
 }

@@ -10,7 +10,7 @@ use Rattle.crossbeam_queue.specs.Fifo.{Pushes, Pops, Learns}
 use Rattle.live_inbox.specs.declared.knowledge.Sent.{Sent}
 use Rattle.live_inbox.specs.declared.knowledge.Returned.{Returned}
 use Rattle.live_inbox.specs.declared.knowledge.Knowledge.{Knowledge}
-use Rattle.live_inbox.specs.Knowledge.{values_of, port_knows, mouth_knows, has_put, StandsBefore, StandsBehind}
+use Rattle.live_inbox.specs.Knowledge.{values_of, port_knows, mouth_knows, has_put, StandsBefore, StandsAfter}
 use Rattle.live_inbox.specs.Knowledge.{TakesFirst, IsClosing}
 use Rattle.live_inbox.specs.Delivery.{History, IsWhole, IsPort, IsMouth, IsReturned, Delivers, AllThere}
 use Rattle.live_inbox.proofs.Values.{All_to, each_set, second_part, values_append, values_own, values_other, all_below}
@@ -144,9 +144,9 @@ module _ {T : Type 0} where
       )
 
   -- where a port has no room
-  pub stands_behind : (place number ports : ℕ) (put : List T)
-      → Learns Delivers place (port_knows number ports put) (StandsBehind number ports put)
-  stands_behind place number ports put items views d at =
+  pub stands_after : (place number ports : ℕ) (put : List T)
+      → Learns Delivers place (port_knows number ports put) (StandsAfter number ports put)
+  stands_after place number ports put items views d at =
       let h = d.history in
       let mine = d.ports place (port_knows number ports put) at refl in (
         subst (λ n. All (λ x. x.port < n) items) (sym mine.ports)
@@ -226,11 +226,11 @@ module _ {T : Type 0} where
       (λ w. w ≡ has_put value u)) (sym is)
       (puts n place number v.ports v.put (record { port = number; value = value }) refl)
 
-  pub stands_behind_at : (place number : ℕ) (v : Knowledge T) → v ≡ port_knows number v.ports v.put
-      → Learns Delivers place v (StandsBehind v.port v.ports v.put)
-  stands_behind_at place number v is =
-      subst (λ (u : Knowledge T). Learns Delivers place u (StandsBehind u.port u.ports u.put)) (sym is)
-      (stands_behind place number v.ports v.put)
+  pub stands_after_at : (place number : ℕ) (v : Knowledge T) → v ≡ port_knows number v.ports v.put
+      → Learns Delivers place v (StandsAfter v.port v.ports v.put)
+  stands_after_at place number v is =
+      subst (λ (u : Knowledge T). Learns Delivers place u (StandsAfter u.port u.ports u.put)) (sym is)
+      (stands_after place number v.ports v.put)
 
   pub takes_at : (place : ℕ) (v : Knowledge T) (returned : List (Returned T)) → IsClosing returned v
       → Pops Delivers place v (TakesFirst v)

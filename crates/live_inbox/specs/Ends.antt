@@ -5,7 +5,7 @@ use Rattle.atomic_table.specs.Seated.{TableId}
 use Rattle.live_inbox.specs.declared.knowledge.Sent.{Sent}
 use Rattle.live_inbox.specs.declared.knowledge.Returned.{Returned}
 use Rattle.live_inbox.specs.declared.knowledge.Knowledge.{Knowledge}
-use Rattle.live_inbox.specs.Knowledge.{mouth_knows, values_of, StandsBefore, StandsBehind}
+use Rattle.live_inbox.specs.Knowledge.{mouth_knows, values_of, StandsBefore, StandsAfter}
 
 -- What is fixed of an inbox: which it is, and how many values it holds at most.
 pub record InboxView : Type 0 where
@@ -54,11 +54,11 @@ module _ {T : Type 0} where
   abbrev pub puts : T → PortView T → PortView T
   puts value port = record port { put = port.put ++ value ∷ [] }
 
-  -- What an inbox held at a moment: each value is of one of its ports, and those of this port are the last that it put.
+  -- What an inbox held at a time: each value is of one of its ports, and those of this port are the last that it put.
   abbrev pub HeldOf : PortView T → List (Sent T) → Type 0
-  HeldOf port held = StandsBehind port.number port.ports port.put held
+  HeldOf port held = StandsAfter port.number port.ports port.put held
 
-  -- What an inbox held at a moment, beginning with what the mouth knew to stand there.
+  -- What an inbox held at a time, beginning with what the mouth knew to stand there.
   abbrev pub HeldBefore : MouthView T → List (Sent T) → Type 0
   HeldBefore mouth held = StandsBefore mouth.waiting held
 

@@ -64,7 +64,7 @@ module _ {T : Type 0} where
   -- It is the mouth's, before it takes, and so many of the ports were dealt out.
   pub record IsDealing (ports dealt : ℕ) (v : Knowledge T) : Type 0 where
     pub mouth : v ≡ mouth_knows v.ports dealt [] [] []
-    pub told : 0 < dealt → v.ports ≡ ports
+    pub reported : 0 < dealt → v.ports ≡ ports
 
   -- The port has put one value more.
   abbrev pub has_put : T → Knowledge T → Knowledge T
@@ -86,6 +86,6 @@ module _ {T : Type 0} where
     pub first : StandsBefore v.waiting (x ∷ w.waiting)
 
   -- Each value in the queue is of one of the ports, and those of this port are the last that it put.
-  abbrev pub StandsBehind : ℕ → ℕ → List T → List (Sent T) → Type 0
-  StandsBehind number ports put items = All (λ x. x.port < ports) items
+  abbrev pub StandsAfter : ℕ → ℕ → List T → List (Sent T) → Type 0
+  StandsAfter number ports put items = All (λ x. x.port < ports) items
       × ((before : List T) × (put ≡ before ++ values_of number items))

@@ -22,7 +22,7 @@ pub struct Inbox<T> {
     queue: Queue<T>,
 }
 
-// What is fixed of it. What it holds at a moment is in many hands, and no contract can tell.
+// What is fixed of it. What it holds at a time is in many hands, and no contract can tell.
 impl<T> Model for Inbox<T> {
     ghost use Rattle.crossbeam_queue.specs.Passes.{ruled_capacity};
     ghost use Rattle.live_inbox.specs.Ends.{InboxView};
@@ -51,7 +51,7 @@ impl<T: Drop> Inbox<T> {
         Ok((Inbox { queue }, ports, Mouth { place }))
     }
 
-    /// Puts a value behind all others. A full inbox hands it back.
+    /// Puts a value after all others. A full inbox hands it back.
     pub fn put<R: Wait>(&self, rt: &R, port: &mut Port<T>, value: T) -> Result<(), T>
         requires port { IsPortOf self.now port.old }
         ensures port { IsPortOf self.now port.new }

@@ -50,9 +50,9 @@ impl<T> Outcome<Sent<T>, Knowledge<T>> for Puts {
 }
 
 impl<T> Lesson<Sent<T>, Knowledge<T>> for Puts {
-    ghost use Rattle.live_inbox.specs.Knowledge.{StandsBehind};
+    ghost use Rattle.live_inbox.specs.Knowledge.{StandsAfter};
 
-    ghost fact = { λ v items. StandsBehind v.port v.ports v.put items };
+    ghost fact = { λ v items. StandsAfter v.port v.ports v.put items };
 }
 
 /// The mouth takes the first value. Where there was none, the queue was empty.

@@ -6,12 +6,13 @@ use Rattle.std.proofs.lemmas.Bool.{and_parts, eqb-true}
 use Rattle.repo_plan.specs.declared.part.Part.{Part}
 use Rattle.repo_plan.specs.Plan.{PlanState, claim_of, is_wanted}
 use Rattle.repo_object.specs.Objects.{NamedContents}
-use Rattle.repo_member.specs.Alone.{Alone, alone_plan, alone_accepts}
-use Rattle.repo_member.specs.InGroup.{in_group, true_packet}
+use Rattle.repo_member.specs.MemberState.{MemberState, member_plan, member_accepts}
+use Rattle.repo_member.specs.InGroup.{in_group, published_packet}
 use Rattle.repo_member.specs.InEvents.{IsMemberOf}
 use Rattle.repo_member.specs.Verdicts.{accept_verdict}
-use Rattle.repo_member.proofs.PublicLaws.{feed_is_event, plans_alike, true_stores, wants_published, takes_the_true}
-use Rattle.repo_member.proofs.PublicLaws.{accepts_true}
+use Rattle.repo_member.proofs.PublicLaws.{feed_is_event, plans_alike, consistent_stores, wants_published}
+use Rattle.repo_member.proofs.PublicLaws.{takes_the_consistent}
+use Rattle.repo_member.proofs.PublicLaws.{accepts_consistent}
 use Rattle.group_model.specs.Events.Came.{Nothing, Its}
 use Rattle.group_model.specs.World.{World, member}
 use Rattle.group_model.specs.Replies.{Reply}
@@ -19,7 +20,7 @@ use Rattle.group_model.specs.Steps.{claim_at, passes_checks, came_as, after_came
 use Rattle.live_member.specs.declared.event.LiveEvent.TheVariants as event
 use Rattle.live_member.specs.declared.event.LiveReply.TheVariants as reply
 use Rattle.live_member.specs.declared.event.LiveEntry.{LiveEntry}
-use Rattle.live_member.specs.Meanings.{Meaning, whole_logs, logs_at, world_at, outside}
+use Rattle.live_member.specs.Meanings.{Meaning, whole_logs, logs_at, world_at, environment}
 use Rattle.live_member.specs.Lives.{IsLive, living}
 use Rattle.live_member.specs.Replay.{is_part, fed, live_reply, after, reply_of}
 use Rattle.live_member.specs.Calls.{is_claim, accept_change, accept_reply}
@@ -48,57 +49,58 @@ fed_reply : (b : Bool) → live_reply (Reply.Fed b) ≡ (if b then reply.Kept el
 fed_reply true = refl
 fed_reply false = refl
 
-module _ (t : Meaning) (most : ℕ) (a : Alone) (journal : List LiveEntry) (coming : List NamedContents)
+module _ (t : Meaning) (most : ℕ) (a : MemberState) (journal : List LiveEntry) (coming : List NamedContents)
     (f : ℕ) (part : Part) (octets : List ℕ) (live : IsLive t most (living a journal coming))
-    (lent : true_packet t.group (whole_logs t) part ≡ Some octets) where
+    (lent : published_packet t.group (whole_logs t) part ≡ Some octets) where
   abbrev w : World
   w = world_at t a.number (in_group a)
 
   abbrev claim : Option Part
-  claim = claim_of (alone_plan a) f
+  claim = claim_of (member_plan a) f
 
   member_is : IsMemberOf w a.number a
-  member_is = is_member t a live.logs live.truly
+  member_is = is_member t a live.logs live.consistent
 
   -- a claimed part is one of what was published, and so the packet is its
-  claimed_packet : claim ≡ Some part → true_packet t.group (logs_at t a.number a.log) part ≡ Some octets
+  claimed_packet : claim ≡ Some part → published_packet t.group (logs_at t a.number a.log) part ≡ Some octets
   claimed_packet is =
       let ls = logs_at t a.number a.log in
-      let wanted : is_wanted (alone_plan a) part ≡ true =
+      let wanted : is_wanted (member_plan a) part ≡ true =
       subst (λ (p : PlanState). is_wanted p part ≡ true)
-      (sym (plans_alike t.group ls a live.logs (true_stores t.group ls a live.truly)))
-      (live.truly.sound.claimed (f - 1) part is) in
-      packet_alike t a.number a.log coming live.list (number_there t a live.logs live.truly) part
-      (wants_published t.group ls a part live.logs live.truly wanted).there ∙ lent
+      (sym (plans_alike t.group ls a live.logs (consistent_stores t.group ls a live.consistent)))
+      (live.consistent.sound.claimed (f - 1) part is) in
+      packet_alike t a.number a.log coming live.list (number_there t a live.logs live.consistent) part
+      (wants_published t.group ls a part live.logs live.consistent wanted).there ∙ lent
 
   pub passes : claim ≡ Some part → accept_verdict t.group a f octets ≡ Ok part
   passes is =
-      takes_the_true t.group (logs_at t a.number a.log) a f part octets live.logs live.truly is (claimed_packet is)
+      takes_the_consistent t.group (logs_at t a.number a.log) a f part octets live.logs live.consistent is
+      (claimed_packet is)
 
   claim_so : (c : Option Part) → claim ≡ c → claim_at w a.number f ≡ c
-  claim_so c is = claim_alike t a f live.logs live.truly c is
+  claim_so c is = claim_alike t a f live.logs live.consistent c is
 
-  abbrev changed_by : Option Part → Alone
-  changed_by c = if is_claim part c then alone_accepts f part octets a else a
+  abbrev changed_by : Option Part → MemberState
+  changed_by c = if is_claim part c then member_accepts f part octets a else a
 
-  taken : (u : Part) → in_group (if is_part part u then alone_accepts f u octets a else a)
+  taken : (u : Part) → in_group (if is_part part u then member_accepts f u octets a else a)
       ≡ in_group (changed_by (Some u))
   taken u = go (is_part part u) refl where
     go : (b : Bool) → is_part part u ≡ b
-        → in_group (cond b (alone_accepts f u octets a) a) ≡ in_group (cond b (alone_accepts f part octets a) a)
-    go true h = ap (λ (v : Part). in_group (alone_accepts f v octets a)) (sym (same_part part u h))
+        → in_group (cond b (member_accepts f u octets a) a) ≡ in_group (cond b (member_accepts f part octets a) a)
+    go true h = ap (λ (v : Part). in_group (member_accepts f v octets a)) (sym (same_part part u h))
     go false h = refl
 
   comes : (c : Option Part) → claim ≡ c
       → after t a.number (in_group a) (event.Accept f part) ≡ in_group (changed_by c)
   comes None is =
-      ap (λ (c : Option Part). member (after_came (outside t) w a.number f c (came_as w (fed part) c)) a.number)
+      ap (λ (c : Option Part). member (after_came (environment t) w a.number f c (came_as w (fed part) c)) a.number)
       (claim_so None is)
       ∙ member_is.same
   comes (Some u) is =
-      feed_is_event (outside t) w a.number f (fed part) u octets a member_is
-      (true_stores t.group (logs_at t a.number a.log) a live.truly).in_order is
-      ∙ ap (λ (b : Bool). in_group (if b then alone_accepts f u octets a else a)) (passes_so (is_part part u))
+      feed_is_event (environment t) w a.number f (fed part) u octets a member_is
+      (consistent_stores t.group (logs_at t a.number a.log) a live.consistent).in_order is
+      ∙ ap (λ (b : Bool). in_group (if b then member_accepts f u octets a else a)) (passes_so (is_part part u))
       ∙ taken u
 
   answers : (c : Option Part) → claim ≡ c
@@ -113,7 +115,7 @@ module _ (t : Meaning) (most : ℕ) (a : Alone) (journal : List LiveEntry) (comi
         go (Some u) =
             ap (λ (b : Bool). live_reply (Reply.Fed b)) (passes_so (is_part part u)) ∙ fed_reply (is_part part u)
 
-  number_stays : (b : Bool) → (if b then alone_accepts f part octets a else a).number ≡ a.number
+  number_stays : (b : Bool) → (if b then member_accepts f part octets a else a).number ≡ a.number
   number_stays true = refl
   number_stays false = refl
 
@@ -125,8 +127,8 @@ module _ (t : Meaning) (most : ℕ) (a : Alone) (journal : List LiveEntry) (comi
   }
 
   quiet_by : (c : Option Part) → claim ≡ c → (b : Bool) → is_claim part c ≡ b
-      → IsQuiet t a (if b then alone_accepts f part octets a else a)
-  quiet_by c is false h = record { log = refl; hidden = refl; draws = omega arith; truly = live.truly }
+      → IsQuiet t a (if b then member_accepts f part octets a else a)
+  quiet_by c is false h = record { log = refl; hidden = refl; draws = omega arith; consistent = live.consistent }
   quiet_by None is true h = absurd cc
   quiet_by (Some u) is true h =
       let its : claim ≡ Some part = is ∙ ap (λ (v : Part). Some v) (sym (same_part part u h)) in
@@ -134,8 +136,9 @@ module _ (t : Meaning) (most : ℕ) (a : Alone) (journal : List LiveEntry) (comi
         log = refl;
         hidden = refl;
         draws = omega arith;
-        truly = accepts_true t.group (logs_at t a.number a.log) f part octets a live.logs its (claimed_packet its)
-            live.truly;
+        consistent = accepts_consistent t.group (logs_at t a.number a.log) f part octets a live.logs its
+            (claimed_packet its)
+            live.consistent;
       }
 
   pub accept_quiet : IsQuiet t a (accept_change part octets f a)

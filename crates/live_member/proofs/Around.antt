@@ -7,17 +7,17 @@ use Rattle.std.proofs.lemmas.List.{map-set, get_or-map, get_or-set_same, get_or-
 use Rattle.std.proofs.lemmas.List.{length-append}
 use Rattle.repo_object.specs.Objects.{NamedContents, Post, shape_in}
 use Rattle.repo_plan.specs.declared.part.Part.{Part}
-use Rattle.repo_plan.specs.Parts.{Pair, pair_of, parts_behind}
+use Rattle.repo_plan.specs.Parts.{Pair, pair_of, parts_after}
 use Rattle.repo_object.specs.Publication.{packet_at}
 use Rattle.repo_member.specs.Groups.{publisher_at}
-use Rattle.repo_member.specs.Alone.{Alone}
-use Rattle.repo_member.specs.InGroup.{AreLogs, in_group, true_packet}
-use Rattle.repo_member.specs.InEvents.{IsMemberOf, IsTrueIn}
-use Rattle.repo_member.specs.TrueMembers.{IsTrueMember}
-use Rattle.repo_member.proofs.PublicLaws.{true_stores}
+use Rattle.repo_member.specs.MemberState.{MemberState}
+use Rattle.repo_member.specs.InGroup.{AreLogs, in_group, published_packet}
+use Rattle.repo_member.specs.InEvents.{IsMemberOf, IsConsistentIn}
+use Rattle.repo_member.specs.ConsistentMembers.{IsConsistentMember}
+use Rattle.repo_member.proofs.PublicLaws.{consistent_stores}
 use Rattle.group_model.specs.Publications.{Logs, no_post, post_at, last_of}
 use Rattle.group_model.specs.Member.{Member}
-use Rattle.group_model.specs.Sound.{IsPublished, IsPublishedPart, IsTrueVector}
+use Rattle.group_model.specs.Sound.{IsPublished, IsPublishedPart, IsConsistentVector}
 use Rattle.group_model.specs.World.{member, logs, no_member}
 use Rattle.live_member.specs.Meanings.{Meaning, objects_of, as_posts, whole_logs, logs_at, with_log, world_at}
 
@@ -45,10 +45,10 @@ member_around t j m less =
     length-map (whole_logs t) with_log ∙ width_whole t in
     get_or-set_same (map with_log (whole_logs t)) j m no_member (omega (arith, less, wide))
 
-module _ (t : Meaning) (a : Alone) (own : AreLogs t.group (logs_at t a.number a.log))
-    (truly : IsTrueMember t.group (logs_at t a.number a.log) a) where
+module _ (t : Meaning) (a : MemberState) (own : AreLogs t.group (logs_at t a.number a.log))
+    (consistent : IsConsistentMember t.group (logs_at t a.number a.log) a) where
   pub number_there : a.number < length t.lists
-  number_there = omega (arith, truly.there, length-set (whole_logs t) a.number a.log, width_whole t)
+  number_there = omega (arith, consistent.there, length-set (whole_logs t) a.number a.log, width_whole t)
 
   pub is_member : IsMemberOf (world_at t a.number (in_group a)) a.number a
   is_member = record {
@@ -57,14 +57,14 @@ module _ (t : Meaning) (a : Alone) (own : AreLogs t.group (logs_at t a.number a.
     same = member_around t a.number (in_group a) number_there;
   }
 
-  pub is_true_in : IsTrueIn t.group (world_at t a.number (in_group a)) a
-  is_true_in =
+  pub is_consistent_in : IsConsistentIn t.group (world_at t a.number (in_group a)) a
+  is_consistent_in =
       let same : logs_at t a.number a.log ≡ logs (world_at t a.number (in_group a)) =
       sym (logs_around t a.number (in_group a)) in
       record {
         published = subst (AreLogs t.group) same own;
-        stores = true_stores t.group (logs (world_at t a.number (in_group a))) a
-            (subst (λ (ls : Logs). IsTrueMember t.group ls a) same truly);
+        stores = consistent_stores t.group (logs (world_at t a.number (in_group a))) a
+            (subst (λ (ls : Logs). IsConsistentMember t.group ls a) same consistent);
       }
 
 -- ---- what a member has published, and its whole list
@@ -115,7 +115,7 @@ module _ (t : Meaning) (j : ℕ) (log : List Post) (coming : List NamedContents)
   ]
 
   pub packet_alike : (part : Part) → IsPublished (logs_at t j log) (pair_of part)
-      → true_packet t.group (logs_at t j log) part ≡ true_packet t.group (whole_logs t) part
+      → published_packet t.group (logs_at t j log) part ≡ published_packet t.group (whole_logs t) part
   packet_alike part is =
       ap (λ (post : Post). packet_at (publisher_at t.group part.publisher) part.seq post part.part)
       (post_alike (pair_of part) is)
@@ -129,31 +129,31 @@ module _ (t : Meaning) (j : ℕ) (log : List Post) (coming : List NamedContents)
           from_one = is.there.from_one;
           to_last = omega (arith, last, at_most_whole part.publisher);
         };
-        counted = subst (λ (post : Post). part.part ≤ parts_behind (shape_in post)) (post_alike (pair_of part) is.there)
+        counted = subst (λ (post : Post). part.part ≤ parts_after (shape_in post)) (post_alike (pair_of part) is.there)
             is.counted;
       }
 
   wide : length (logs_at t j log) ≡ length (whole_logs t)
   wide = length-set (whole_logs t) j log
 
-  -- a vector that tells of what was published tells of the lists
-  pub vector_whole : (v : List ℕ) → IsTrueVector (logs_at t j log) v → IsTrueVector (whole_logs t) v
+  -- a vector that reports what was published says of the lists
+  pub vector_whole : (v : List ℕ) → IsConsistentVector (logs_at t j log) v → IsConsistentVector (whole_logs t) v
   vector_whole v is = record {
     width = is.width ∙ wide;
     no_more = λ p. let most = at_most_whole p in omega (arith, most, is.no_more p);
   }
 
-  -- and the other way round, unless it tells of more of the member than that has published
-  pub vector_here : (v : List ℕ) → IsTrueVector (whole_logs t) v → get_or v j 0 ≤ length log
-      → IsTrueVector (logs_at t j log) v
+  -- and the other way round, unless it reports more of the member than that has published
+  pub vector_here : (v : List ℕ) → IsConsistentVector (whole_logs t) v → get_or v j 0 ≤ length log
+      → IsConsistentVector (logs_at t j log) v
   vector_here v is few = record {
     width = is.width ∙ sym wide;
     no_more = λ p. elim (cases_eq p j) [
       | inl same ↦
           let here : last_of (logs_at t j log) p ≡ length log =
           ap (λ (q : ℕ). last_of (logs_at t j log) q) same ∙ own_last in
-          let told : get_or v p 0 ≡ get_or v j 0 = ap (λ (q : ℕ). get_or v q 0) same in
-          omega (arith, here, told, few)
+          let reported : get_or v p 0 ≡ get_or v j 0 = ap (λ (q : ℕ). get_or v q 0) same in
+          omega (arith, here, reported, few)
       | inr other ↦ omega (arith, other_last p other, is.no_more p)
     ];
   }

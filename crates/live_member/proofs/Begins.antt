@@ -6,9 +6,9 @@ use Rattle.std.proofs.lemmas.List.{get_or-set_same, length-replicate, length-set
 use Rattle.std.proofs.lemmas.List.Elements.{All-nil, All-set}
 use Rattle.repo_object.specs.Objects.{NamedContents, Post}
 use Rattle.repo_member.specs.Groups.{GroupKeys}
-use Rattle.repo_member.specs.Alone.{Alone, ArePosts, alone_opening, publication_limit}
+use Rattle.repo_member.specs.MemberState.{MemberState, ArePosts, member_opening, publication_limit}
 use Rattle.repo_member.specs.InGroup.{GrowInto}
-use Rattle.repo_member.proofs.PublicLaws.{begins_true, others_publish}
+use Rattle.repo_member.proofs.PublicLaws.{begins_consistent, others_publish}
 use Rattle.group_model.specs.Publications.{Logs}
 use Rattle.live_member.specs.declared.event.LiveEntry.{LiveEntry}
 use Rattle.live_member.specs.Meanings.{Meaning, objects_of, whole_logs, logs_at, IsWithinLimits}
@@ -45,25 +45,25 @@ begins_live t most j within less =
         few = All-set (λ (log : List Post). length log ≤ publication_limit) (whole_logs t) j [] (omega arith)
             within.logs.few;
       };
-      truly = others_publish t.group (replicate n []) (logs_at t j []) (opening t j) (grows n (logs_at t j []))
+      consistent = others_publish t.group (replicate n []) (logs_at t j []) (opening t j) (grows n (logs_at t j []))
           (wide ∙ sym (length-replicate n []))
           (ap length (get_or-set_same (whole_logs t) j [] [] inside) ∙ sym (ap length (none_at n j)))
-          (begins_true t.group n j 0 (slice_index t.draws j) less);
+          (begins_consistent t.group n j 0 (slice_index t.draws j) less);
       hidden = refl;
       draws = omega arith;
       room = omega arith;
     }
 
 -- a member that was just made, in a group that is the meaning's
-pub begins_kept : (t : Meaning) (most j draw : ℕ) (g : GroupKeys) (a : Alone) (objects : List NamedContents)
+pub begins_kept : (t : Meaning) (most j draw : ℕ) (g : GroupKeys) (a : MemberState) (objects : List NamedContents)
     → g ≡ t.group → IsWithinLimits t → j < length t.lists → objects ≡ objects_of t j → draw ≡ slice_index t.draws j
-    → a ≡ alone_opening (length g.members.names) j 0 draw → IsKept t most j draw (living a [] objects)
+    → a ≡ member_opening (length g.members.names) j 0 draw → IsKept t most j draw (living a [] objects)
 begins_kept t most j draw g a objects group within there list value made =
     let wide : length g.members.names ≡ length t.lists =
     ap (λ (k : GroupKeys). length k.members.names) group ∙ sym within.logs.width ∙ width_whole t in
-    let same : a ≡ opening t j = made ∙ (λ i. alone_opening (wide i) j 0 (value i)) in
+    let same : a ≡ opening t j = made ∙ (λ i. member_opening (wide i) j 0 (value i)) in
     record {
-      its_number = sym (ap (λ (b : Alone). b.number) same);
+      its_number = sym (ap (λ (b : MemberState). b.number) same);
       its_draw = value;
       live = rw (same, list) (begins_live t most j within there);
     }

@@ -11,43 +11,43 @@ use Rattle.svs_sync.specs.declared.sync_refusal.SyncRefusal.{SyncRefusal}
 use Rattle.repo_object.specs.Objects.{NamedContents}
 use Rattle.repo_member.specs.declared.refusals.HearRefusal.{HearRefusal}
 use Rattle.repo_member.specs.declared.refusals.HearRefusal.TheVariants.{OwnNumberAhead}
-use Rattle.repo_member.specs.Alone.{Alone, alone_hears}
+use Rattle.repo_member.specs.MemberState.{MemberState, member_hears}
 use Rattle.repo_member.specs.InGroup.{in_group}
 use Rattle.repo_member.specs.InEvents.{IsMemberOf}
-use Rattle.repo_member.specs.Verdicts.{hear_verdict, told_verdict, group_verdict}
-use Rattle.repo_member.proofs.PublicLaws.{hear_is_event, syncs_are_told, hears_true}
+use Rattle.repo_member.specs.Verdicts.{hear_verdict, reported_verdict, group_verdict}
+use Rattle.repo_member.proofs.PublicLaws.{hear_is_event, syncs_are_reported, hears_consistent}
 use Rattle.group_model.specs.Events.{SyncInterest, Event}
 use Rattle.group_model.specs.Member.{Member}
 use Rattle.group_model.specs.World.{World, member}
 use Rattle.group_model.specs.Replies.{heard_reply}
-use Rattle.group_model.specs.Steps.{tells_too_much, after_deliver, mode_at, after_event, reply_to}
+use Rattle.group_model.specs.Steps.{reports_too_much, after_deliver, mode_at, after_event, reply_to}
 use Rattle.live_member.specs.declared.event.LiveEvent.TheVariants as event
 use Rattle.live_member.specs.declared.event.LiveEntry.{LiveEntry}
-use Rattle.live_member.specs.Meanings.{Meaning, whole_logs, logs_at, world_at, outside}
-use Rattle.live_member.specs.Tellings.{IsTelling}
+use Rattle.live_member.specs.Meanings.{Meaning, whole_logs, logs_at, world_at, environment}
+use Rattle.live_member.specs.Reports.{IsReport}
 use Rattle.live_member.specs.Lives.{IsLive, living}
 use Rattle.live_member.specs.Replay.{live_reply, mode_reply, sync_read, after, reply_of}
 use Rattle.live_member.specs.Calls.{hear_change, hear_reply}
 use Rattle.live_member.proofs.Around.{width_whole, number_there, is_member, vector_here}
 use Rattle.live_member.proofs.Journals.{IsAfter, IsQuiet}
 
-one_draw : (told known : List ℕ) (draw : ℕ) (k : Keeper) (heard : Option (List ℕ))
-    → (hears_kept 0 told known draw k heard).draws ≤ k.draws + 1
-one_draw told known draw k None = go (covers told known) where
+one_draw : (reported known : List ℕ) (draw : ℕ) (k : Keeper) (heard : Option (List ℕ))
+    → (hears_kept 0 reported known draw k heard).draws ≤ k.draws + 1
+one_draw reported known draw k None = go (covers reported known) where
   go : (b : Bool)
       → (cond b (steady_kept 0 draw k)
-      (record k { heard = Some told; deadline = 0 + suppression draw; draws = k.draws + 1 })).draws
+      (record k { heard = Some reported; deadline = 0 + suppression draw; draws = k.draws + 1 })).draws
       ≤ k.draws + 1
   go true = omega arith
   go false = omega arith
-one_draw told known draw k (Some v) = omega arith
+one_draw reported known draw k (Some v) = omega arith
 
--- what the verdict is on a vector, by whether it tells of more of the member than that has published
-abbrev verdict_by : Bool → Alone → List ℕ → Result (List ℕ) HearRefusal
+-- what the verdict is on a vector, by whether it reports more of the member than that has published
+abbrev verdict_by : Bool → MemberState → List ℕ → Result (List ℕ) HearRefusal
 verdict_by ahead a vector = cond ahead (Err (OwnNumberAhead (length a.log) (slice_index vector a.number))) (Ok vector)
 
-module _ (t : Meaning) (most : ℕ) (a : Alone) (journal : List LiveEntry) (coming : List NamedContents)
-    (octets : List ℕ) (draw : ℕ) (live : IsLive t most (living a journal coming)) (tell : IsTelling t octets)
+module _ (t : Meaning) (most : ℕ) (a : MemberState) (journal : List LiveEntry) (coming : List NamedContents)
+    (octets : List ℕ) (draw : ℕ) (live : IsLive t most (living a journal coming)) (tell : IsReport t octets)
     (value : draw ≡ slice_index t.draws a.number) where
   abbrev w : World
   w = world_at t a.number (in_group a)
@@ -56,23 +56,23 @@ module _ (t : Meaning) (most : ℕ) (a : Alone) (journal : List LiveEntry) (comi
   sync = record { sender = tell.sender; vector = tell.vector }
 
   there : a.number < length t.lists
-  there = number_there t a live.logs live.truly
+  there = number_there t a live.logs live.consistent
 
   member_is : IsMemberOf w a.number a
-  member_is = is_member t a live.logs live.truly
+  member_is = is_member t a live.logs live.consistent
 
-  is_told : group_verdict t.group octets ≡ Ok (tell.sender, tell.vector)
-  is_told =
-      ap (group_verdict t.group) tell.told
-      ∙ syncs_are_told t.group (whole_logs t) tell.sender tell.vector live.within.logs
-      (omega (arith, tell.there, live.within.logs.width, width_whole t)) tell.truly
+  is_reported : group_verdict t.group octets ≡ Ok (tell.sender, tell.vector)
+  is_reported =
+      ap (group_verdict t.group) tell.reported
+      ∙ syncs_are_reported t.group (whole_logs t) tell.sender tell.vector live.within.logs
+      (omega (arith, tell.there, live.within.logs.width, width_whole t)) tell.consistent
 
   pub verdict_is : hear_verdict t.group a octets ≡ verdict_by (nat_lt (length a.log)
       (slice_index tell.vector a.number)) a tell.vector
-  verdict_is = ap (told_verdict a) is_told
+  verdict_is = ap (reported_verdict a) is_reported
 
   too_much : (b : Bool) → nat_lt (length a.log) (slice_index tell.vector a.number) ≡ b
-      → tells_too_much w a.number sync ≡ b
+      → reports_too_much w a.number sync ≡ b
   too_much b is = ap (λ (m : Member). nat_lt (length m.log) (slice_index tell.vector a.number)) member_is.same ∙ is
 
   -- the member afterwards, where octets are read so
@@ -80,42 +80,42 @@ module _ (t : Meaning) (most : ℕ) (a : Alone) (journal : List LiveEntry) (comi
       → after t a.number (in_group a) (event.Hear octets) ≡ in_group (hear_change (verdict_by b a tell.vector) draw a)
   read b is =
       ap (λ (v : Result (ℕ × List ℕ) SyncRefusal).
-      member (after_event (outside t) w (Event.Hear a.number (sync_read v))) a.number) is_told
-      ∙ hear_is_event (outside t) w a.number sync a member_is
-      ∙ ap (λ (c : Bool). in_group (cond c a (alone_hears tell.vector 0 (slice_index t.draws a.number) a))) is
+      member (after_event (environment t) w (Event.Hear a.number (sync_read v))) a.number) is_reported
+      ∙ hear_is_event (environment t) w a.number sync a member_is
+      ∙ ap (λ (c : Bool). in_group (cond c a (member_hears tell.vector 0 (slice_index t.draws a.number) a))) is
       ∙ go b where
-        go : (c : Bool) → in_group (cond c a (alone_hears tell.vector 0 (slice_index t.draws a.number) a))
+        go : (c : Bool) → in_group (cond c a (member_hears tell.vector 0 (slice_index t.draws a.number) a))
             ≡ in_group (hear_change (verdict_by c a tell.vector) draw a)
         go true = refl
-        go false = ap (λ (d : ℕ). in_group (alone_hears tell.vector 0 d a)) (sym value)
+        go false = ap (λ (d : ℕ). in_group (member_hears tell.vector 0 d a)) (sym value)
 
   replied : (b : Bool) → nat_lt (length a.log) (slice_index tell.vector a.number) ≡ b
       → hear_reply (verdict_by b a tell.vector) draw a ≡ reply_of t a.number (in_group a) (event.Hear octets)
   replied b is = sym (
       ap (λ (v : Result (ℕ × List ℕ) SyncRefusal).
-      live_reply (reply_to (outside t) w (Event.Hear a.number (sync_read v)))) is_told
+      live_reply (reply_to (environment t) w (Event.Hear a.number (sync_read v)))) is_reported
       ∙ ap (λ (c : Bool). live_reply (heard_reply (cond c (Err (
         length (member w a.number).log,
         slice_index tell.vector a.number,
       ))
-      (Ok (mode_at (after_deliver (outside t) w a.number tell.vector) a.number))))) (too_much b is)
+      (Ok (mode_at (after_deliver (environment t) w a.number tell.vector) a.number))))) (too_much b is)
       ∙ go b is) where
         go : (c : Bool) → nat_lt (length a.log) (slice_index tell.vector a.number) ≡ c
             → live_reply (heard_reply (cond c (Err (length (member w a.number).log, slice_index tell.vector a.number))
-            (Ok (mode_at (after_deliver (outside t) w a.number tell.vector) a.number))))
+            (Ok (mode_at (after_deliver (environment t) w a.number tell.vector) a.number))))
             ≡ hear_reply (verdict_by c a tell.vector) draw a
         go true h = refl
         go false h =
             ap (λ (m : Member). mode_reply (mode_of m.machine.heard))
-            (sym (ap (λ (c : Bool). member (cond c w (after_deliver (outside t) w a.number tell.vector)) a.number)
+            (sym (ap (λ (c : Bool). member (cond c w (after_deliver (environment t) w a.number tell.vector)) a.number)
             (too_much false h))
-            ∙ hear_is_event (outside t) w a.number sync a member_is
-            ∙ ap (λ (c : Bool). in_group (cond c a (alone_hears tell.vector 0 (slice_index t.draws a.number) a))) h
-            ∙ ap (λ (d : ℕ). in_group (alone_hears tell.vector 0 d a)) (sym value))
+            ∙ hear_is_event (environment t) w a.number sync a member_is
+            ∙ ap (λ (c : Bool). in_group (cond c a (member_hears tell.vector 0 (slice_index t.draws a.number) a))) h
+            ∙ ap (λ (d : ℕ). in_group (member_hears tell.vector 0 d a)) (sym value))
 
   quiet : (b : Bool) → nat_lt (length a.log) (slice_index tell.vector a.number) ≡ b
       → IsQuiet t a (hear_change (verdict_by b a tell.vector) draw a)
-  quiet true is = record { log = refl; hidden = refl; draws = omega arith; truly = live.truly }
+  quiet true is = record { log = refl; hidden = refl; draws = omega arith; consistent = live.consistent }
   quiet false is =
       let few : slice_index tell.vector a.number ≤ length a.log =
       ltb-false (length a.log) (slice_index tell.vector a.number) is in
@@ -123,8 +123,8 @@ module _ (t : Meaning) (most : ℕ) (a : Alone) (journal : List LiveEntry) (comi
         log = refl;
         hidden = refl;
         draws = one_draw tell.vector a.known draw a.machine a.machine.heard;
-        truly = hears_true t.group (logs_at t a.number a.log) tell.vector 0 draw a
-            (vector_here t a.number a.log coming live.list there tell.vector tell.truly few) live.truly;
+        consistent = hears_consistent t.group (logs_at t a.number a.log) tell.vector 0 draw a
+            (vector_here t a.number a.log coming live.list there tell.vector tell.consistent few) live.consistent;
       }
 
   number_stays : (b : Bool) → (hear_change (verdict_by b a tell.vector) draw a).number ≡ a.number

@@ -3,9 +3,9 @@ use Rattle.std.proofs.Common.{◌≡◌, ℕ, ◌+◌, ◌<◌, ◌≤◌, List,
 use Rattle.std.proofs.Common.{length-append}
 use Rattle.std.proofs.lemmas.List.Elements.{All-push}
 use Rattle.repo_object.specs.Objects.{NamedContents, Post}
-use Rattle.repo_member.specs.Alone.{Alone}
+use Rattle.repo_member.specs.MemberState.{MemberState}
 use Rattle.repo_member.specs.InGroup.{AreLogs, in_group}
-use Rattle.repo_member.specs.TrueMembers.{IsTrueMember}
+use Rattle.repo_member.specs.ConsistentMembers.{IsConsistentMember}
 use Rattle.group_model.specs.Publications.{Logs}
 use Rattle.group_model.specs.Member.{Member}
 use Rattle.live_member.specs.declared.event.LiveEvent.{LiveEvent}
@@ -23,12 +23,12 @@ replays_more t j [] from mid e r same is =
 replays_more t j (x ∷ es) from mid e r h is = (h.0, replays_more t j es (after t j from x.event) mid e r h.1 is)
 
 -- an event happens to a member, with its reply
-pub record IsAfter (t : Meaning) (e : LiveEvent) (r : LiveReply) (a b : Alone) : Type 0 where
+pub record IsAfter (t : Meaning) (e : LiveEvent) (r : LiveReply) (a b : MemberState) : Type 0 where
   pub replied : r ≡ reply_of t a.number (in_group a) e
   pub changed : in_group b ≡ after t a.number (in_group a) e
   pub number : b.number ≡ a.number
 
-pub replays_on : (t : Meaning) (a b : Alone) (journal : List LiveEntry) (e : LiveEvent) (r : LiveReply)
+pub replays_on : (t : Meaning) (a b : MemberState) (journal : List LiveEntry) (e : LiveEvent) (r : LiveReply)
     → ReplaysTo t journal a → IsAfter t e r a b → ReplaysTo t (journal ++ entry e r ∷ []) b
 replays_on t a b journal e r replays is =
     subst (λ (n : ℕ). Replays t n (journal ++ entry e r ∷ []) (in_group (opening t n)) (in_group b)) (sym is.number)
@@ -36,13 +36,13 @@ replays_on t a b journal e r replays is =
     (replays_more t a.number journal (in_group (opening t a.number)) (in_group a) e r replays (sym is.replied)))
 
 -- what stays where nothing is published
-pub record IsQuiet (t : Meaning) (a b : Alone) : Type 0 where
+pub record IsQuiet (t : Meaning) (a b : MemberState) : Type 0 where
   pub log : b.log ≡ a.log
   pub hidden : b.hidden ≡ a.hidden
   pub draws : b.machine.draws ≤ a.machine.draws + 1
-  pub truly : IsTrueMember t.group (logs_at t a.number a.log) b
+  pub consistent : IsConsistentMember t.group (logs_at t a.number a.log) b
 
-pub lives_on : (t : Meaning) (most : ℕ) (a b : Alone) (journal : List LiveEntry) (coming : List NamedContents)
+pub lives_on : (t : Meaning) (most : ℕ) (a b : MemberState) (journal : List LiveEntry) (coming : List NamedContents)
     (e : LiveEvent) (r : LiveReply) → IsLive t most (living a journal coming) → length journal < most
     → IsAfter t e r a b → BringsPart t e → IsQuiet t a b → IsLive t most (living b (journal ++ entry e r ∷ []) coming)
 lives_on t most a b journal coming e r live less is brings quiet =
@@ -56,14 +56,14 @@ lives_on t most a b journal coming e r live less is brings quiet =
       list = ap (λ (l : List Post). l ++ as_posts coming) quiet.log ∙ live.list
           ∙ ap (λ (n : ℕ). as_posts (objects_of t n)) (sym is.number);
       logs = subst (AreLogs t.group) same live.logs;
-      truly = subst (λ (ls : Logs). IsTrueMember t.group ls b) same quiet.truly;
+      consistent = subst (λ (ls : Logs). IsConsistentMember t.group ls b) same quiet.consistent;
       hidden = quiet.hidden ∙ live.hidden;
       draws = omega (arith, live.draws, quiet.draws, long);
       room = omega (arith, less, long);
     }
 
 -- a call that publishes nothing, with its entry
-module _ (t : Meaning) (most : ℕ) (a b : Alone) (journal : List LiveEntry) (coming : List NamedContents)
+module _ (t : Meaning) (most : ℕ) (a b : MemberState) (journal : List LiveEntry) (coming : List NamedContents)
     (e : LiveEvent) (r : LiveReply) (less : length journal < most) (is : IsAfter t e r a b)
     (brings : BringsPart t e) where
   pub kept_on : (number draw : ℕ) → IsKept t most number draw (living a journal coming) → IsQuiet t a b

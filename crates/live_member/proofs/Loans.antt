@@ -12,7 +12,7 @@ use Rattle.repo_plan.specs.declared.part.Part.{Part}
 use Rattle.repo_plan.specs.Parts.{Pair, part_cmp, pair_cmp, pair_of, part_of}
 use Rattle.sorted_lists.specs.SortedList.{contains, value_of}
 use Rattle.repo_member.specs.Groups.{publisher_at}
-use Rattle.repo_member.specs.Alone.{Alone, logged, packet_in}
+use Rattle.repo_member.specs.MemberState.{MemberState, logged, packet_in}
 use Rattle.repo_member.specs.InGroup.{in_group}
 use Rattle.repo_member.specs.Verdicts.{sync_of}
 use Rattle.repo_member.proofs.PublicLaws.{logs_those, contains-value}
@@ -21,33 +21,34 @@ use Rattle.group_model.specs.Member.{member_holds, member_hides}
 use Rattle.group_model.specs.Sound.{IsPublished}
 use Rattle.live_member.specs.declared.event.LiveEntry.{LiveEntry}
 use Rattle.live_member.specs.Meanings.{Meaning, logs_at}
-use Rattle.live_member.specs.Tellings.{IsTelling, IsLoan, loan}
+use Rattle.live_member.specs.Reports.{IsReport, IsLoan, loan}
 use Rattle.live_member.specs.Lives.{IsLive, living}
 use Rattle.live_member.proofs.Around.{number_there, packet_alike, part_whole, vector_whole}
 
-module _ (t : Meaning) (most : ℕ) (a : Alone) (journal : List LiveEntry) (coming : List NamedContents)
+module _ (t : Meaning) (most : ℕ) (a : MemberState) (journal : List LiveEntry) (coming : List NamedContents)
     (live : IsLive t most (living a journal coming)) where
   abbrev ls : Logs
   ls = logs_at t a.number a.log
 
   there : a.number < length t.lists
-  there = number_there t a live.logs live.truly
+  there = number_there t a live.logs live.consistent
 
   -- what a member tells is of the lists
-  pub tells : IsTelling t (sync_of t.group a.number a.known)
+  pub tells : IsReport t (sync_of t.group a.number a.known)
   tells = record {
     sender = a.number;
     vector = a.known;
     there = there;
-    truly = vector_whole t a.number a.log coming live.list there a.known
-        (record { width = live.truly.sound.width; no_more = live.truly.sound.known });
-    told = refl;
+    consistent = vector_whole t a.number a.log coming live.list there a.known
+        (record { width = live.consistent.sound.width; no_more = live.consistent.sound.known });
+    reported = refl;
   }
 
   held_published : (part : Part) → member_holds (in_group a) part ≡ true → IsPublished ls (pair_of part)
   held_published part h =
-      let known = (live.truly.sound.held part h).known in
-      let most : get_or a.known part.publisher 0 ≤ last_of ls part.publisher = live.truly.sound.known part.publisher in
+      let known = (live.consistent.sound.held part h).known in
+      let most : get_or a.known part.publisher 0 ≤ last_of ls part.publisher = live.consistent.sound.known
+      part.publisher in
       record { from_one = known.from_one; to_last = omega (arith, known.to_known, most) }
 
   stored_held : (part : Part) (octets : List ℕ) → value_of part_cmp a.store part ≡ Some octets
@@ -62,9 +63,9 @@ module _ (t : Meaning) (most : ℕ) (a : Alone) (journal : List LiveEntry) (comi
       let is : IsPublished ls (pair_of part) = held_published part held in
       record {
         published = part_whole t a.number a.log coming live.list there part
-            (record { there = is; counted = (live.truly.sound.held part held).counted });
+            (record { there = is; counted = (live.consistent.sound.held part held).counted });
         packet = sym (packet_alike t a.number a.log coming live.list there part is)
-            ∙ live.truly.packets part octets h;
+            ∙ live.consistent.packets part octets h;
       }
 
   module _ (part : Part) (own : part.publisher ≡ a.number) where
@@ -90,7 +91,7 @@ module _ (t : Meaning) (most : ℕ) (a : Alone) (journal : List LiveEntry) (comi
         let here : IsPublished ls (a.number, part.seq) = subst (λ (n : ℕ). IsPublished ls (n, part.seq)) own is in
         let few : part.part ≤ count ls (a.number, part.seq) =
         subst (λ (n : ℕ). part.part ≤ count ls (n, part.seq)) own counted in
-        elim (live.truly.sound.own_held part.seq here) [
+        elim (live.consistent.sound.own_held part.seq here) [
           | inl hides ↦ absurd (none_shown (member_hides (in_group a) (a.number, part.seq)) refl hides)
           | inr held ↦
               subst (λ (n : ℕ). member_holds (in_group a) (part_of (n, part.seq) part.part) ≡ true) (sym own)
@@ -125,7 +126,7 @@ module _ (t : Meaning) (most : ℕ) (a : Alone) (journal : List LiveEntry) (comi
       published : 0 < part.seq → part.seq - 1 < length a.log → IsPublished ls (pair_of part)
       published some within =
           let last : last_of ls part.publisher ≡ length a.log =
-          ap (λ (n : ℕ). last_of ls n) own ∙ ap length live.truly.log in
+          ap (λ (n : ℕ). last_of ls n) own ∙ ap length live.consistent.log in
           record { from_one = omega (arith, some); to_last = omega (arith, some, within, last) }
 
       in_log : IsPublished ls (pair_of part) → logged t.group a part ≡ None
@@ -134,7 +135,7 @@ module _ (t : Meaning) (most : ℕ) (a : Alone) (journal : List LiveEntry) (comi
         | inl past ↦
             let post : Post = post_at ls (pair_of part) in
             let many = packets-length (publisher_at t.group part.publisher) part.seq post in
-            logs_those t.group ls a part live.truly own is
+            logs_those t.group ls a part live.consistent own is
             ∙ slice_get_past (packets (publisher_at t.group part.publisher) part.seq post) part.part
             (omega (arith, many, past))
       ]
@@ -145,8 +146,8 @@ module _ (t : Meaning) (most : ℕ) (a : Alone) (journal : List LiveEntry) (comi
       go : (o : Option (List ℕ)) → value_of part_cmp a.store part ≡ o → o ≡ logged t.group a part
       go None h = sym (none_logged h)
       go (Some octets) h = sym (
-          logs_those t.group ls a part live.truly own (held_published part (stored_held part octets h))
-          ∙ live.truly.packets part octets h)
+          logs_those t.group ls a part live.consistent own (held_published part (stored_held part octets h))
+          ∙ live.consistent.packets part octets h)
 
   -- what isn't its own it has not logged
   pub not_logged : (part : Part) → (part.publisher == a.number) ≡ false → logged t.group a part ≡ None

@@ -10,42 +10,42 @@ use Rattle.std.proofs.lemmas.List.Elements.{All-push}
 use Rattle.std.proofs.lemmas.Option.{slice_get-get_or}
 use Rattle.repo_object.specs.Objects.{NamedContents, Post, IsPost, offered}
 use Rattle.repo_object.specs.Objects.Post.{Offers}
-use Rattle.repo_member.specs.Alone.{Alone, alone_publishes, next_seq, publication_limit}
+use Rattle.repo_member.specs.MemberState.{MemberState, member_publishes, next_seq, publication_limit}
 use Rattle.repo_member.specs.InGroup.{AreLogs, in_group}
 use Rattle.repo_member.specs.Verdicts.{sync_of}
 use Rattle.repo_member.specs.InEvents.{IsMemberOf}
-use Rattle.repo_member.specs.TrueMembers.{IsTrueMember}
-use Rattle.repo_member.proofs.PublicLaws.{publish_is_event, publishes_true, logs_grow, true_stores}
+use Rattle.repo_member.specs.ConsistentMembers.{IsConsistentMember}
+use Rattle.repo_member.proofs.PublicLaws.{publish_is_event, publishes_consistent, logs_grow, consistent_stores}
 use Rattle.group_model.specs.Publications.{Logs, no_object, no_post, last_of}
 use Rattle.group_model.specs.Member.{Member}
 use Rattle.group_model.specs.World.{World}
 use Rattle.live_member.specs.declared.event.LiveEvent.TheVariants as event
 use Rattle.live_member.specs.declared.event.LiveReply.TheVariants as reply
 use Rattle.live_member.specs.declared.event.LiveEntry.{LiveEntry}
-use Rattle.live_member.specs.Meanings.{Meaning, objects_of, as_posts, whole_logs, logs_at, world_at, outside}
+use Rattle.live_member.specs.Meanings.{Meaning, objects_of, as_posts, whole_logs, logs_at, world_at, environment}
 use Rattle.live_member.specs.Lives.{BringsPart, IsLive, IsKept, living}
 use Rattle.live_member.specs.Replay.{next_object}
 use Rattle.live_member.specs.LockedCalls.{entry, IsNext}
 use Rattle.live_member.proofs.Around.{width_whole, number_there, is_member, whole_at, log_at}
 use Rattle.live_member.proofs.Journals.{IsAfter, replays_on}
 
-module _ (t : Meaning) (most : ℕ) (a : Alone) (journal : List LiveEntry) (object : NamedContents)
+module _ (t : Meaning) (most : ℕ) (a : MemberState) (journal : List LiveEntry) (object : NamedContents)
     (rest : List NamedContents) (draw : ℕ) (live : IsLive t most (living a journal (object ∷ rest)))
     (value : draw ≡ slice_index t.draws a.number) where
   abbrev w : World
   w = world_at t a.number (in_group a)
 
-  abbrev pub b : Alone
-  b = alone_publishes t.group (Offers object) 0 draw a
+  abbrev pub b : MemberState
+  b = member_publishes t.group (Offers object) 0 draw a
 
   there : a.number < length t.lists
-  there = number_there t a live.logs live.truly
+  there = number_there t a live.logs live.consistent
 
   inside : a.number < length (whole_logs t)
   inside = omega (arith, there, width_whole t)
 
   member_is : IsMemberOf w a.number a
-  member_is = is_member t a live.logs live.truly
+  member_is = is_member t a live.logs live.consistent
 
   whole : get_or (whole_logs t) a.number [] ≡ a.log ++ Offers object ∷ as_posts rest
   whole = whole_at t a.number a.log (object ∷ rest) live.list there
@@ -77,9 +77,9 @@ module _ (t : Meaning) (most : ℕ) (a : Alone) (journal : List LiveEntry) (obje
   publish_after = record {
     replied = ap (λ (m : Member). reply.Published (length m.log + 1)) (sym member_is.same);
     changed = sym (
-        publish_is_event (outside t) w a.number t.group (next_object t a.number (in_group a)) a member_is
-        (true_stores t.group (logs_at t a.number a.log) a live.truly).in_order
-        ∙ (λ i. in_group (alone_publishes t.group (Offers (next_is i)) 0 (sym value i) a)));
+        publish_is_event (environment t) w a.number t.group (next_object t a.number (in_group a)) a member_is
+        (consistent_stores t.group (logs_at t a.number a.log) a live.consistent).in_order
+        ∙ (λ i. in_group (member_publishes t.group (Offers (next_is i)) 0 (sym value i) a)));
     number = refl;
   }
 
@@ -93,7 +93,7 @@ module _ (t : Meaning) (most : ℕ) (a : Alone) (journal : List LiveEntry) (obje
       let last : last_of (logs_at t a.number a.log) a.number ≡ length a.log = ap length here in
       subst (AreLogs t.group) (ap (λ (l : List Post). set (logs_at t a.number a.log) a.number
       (l ++ Offers object ∷ [])) here ∙ grown)
-      (logs_grow t.group (logs_at t a.number a.log) a.number (Offers object) live.logs live.truly.there
+      (logs_grow t.group (logs_at t a.number a.log) a.number (Offers object) live.logs live.consistent.there
       (subst (λ (n : ℕ). IsPost (n + 1) (Offers object)) (sym last) is_post) (omega (arith, last, room_left)))
 
   pub published_lives : length journal < most
@@ -107,15 +107,15 @@ module _ (t : Meaning) (most : ℕ) (a : Alone) (journal : List LiveEntry) (obje
             (entry event.Publish (reply.Published (next_seq a))) live.brought tt;
         list = append_assoc a.log (Offers object ∷ []) (as_posts rest) ∙ live.list;
         logs = logs_later;
-        truly = subst (λ (ls : Logs). IsTrueMember t.group ls b) grown
-            (publishes_true t.group (Offers object) 0 draw (logs_at t a.number a.log) a live.truly);
+        consistent = subst (λ (ls : Logs). IsConsistentMember t.group ls b) grown
+            (publishes_consistent t.group (Offers object) 0 draw (logs_at t a.number a.log) a live.consistent);
         hidden = live.hidden;
         draws = omega (arith, live.draws, long);
         room = omega (arith, less, long);
       }
 
 -- what the first object that is still to come makes of a member
-pub record IsFirst (t : Meaning) (most : ℕ) (a : Alone) (journal : List LiveEntry) (coming : List NamedContents)
+pub record IsFirst (t : Meaning) (most : ℕ) (a : MemberState) (journal : List LiveEntry) (coming : List NamedContents)
     (object : NamedContents) (rest : List NamedContents) (draw : ℕ) : Type 0 where
   pub first : coming ≡ object ∷ rest
   pub live : IsLive t most (living a journal (object ∷ rest))
@@ -126,7 +126,7 @@ first_and_rest : (xs : List NamedContents) (x : NamedContents) → 0 < length xs
 first_and_rest [] x some is = absurd (omega arith)
 first_and_rest (y ∷ ys) x some is = ap (λ (z : NamedContents). z ∷ ys) (sym is)
 
-pub is_first : (t : Meaning) (most number draw : ℕ) (a : Alone) (journal : List LiveEntry)
+pub is_first : (t : Meaning) (most number draw : ℕ) (a : MemberState) (journal : List LiveEntry)
     (coming : List NamedContents) (object : NamedContents) → IsKept t most number draw (living a journal coming)
     → 0 < length coming → object ≡ get_or coming 0 object
     → IsFirst t most a journal coming object (drop 1 coming) draw
@@ -139,42 +139,42 @@ is_first t most number draw a journal coming object kept some is =
     }
 
 -- the call and its entry, for whatever the member is afterwards
-module _ (t : Meaning) (most : ℕ) (a after : Alone) (journal : List LiveEntry) (coming : List NamedContents)
+module _ (t : Meaning) (most : ℕ) (a after : MemberState) (journal : List LiveEntry) (coming : List NamedContents)
     (object : NamedContents) (rest : List NamedContents) (draw : ℕ)
     (f : IsFirst t most a journal coming object rest draw) (less : length journal < most)
-    (new : after ≡ alone_publishes t.group (Offers object) 0 draw a) where
+    (new : after ≡ member_publishes t.group (Offers object) 0 draw a) where
   abbrev entries : List LiveEntry
   entries = journal ++ entry event.Publish (reply.Published (next_seq a)) ∷ []
 
   pub lives_after : IsLive t most (living after entries rest)
   lives_after =
-      subst (λ (b : Alone). IsLive t most (living b entries rest)) (sym new)
+      subst (λ (b : MemberState). IsLive t most (living b entries rest)) (sym new)
       (published_lives t most a journal object rest draw f.live f.value less)
 
   pub kept_after : (number : ℕ) → IsKept t most number draw (living a journal coming)
       → IsKept t most number draw (living after entries rest)
   kept_after number kept = record {
-    its_number = kept.its_number ∙ sym (ap (λ (b : Alone). b.number) new);
+    its_number = kept.its_number ∙ sym (ap (λ (b : MemberState). b.number) new);
     its_draw = kept.its_draw;
     live = lives_after;
   }
 
   pub is_next : (octets : List ℕ) → octets ≡ sync_of t.group a.number after.known
       → IsNext t most (living a journal coming) (living after entries rest) octets
-  is_next octets told =
+  is_next octets reported =
       let is = publish_after t most a journal object rest draw f.live f.value in
       record {
         room = less;
         object = object;
         first = f.first;
-        log = ap (λ (b : Alone). b.log) new;
+        log = ap (λ (b : MemberState). b.log) new;
         reply = reply.Published (next_seq a);
         entered = record {
           replied = is.replied;
           changed = ap in_group new ∙ is.changed;
-          number = ap (λ (b : Alone). b.number) new;
+          number = ap (λ (b : MemberState). b.number) new;
           entered = refl;
         };
-        told = told ∙ (λ i. sync_of t.group (sym (ap (λ (b : Alone). b.number) new) i) after.known);
+        reported = reported ∙ (λ i. sync_of t.group (sym (ap (λ (b : MemberState). b.number) new) i) after.known);
         live = lives_after;
       }

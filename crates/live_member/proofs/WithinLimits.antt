@@ -11,7 +11,7 @@ use Rattle.sorted_lists.specs.Range.{numbers_from}
 use Rattle.repo_object.specs.Objects.{NamedContents, Post, IsObject, IsPost}
 use Rattle.repo_object.specs.Objects.Post.{Offers}
 use Rattle.repo_member.specs.Groups.{GroupKeys, IsGroup}
-use Rattle.repo_member.specs.Alone.{ArePosts, publication_limit}
+use Rattle.repo_member.specs.MemberState.{ArePosts, publication_limit}
 use Rattle.group_model.specs.Publications.{Publication, numbered_publications, published_from, parts_in, all_parts}
 use Rattle.group_model.proofs.Runs.{length_numbers}
 use Rattle.live_member.specs.Meanings.{meaning_of, as_posts, part_count, IsWithinLimits}

@@ -4,55 +4,55 @@ use Rattle.repo_plan.specs.declared.part.Part.{Part}
 use Rattle.repo_plan.specs.Plan.{claim_of, unclaimed, first}
 use Rattle.svs_sync.specs.Suppression.{mode_of}
 use Rattle.repo_member.specs.declared.refusals.HearRefusal.{HearRefusal}
-use Rattle.repo_member.specs.Alone.{Alone, alone_plan, alone_claims, alone_hears, alone_accepts}
+use Rattle.repo_member.specs.MemberState.{MemberState, member_plan, member_claims, member_hears, member_accepts}
 use Rattle.live_member.specs.declared.event.LiveReply.{LiveReply}
 use Rattle.live_member.specs.declared.event.LiveReply.TheVariants as reply
 use Rattle.live_member.specs.Replay.{is_part, mode_reply}
 
 -- ---- a claim, by what the fetcher claims
 
-abbrev pub claim_change_of : Option Part → ℕ → Alone → Alone
-claim_change_of None f a = alone_claims f (first (unclaimed (alone_plan a))) a
+abbrev pub claim_change_of : Option Part → ℕ → MemberState → MemberState
+claim_change_of None f a = member_claims f (first (unclaimed (member_plan a))) a
 claim_change_of (Some t) f a = a
 
-abbrev pub claim_change : ℕ → Alone → Alone
-claim_change f a = claim_change_of (claim_of (alone_plan a) f) f a
+abbrev pub claim_change : ℕ → MemberState → MemberState
+claim_change f a = claim_change_of (claim_of (member_plan a) f) f a
 
 abbrev pub part_reply : Option Part → LiveReply
 part_reply None = reply.NoPart
 part_reply (Some t) = reply.Claimed t
 
-abbrev pub claim_reply_of : Option Part → Alone → LiveReply
-claim_reply_of None a = part_reply (first (unclaimed (alone_plan a)))
+abbrev pub claim_reply_of : Option Part → MemberState → LiveReply
+claim_reply_of None a = part_reply (first (unclaimed (member_plan a)))
 claim_reply_of (Some t) a = reply.Refused
 
-abbrev pub claim_reply : ℕ → Alone → LiveReply
-claim_reply f a = claim_reply_of (claim_of (alone_plan a) f) a
+abbrev pub claim_reply : ℕ → MemberState → LiveReply
+claim_reply f a = claim_reply_of (claim_of (member_plan a) f) a
 
 -- ---- a loss, by what the fetcher claims
 
-abbrev pub lose_change_of : Option Part → ℕ → Alone → Alone
+abbrev pub lose_change_of : Option Part → ℕ → MemberState → MemberState
 lose_change_of None f a = a
-lose_change_of (Some t) f a = alone_claims f None a
+lose_change_of (Some t) f a = member_claims f None a
 
-abbrev pub lose_change : ℕ → Alone → Alone
-lose_change f a = lose_change_of (claim_of (alone_plan a) f) f a
+abbrev pub lose_change : ℕ → MemberState → MemberState
+lose_change f a = lose_change_of (claim_of (member_plan a) f) f a
 
 abbrev pub lose_reply_of : Option Part → LiveReply
 lose_reply_of None = reply.Refused
 lose_reply_of (Some t) = reply.Lost t
 
-abbrev pub lose_reply : ℕ → Alone → LiveReply
-lose_reply f a = lose_reply_of (claim_of (alone_plan a) f)
+abbrev pub lose_reply : ℕ → MemberState → LiveReply
+lose_reply f a = lose_reply_of (claim_of (member_plan a) f)
 
 -- ---- a sync Interest, by the vector that it tells the member
 
-abbrev pub hear_change : Result (List ℕ) HearRefusal → ℕ → Alone → Alone
-hear_change (Ok told) draw a = alone_hears told 0 draw a
+abbrev pub hear_change : Result (List ℕ) HearRefusal → ℕ → MemberState → MemberState
+hear_change (Ok reported) draw a = member_hears reported 0 draw a
 hear_change (Err refusal) draw a = a
 
-abbrev pub hear_reply : Result (List ℕ) HearRefusal → ℕ → Alone → LiveReply
-hear_reply (Ok told) draw a = mode_reply (mode_of (alone_hears told 0 draw a).machine.heard)
+abbrev pub hear_reply : Result (List ℕ) HearRefusal → ℕ → MemberState → LiveReply
+hear_reply (Ok reported) draw a = mode_reply (mode_of (member_hears reported 0 draw a).machine.heard)
 hear_reply (Err refusal) draw a = reply.Refused
 
 -- ---- the packet of a part, by what the fetcher claims
@@ -61,9 +61,9 @@ abbrev pub is_claim : Part → Option Part → Bool
 is_claim t None = false
 is_claim t (Some u) = is_part t u
 
-abbrev pub accept_change : Part → List ℕ → ℕ → Alone → Alone
+abbrev pub accept_change : Part → List ℕ → ℕ → MemberState → MemberState
 accept_change t octets f a =
-    if is_claim t (claim_of (alone_plan a) f) then alone_accepts f t octets a else a
+    if is_claim t (claim_of (member_plan a) f) then member_accepts f t octets a else a
 
-abbrev pub accept_reply : Part → ℕ → Alone → LiveReply
-accept_reply t f a = if is_claim t (claim_of (alone_plan a) f) then reply.Kept else reply.Refused
+abbrev pub accept_reply : Part → ℕ → MemberState → LiveReply
+accept_reply t f a = if is_claim t (claim_of (member_plan a) f) then reply.Kept else reply.Refused

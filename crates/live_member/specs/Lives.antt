@@ -2,9 +2,9 @@
 use Rattle.std.specs.Prelude.{ℕ, ◌≡◌, ◌+◌, ◌≤◌, ⊤, List, [], ◌++◌, length, slice_index}
 use Rattle.std.specs.List.{All}
 use Rattle.repo_object.specs.Objects.{NamedContents}
-use Rattle.repo_member.specs.Alone.{Alone, alone_opening}
+use Rattle.repo_member.specs.MemberState.{MemberState, member_opening}
 use Rattle.repo_member.specs.InGroup.{AreLogs, in_group}
-use Rattle.repo_member.specs.TrueMembers.{IsTrueMember}
+use Rattle.repo_member.specs.ConsistentMembers.{IsConsistentMember}
 use Rattle.group_model.specs.Sound.{IsPublishedPart}
 use Rattle.live_member.specs.declared.event.LiveEvent.{LiveEvent}
 use Rattle.live_member.specs.declared.event.LiveEvent.TheVariants as event
@@ -14,19 +14,19 @@ use Rattle.live_member.specs.Replay.{Replays}
 
 -- A member, its journal, and the objects that it is still to publish.
 pub record Living : Type 0 where
-  pub state : Alone
+  pub state : MemberState
   pub journal : List LiveEntry
   pub coming : List NamedContents
 
-abbrev pub living : Alone → List LiveEntry → List NamedContents → Living
+abbrev pub living : MemberState → List LiveEntry → List NamedContents → Living
 living state journal coming = record { state = state; journal = journal; coming = coming }
 
 -- A member that has just begun.
-abbrev pub opening : Meaning → ℕ → Alone
-opening t j = alone_opening (length t.lists) j 0 (slice_index t.draws j)
+abbrev pub opening : Meaning → ℕ → MemberState
+opening t j = member_opening (length t.lists) j 0 (slice_index t.draws j)
 
 -- A journal, from the beginning of the member on, replays to it.
-abbrev pub ReplaysTo : Meaning → List LiveEntry → Alone → Type 0
+abbrev pub ReplaysTo : Meaning → List LiveEntry → MemberState → Type 0
 ReplaysTo t journal a = Replays t a.number journal (in_group (opening t a.number)) (in_group a)
 
 -- A packet that came, taken or refused, is of a part of a publication of the lists.
@@ -48,7 +48,7 @@ pub record IsLive (t : Meaning) (most : ℕ) (l : Living) : Type 0 where
   pub brought : BringParts t l.journal
   pub list : l.state.log ++ as_posts l.coming ≡ as_posts (objects_of t l.state.number)
   pub logs : AreLogs t.group (logs_at t l.state.number l.state.log)
-  pub truly : IsTrueMember t.group (logs_at t l.state.number l.state.log) l.state
+  pub consistent : IsConsistentMember t.group (logs_at t l.state.number l.state.log) l.state
   pub hidden : l.state.hidden ≡ []
   pub draws : l.state.machine.draws ≤ length l.journal + 1
   pub room : length l.journal ≤ most

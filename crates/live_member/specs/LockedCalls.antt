@@ -32,7 +32,7 @@ StepsBy t most e old new r =
     × (length old.journal < most → IsEntered t e old new r × (new.coming ≡ old.coming))
     × IsLive t most new
 
--- Want of memory changes nothing.
+-- Running out of memory changes nothing.
 abbrev pub Steps : {A : Type 0} → Meaning → ℕ → LiveEvent → Living → Living → Result LiveReply A → Type 0
 Steps t most e old new (Ok r) = StepsBy t most e old new r
 Steps t most e old new (Err want) = new ≡ old
@@ -46,7 +46,7 @@ pub record IsNext (t : Meaning) (most : ℕ) (old new : Living) (octets : List �
   pub log : new.state.log ≡ old.state.log ++ Offers object ∷ []
   pub reply : LiveReply
   pub entered : IsEntered t event.Publish old new reply
-  pub told : octets ≡ sync_of t.group new.state.number new.state.known
+  pub reported : octets ≡ sync_of t.group new.state.number new.state.known
   pub live : IsLive t most new
 
 -- Nothing is to come; else there is no room; else the next object is published.

@@ -1,6 +1,6 @@
 -- What a live group stands for, and the group as a journal of one member sees it.
 use Rattle.std.specs.Prelude.{ℕ, ◌+◌, ◌≤◌, false, List, [], map, length, sum_by, slice_index, slice_index_or, slice_set}
-use Rattle.repo_plan.specs.Parts.{parts_behind, shape_of_segments}
+use Rattle.repo_plan.specs.Parts.{parts_after, shape_of_segments}
 use Rattle.repo_object.specs.Objects.{NamedContents, Post}
 use Rattle.repo_object.specs.Objects.Post.{Offers}
 use Rattle.repo_member.specs.Groups.{GroupKeys, no_nodes}
@@ -8,7 +8,7 @@ use Rattle.repo_member.specs.InGroup.{AreLogs}
 use Rattle.group_model.specs.Publications.{Logs, all_parts}
 use Rattle.group_model.specs.Events.Came.{Nothing}
 use Rattle.group_model.specs.Member.{Member}
-use Rattle.group_model.specs.World.{World, Outside, no_member}
+use Rattle.group_model.specs.World.{World, Environment, no_member}
 
 -- The group, the objects that each member is to publish, in order, and the one value of every draw of each member.
 pub record Meaning : Type 0 where
@@ -51,7 +51,7 @@ part_limit = 4000
 
 -- How many parts an object has: its record, its index packets and its segments.
 abbrev pub part_count : NamedContents → ℕ
-part_count object = parts_behind (shape_of_segments (length object.contents)) + 1
+part_count object = parts_after (shape_of_segments (length object.contents)) + 1
 
 -- What the members are to publish can be published, and isn't too much.
 pub record IsWithinLimits (t : Meaning) : Type 0 where
@@ -74,14 +74,14 @@ abbrev pub world_at : Meaning → ℕ → Member → World
 world_at t j m = record {
   members = slice_set (map with_log (whole_logs t)) j m;
   sent = [];
-  moment = 0;
+  time = 0;
   issued = [];
   tally = record { delivered = 0; attempts = 0; parts = 0; octets = 0 };
 }
 
 -- Every draw of a member has its one value. Nobody is asked over a network.
-abbrev pub outside : Meaning → Outside
-outside t = record {
+abbrev pub environment : Meaning → Environment
+environment t = record {
   draw = λ j k. slice_index t.draws j;
   passes = λ asker part attempt loss. false;
   serves = λ logs held part. Nothing;

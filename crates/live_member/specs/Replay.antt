@@ -19,7 +19,7 @@ use Rattle.live_member.specs.declared.event.LiveEvent.TheVariants as event
 use Rattle.live_member.specs.declared.event.LiveReply.{LiveReply}
 use Rattle.live_member.specs.declared.event.LiveReply.TheVariants as reply
 use Rattle.live_member.specs.declared.event.LiveEntry.{LiveEntry}
-use Rattle.live_member.specs.Meanings.{Meaning, objects_of, world_at, outside}
+use Rattle.live_member.specs.Meanings.{Meaning, objects_of, world_at, environment}
 
 -- ---- an entry as an event of the group
 
@@ -29,7 +29,7 @@ next_object t j m = slice_index_or (objects_of t j) (length m.log) no_object
 
 -- What octets are read as.
 abbrev pub sync_read : {A : Type 0} → Result (ℕ × List ℕ) A → Option SyncInterest
-sync_read (Ok told) = Some (record { sender = told.0; vector = told.1 })
+sync_read (Ok reported) = Some (record { sender = reported.0; vector = reported.1 })
 sync_read (Err refusal) = None
 
 abbrev pub is_part : Part → Part → Bool
@@ -73,12 +73,12 @@ live_reply _ = reply.Refused
 -- The member afterwards. What is refused changes nothing.
 abbrev pub after : Meaning → ℕ → Member → LiveEvent → Member
 after t j m e =
-    if is_refused t j m e then m else member (after_event (outside t) (world_at t j m) (event_of t j m e)) j
+    if is_refused t j m e then m else member (after_event (environment t) (world_at t j m) (event_of t j m e)) j
 
 abbrev pub reply_of : Meaning → ℕ → Member → LiveEvent → LiveReply
 reply_of t j m e =
     if is_refused t j m e then reply.Refused
-    else live_reply (reply_to (outside t) (world_at t j m) (event_of t j m e))
+    else live_reply (reply_to (environment t) (world_at t j m) (event_of t j m e))
 
 -- A journal's entries, taken in order at a member of that number, give these replies and end in this state.
 abbrev pub Replays : Meaning → ℕ → List LiveEntry → Member → Member → Type 0

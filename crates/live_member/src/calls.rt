@@ -3,7 +3,7 @@ ghost use Rattle.std.specs.Prelude.{◌≡◌, ◌<◌, ◌^◌, Ok, Some, lengt
 ghost use Rattle.repo_object.specs.Objects.Post.{Offers};
 ghost use Rattle.repo_plan.specs.Plan.{claim_of};
 ghost use Rattle.repo_plan.specs.Calls.{IsFetcher};
-ghost use Rattle.repo_member.specs.Alone.{IsOfGroup, publication_limit, next_seq, alone_plan, alone_publishes};
+ghost use Rattle.repo_member.specs.MemberState.{IsOfGroup, publication_limit, next_seq, member_plan, member_publishes};
 ghost use Rattle.repo_member.specs.Verdicts.{sync_of, hear_verdict, accept_verdict};
 ghost use Rattle.live_member.specs.Calls.{claim_change, claim_reply, lose_change, lose_reply, hear_change, hear_reply};
 ghost use Rattle.live_member.specs.Calls.{is_claim, accept_change, accept_reply};
@@ -24,7 +24,7 @@ pub fn published(
     requires group { IsOfGroup g.now member.old }
     requires numbers { length member.old.log < publication_limit }
     requires draws { member.old.machine.draws < 2 ^ 62 }
-    ensures ok { OnOk result (member.new ≡ alone_publishes g.now (Offers object.now) 0 draw member.old) }
+    ensures ok { OnOk result (member.new ≡ member_publishes g.now (Offers object.now) 0 draw member.old) }
     ensures seq { IfOk result (λ published. published.seq ≡ next_seq member.old) }
     ensures sync { IfOk result (λ published.
         published.sync.items ≡ sync_of g.now member.old.number member.new.known) }
@@ -81,7 +81,8 @@ pub fn lost(member: &mut Member, f: u8) -> LiveReply
     }
 }
 
-/// The packet passes for the part, so that nothing but want of memory keeps it from being taken for a claim of it.
+/// The packet passes for the part, so that nothing but running out of memory keeps it from being taken for a claim of
+/// it.
 pub fn accepted(
     member: &mut Member,
     g: &Group,
@@ -91,7 +92,7 @@ pub fn accepted(
 ) -> Result<LiveReply, AllocError>
     requires fetcher { IsFetcher f }
     requires group { IsOfGroup g.now member.old }
-    requires passes { claim_of (alone_plan member.old) f ≡ Some part
+    requires passes { claim_of (member_plan member.old) f ≡ Some part
         → accept_verdict g.now member.old f octets.now ≡ Ok part }
     ensures ok { OnOk result (member.new ≡ accept_change part octets.now f member.old) }
     ensures reply { IfOk result (λ reply. reply ≡ accept_reply part f member.old) }
@@ -109,7 +110,7 @@ pub fn accepted(
 // Whether the fetcher claims the part.
 fn claims(member: &Member, f: u8, part: Part) -> bool
     requires { IsFetcher f }
-    ensures { result ≡ is_claim part (claim_of (alone_plan member.now) f) }
+    ensures { result ≡ is_claim part (claim_of (member_plan member.now) f) }
 {
     match member.claimed(f) {
         Some(claimed) => part == claimed,

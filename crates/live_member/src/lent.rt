@@ -1,5 +1,5 @@
 ghost use Rattle.std.specs.Prelude.{◌≡◌};
-ghost use Rattle.live_member.specs.Tellings.{loan, IsLoan};
+ghost use Rattle.live_member.specs.Reports.{loan, IsLoan};
 
 use crate::lists::Lists;
 use repo_plan::Part;
@@ -14,7 +14,7 @@ pub struct Lent<L: Lists> {
 }
 
 impl<L: Lists> Model for Lent<L> {
-    ghost use Rattle.live_member.specs.Tellings.{Loan, loan, IsLoan};
+    ghost use Rattle.live_member.specs.Reports.{Loan, loan, IsLoan};
 
     ghost Value = { Loan };
 

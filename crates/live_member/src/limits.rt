@@ -76,5 +76,5 @@ fn part_count(object: &Object) -> u32
     ensures object { IsObject object.now }
 {
     let segments = object.contents().len();
-    Shape::of(segments as u16).parts_behind() + 1
+    Shape::of(segments as u16).parts_after() + 1
 }

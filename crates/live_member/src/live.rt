@@ -1,6 +1,6 @@
 ghost use Rattle.std.specs.Prelude.{◌≡◌, ◌<◌, ◌≤◌, ◌++◌, [], length, slice_index, option_map, IfOk, IfSome};
 ghost use Rattle.repo_plan.specs.Calls.{IsFetcher};
-ghost use Rattle.repo_member.specs.Alone.{logged};
+ghost use Rattle.repo_member.specs.MemberState.{logged};
 ghost use Rattle.repo_member.specs.Verdicts.{sync_of};
 ghost use Rattle.live_member.specs.Meanings.{IsWithinLimits, objects_of, as_posts};
 ghost use Rattle.live_member.specs.Lives.{living, opening, BringParts, ReplaysTo, IsLive};
@@ -11,7 +11,7 @@ use crate::calls::{accepted, claimed, heard, lost, published};
 use crate::event::{LiveEntry, LiveEvent, LiveReply};
 use crate::lent::Lent;
 use crate::lists::Lists;
-use crate::told::Told;
+use crate::reported::Told;
 use repo_member::{Group, Member};
 use repo_object::Object;
 use repo_plan::Part;
@@ -22,7 +22,7 @@ use std::marker::{Model, PhantomData};
 /// What comes of `publish_next`.
 #[derive(Drop)]
 pub enum NextTold<L: Lists> {
-    /// The next object was published, and this tells of it.
+    /// The next object was published, and this reports it.
     Told(Told<L>),
     /// Nothing is to come.
     Done,
@@ -32,7 +32,7 @@ pub enum NextTold<L: Lists> {
 
 /// A member with a journal of at most `M` entries. Time stands still at 0, and every draw is the member's one value.
 ///
-/// Each call that changes something writes exactly its own entry; one that wants memory has changed nothing.
+/// Each call that changes something writes exactly its own entry; one that runs out of memory has changed nothing.
 pub struct Live<L: Lists, const M: u32> {
     number: u32,
     draw: u32,
@@ -124,16 +124,16 @@ impl<L: Lists, const M: u32> Live<L, M> {
     }
 
     /// The member hears a sync Interest.
-    pub fn hear(&mut self, g: &Group, told: &Told<L>) -> Result<LiveReply, AllocError>
+    pub fn hear(&mut self, g: &Group, reported: &Told<L>) -> Result<LiveReply, AllocError>
         requires { g.now ≡ L.meaning.group }
-        ensures { Steps L.meaning M (event.Hear told.now) self.old self.new result }
+        ensures { Steps L.meaning M (event.Hear reported.now) self.old self.new result }
     {
         if self.journal.len() >= M as usize {
             return Ok(LiveReply::Full);
         }
         self.journal.reserve(1)?;
-        let octets = told.copied(*self.journal.allocator())?;
-        let reply = heard(&mut self.member, g, told.octets(), self.draw)?;
+        let octets = reported.copied(*self.journal.allocator())?;
+        let reply = heard(&mut self.member, g, reported.octets(), self.draw)?;
         self.journal.push_reserved(LiveEntry {
             event: LiveEvent::Hear { octets },
             reply,
@@ -213,7 +213,8 @@ impl<L: Lists, const M: u32> Live<L, M> {
     /// The sync Interest that tells what the member knows now.
     pub fn tell(&self, alloc: Global, g: &Group) -> Result<Told<L>, AllocError>
         requires { g.now ≡ L.meaning.group }
-        ensures { IfOk result (λ told. told ≡ sync_of L.meaning.group self.now.state.number self.now.state.known) }
+        ensures { IfOk result (λ reported. reported ≡ sync_of L.meaning.group self.now.state.number
+            self.now.state.known) }
     {
         let octets = self.member.sync(alloc, g)?;
         Ok(Told::new(octets))

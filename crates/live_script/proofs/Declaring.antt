@@ -19,7 +19,7 @@ use Rattle.repo_object.specs.Objects.{NamedContents, IsObject}
 use Rattle.script_lang.specs.declared.check_fault.CheckFault.TheVariants as check_fault
 use Rattle.script_lang.specs.declared.verb.Verb.TheVariants as verb
 use Rattle.script_lang.specs.Kinds.{Text, Number, Named, Octets}
-use Rattle.script_lang.specs.Forms.{Stated, form, said}
+use Rattle.script_lang.specs.Forms.{Stated, form, statement}
 use Rattle.script_lang.specs.Lines.{line_of}
 use Rattle.script_lang.specs.Checking.{Declared, Party, after_line, declared_then, is_mirror, is_party_among}
 use Rattle.script_lang.specs.Checking.{is_there, party_node}
@@ -45,27 +45,29 @@ ranges : (s t : Stated) → IsLine s → s ≡ t → AreOf (form t.verb).kinds t
 ranges s t line is =
     ((line_texts t line.octets).0 (subst (λ (u : Stated). line_of line.octets ≡ Ok (Some u)) is line.read)).ranges
 
-pub group_named : (s : Stated) (name : List Component) → IsLine s → s ≡ said verb.Group (Named name ∷ []) → IsName name
+pub group_named : (s : Stated) (name : List Component) → IsLine s → s ≡ statement verb.Group (Named name ∷ [])
+    → IsName name
     → IsPlainNodeName name
-group_named s name line is valid = node_name name valid (ranges s (said verb.Group (Named name ∷ [])) line is).0
+group_named s name line is valid = node_name name valid (ranges s (statement verb.Group (Named name ∷ [])) line is).0
 
 pub member_named : (s : Stated) (label : List ℕ) (node : List Component) (key : List ℕ) → IsLine s
-    → s ≡ said verb.Member (Text label ∷ Named node ∷ Octets key ∷ []) → IsName node
+    → s ≡ statement verb.Member (Text label ∷ Named node ∷ Octets key ∷ []) → IsName node
     → IsPlainNodeName node × IsKey key
 member_named s label node key line is valid =
-    let of = ranges s (said verb.Member (Text label ∷ Named node ∷ Octets key ∷ [])) line is in
+    let of = ranges s (statement verb.Member (Text label ∷ Named node ∷ Octets key ∷ [])) line is in
     (node_name node valid of.1.0, record { some = of.1.1.0.0; short = of.1.1.0.1 })
 
 pub publication : (s : Stated) (m : List ℕ) (name : List Component) (size : ℕ) (content : List ℕ) → IsLine s
-    → s ≡ said verb.Publish (Text m ∷ Named name ∷ Number size ∷ Octets content ∷ []) → IsPublication name size content
+    → s ≡ statement verb.Publish (Text m ∷ Named name ∷ Number size ∷ Octets content ∷ [])
+    → IsPublication name size content
 publication s m name size content line is =
-    let of = ranges s (said verb.Publish (Text m ∷ Named name ∷ Number size ∷ Octets content ∷ [])) line is in
+    let of = ranges s (statement verb.Publish (Text m ∷ Named name ∷ Number size ∷ Octets content ∷ [])) line is in
     record { named = object_name name of.1.0; some = of.1.1.0.0; few = of.1.1.0.1; octets = of.1.1.1.0.1 }
 
 -- ---- what lines declare
 
 pub group_declares : (d e : Declared) (name : List Component)
-    → after_line d (said verb.Group (Named name ∷ [])) ≡ Ok e → (d.group ≡ false) × (e ≡ record d { group = true })
+    → after_line d (statement verb.Group (Named name ∷ [])) ≡ Ok e → (d.group ≡ false) × (e ≡ record d { group = true })
 group_declares d e name h = go d.group refl h where
   go : (group : Bool) → d.group ≡ group
       → (if group then Err check_fault.Duplicate else Ok (record d { group = true })) ≡ Ok e
@@ -73,14 +75,14 @@ group_declares d e name h = go d.group refl h where
   go true g k = absurd cc
   go false g k = (g, cc)
 
--- A party that may be declared stands behind the group's line, is new, and isn't one too many.
+-- A party that may be declared stands after the group's line, is new, and isn't one too many.
 pub record MayDeclare (d : Declared) (p : Party) (count : ℕ) : Type 0 where
   pub group : d.group ≡ true
   pub apart : is_there d p ≡ false
   pub few : count < 16
 
 pub member_declares : (d e : Declared) (label : List ℕ) (node : List Component) (key : List ℕ)
-    → after_line d (said verb.Member (Text label ∷ Named node ∷ Octets key ∷ [])) ≡ Ok e
+    → after_line d (statement verb.Member (Text label ∷ Named node ∷ Octets key ∷ [])) ≡ Ok e
     → MayDeclare d (party label node) (length d.members)
     × (e ≡ record d { members = d.members ++ party label node ∷ [] })
 member_declares d e label node key h = go d.group d.events (is_there d p) (nat_le 16 count) refl refl refl h where
@@ -147,8 +149,8 @@ group_kept labels None totals r d name same k first is = rw is (record {
 })
 
 pub group_line : (r : Reached) (d : Declared) (name : List Component) (octets : List ℕ)
-    → after_line r.declared (said verb.Group (Named name ∷ [])) ≡ Ok d
-    → judged_line r octets (said verb.Group (Named name ∷ [])) ≡ taken r octets d (named name) r.lists
+    → after_line r.declared (statement verb.Group (Named name ∷ [])) ≡ Ok d
+    → judged_line r octets (statement verb.Group (Named name ∷ [])) ≡ taken r octets d (named name) r.lists
 unfolding judged_line
 group_line r d name octets h = rw h refl
 
@@ -188,8 +190,8 @@ member_kept labels g totals r d label node key same k is = rw is (record {
       omega (arith, sum_by-append f ls ([] ∷ []), one, none)
 
 pub member_line : (r : Reached) (d : Declared) (label : List ℕ) (node : List Component) (key octets : List ℕ)
-    → after_line r.declared (said verb.Member (Text label ∷ Named node ∷ Octets key ∷ [])) ≡ Ok d
-    → judged_line r octets (said verb.Member (Text label ∷ Named node ∷ Octets key ∷ []))
+    → after_line r.declared (statement verb.Member (Text label ∷ Named node ∷ Octets key ∷ [])) ≡ Ok d
+    → judged_line r octets (statement verb.Member (Text label ∷ Named node ∷ Octets key ∷ []))
     ≡ taken r octets d (with_member_too node key r.keys) (r.lists ++ [] ∷ [])
 unfolding judged_line
 member_line r d label node key octets h = rw h refl
@@ -197,7 +199,8 @@ member_line r d label node key octets h = rw h refl
 -- ---- what the lines come to, at what is seen of those before
 
 pub group_taken : (view r : Reached) (s : Stated) (d : Declared) (name : List Component) (g : GroupKeys) → view ≡ r
-    → s ≡ said verb.Group (Named name ∷ []) → after_line view.declared s ≡ Ok d → g ≡ named name → (octets : List ℕ)
+    → s ≡ statement verb.Group (Named name ∷ []) → after_line view.declared s ≡ Ok d → g ≡ named name
+    → (octets : List ℕ)
     → judged_line r octets s ≡ counted octets (record view { declared = d; keys = g })
 group_taken view r s d name g same is h keys octets =
     rw (← same, is, keys) (group_line view d name octets
@@ -205,7 +208,7 @@ group_taken view r s d name g same is h keys octets =
 
 pub member_taken : (view r : Reached) (s : Stated) (d : Declared) (label : List ℕ) (node : List Component)
     (key : List ℕ) (g : GroupKeys) (lists : List (List NamedContents)) → view ≡ r
-    → s ≡ said verb.Member (Text label ∷ Named node ∷ Octets key ∷ []) → after_line view.declared s ≡ Ok d
+    → s ≡ statement verb.Member (Text label ∷ Named node ∷ Octets key ∷ []) → after_line view.declared s ≡ Ok d
     → g ≡ with_member_too node key view.keys → lists ≡ view.lists ++ [] ∷ [] → (octets : List ℕ)
     → judged_line r octets s ≡ counted octets (record view { declared = d; keys = g; lists = lists })
 member_taken view r s d label node key g lists same is h keys one_more octets =
@@ -214,7 +217,7 @@ member_taken view r s d label node key g lists same is h keys one_more octets =
 
 -- A member's line before the group's is refused.
 pub member_ungrouped : (view r : Reached) (s : Stated) (label : List ℕ) (node : List Component) (key : List ℕ)
-    → view ≡ r → s ≡ said verb.Member (Text label ∷ Named node ∷ Octets key ∷ []) → view.declared.group ≡ false
+    → view ≡ r → s ≡ statement verb.Member (Text label ∷ Named node ∷ Octets key ∷ []) → view.declared.group ≡ false
     → (octets : List ℕ) → judged_line r octets s ≡ refused refusal.NoGroup
 unfolding judged_line
 member_ungrouped view r s label node key same is none octets = rw (← same, is, none) refl

@@ -23,7 +23,7 @@ use Rattle.repo_object.specs.Objects.{NamedContents, IsObject}
 use Rattle.script_lang.specs.declared.check_fault.CheckFault.TheVariants as check_fault
 use Rattle.script_lang.specs.declared.verb.Verb.TheVariants as verb
 use Rattle.script_lang.specs.Kinds.{Value, Text, Number, Named, Octets}
-use Rattle.script_lang.specs.Forms.{Stated, said}
+use Rattle.script_lang.specs.Forms.{Stated, statement}
 use Rattle.script_lang.specs.Checking.{Declared, Party, adds, after_line, are_known, are_within_limits, has_label}
 use Rattle.script_lang.specs.Checking.{party_label, party_place, publication_parts, segments, with_totals, party_node}
 use Rattle.script_lang.proofs.Conditions.{and_left}
@@ -72,7 +72,7 @@ count_pieces size content some =
 
 -- ---- what the line declares
 
--- It stands behind the group's line, of a member that is there, and its octets and parts are counted.
+-- It stands after the group's line, of a member that is there, and its octets and parts are counted.
 pub record Declares (d e : Declared) (label : List ℕ) (values : List Value) : Type 0 where
   pub group : d.group ≡ true
   pub known : has_label label d.members ≡ true
@@ -86,10 +86,10 @@ module _ (m : List ℕ) (name : List Component) (size : ℕ) (content : List ℕ
   abbrev values : List Value
   values = Text m ∷ Named name ∷ Number size ∷ Octets content ∷ []
 
-  pub publish_declares : (d e : Declared) → after_line d (said verb.Publish values) ≡ Ok e → Declares d e m values
-  publish_declares d e h = go d.group (are_known d (said verb.Publish values))
+  pub publish_declares : (d e : Declared) → after_line d (statement verb.Publish values) ≡ Ok e → Declares d e m values
+  publish_declares d e h = go d.group (are_known d (statement verb.Publish values))
       (are_within_limits (with_totals d.totals (adds verb.Publish values))) refl refl h where
-        go : (group known within : Bool) → d.group ≡ group → are_known d (said verb.Publish values) ≡ known
+        go : (group known within : Bool) → d.group ≡ group → are_known d (statement verb.Publish values) ≡ known
             → (if not group then Err check_fault.NoGroup
             else if not known then Err check_fault.UnknownLabel
             else if not within then Err check_fault.TooLarge
@@ -101,14 +101,14 @@ module _ (m : List ℕ) (name : List Component) (size : ℕ) (content : List ℕ
         go true true true g a k = record { group = g; known = and_left (has_label m d.members) true a; is = cc }
 
   pub publish_line : (r : Reached) (d : Declared) (octets : List ℕ)
-      → after_line r.declared (said verb.Publish values) ≡ Ok d
-      → judged_line r octets (said verb.Publish values)
+      → after_line r.declared (statement verb.Publish values) ≡ Ok d
+      → judged_line r octets (statement verb.Publish values)
       ≡ published r octets d (with_object (member_number m d.members) (cut_object name size content) r.lists)
   unfolding judged_line
   publish_line r d octets h = rw h refl
 
   pub publish_taken : (view r : Reached) (s : Stated) (d : Declared) (lists : List (List NamedContents)) → view ≡ r
-      → s ≡ said verb.Publish values → after_line view.declared s ≡ Ok d
+      → s ≡ statement verb.Publish values → after_line view.declared s ≡ Ok d
       → lists ≡ with_object (member_number m d.members) (cut_object name size content) view.lists
       → is_few d lists ≡ true → (octets : List ℕ)
       → judged_line r octets s ≡ counted octets (record view { declared = d; lists = lists })
@@ -118,7 +118,7 @@ module _ (m : List ℕ) (name : List Component) (size : ℕ) (content : List ℕ
       subst (λ (ls : List (List NamedContents)). is_few d ls ≡ true) one_more few in
       rw (← same, is, one_more) (line ∙ rw fits refl)
 
-  pub publish_refused : (view r : Reached) (s : Stated) (d : Declared) → view ≡ r → s ≡ said verb.Publish values
+  pub publish_refused : (view r : Reached) (s : Stated) (d : Declared) → view ≡ r → s ≡ statement verb.Publish values
       → after_line view.declared s ≡ Ok d
       → is_few d (with_object (member_number m d.members) (cut_object name size content) view.lists) ≡ false
       → (octets : List ℕ) → judged_line r octets s ≡ refused refusal.TooLarge
@@ -210,7 +210,7 @@ list_longer lists member x old new there was is =
     (ap (λ (l : Vec _ Global). l.items) was ∙ sym (get_or-map (λ (l : Vec _ Global). l.items) lists member old []
     there)))
 
--- An empty list behind several lists.
+-- An empty list after several lists.
 pub one_list_more : {X : Type 0} (lists more : List (Vec X Global)) (l : Vec X Global) → more ≡ lists ++ l ∷ []
     → l.items ≡ []
     → map (λ (l : Vec X Global). l.items) more ≡ map (λ (l : Vec X Global). l.items) lists ++ [] ∷ []

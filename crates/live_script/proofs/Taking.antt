@@ -13,16 +13,16 @@ use Rattle.script_lang.specs.declared.check_fault.CheckFault.{CheckFault}
 use Rattle.script_lang.specs.declared.check_fault.CheckFault.TheVariants as check_fault
 use Rattle.script_lang.specs.Forms.{Stated, stated}
 use Rattle.script_lang.specs.Lines.{line_of}
-use Rattle.script_lang.specs.Reading.{FaultTells}
+use Rattle.script_lang.specs.Reading.{FaultReports}
 use Rattle.script_lang.specs.Checking.{after_line}
 use Rattle.script_lang.proofs.Stops.{stops_so}
 use Rattle.script_report.specs.declared.refusal.Refusal.TheVariants as refusal
 use Rattle.repo_member.specs.declared.group_fault.GroupFault.{GroupFault}
 use Rattle.repo_member.specs.declared.group_fault.GroupFault.TheVariants as group_fault
-use Rattle.live_script.specs.declared.stop.Stop.{Stop}
-use Rattle.live_script.specs.declared.stop.Stop.TheVariants as stop
+use Rattle.live_script.specs.declared.error.LineError.{LineError}
+use Rattle.live_script.specs.declared.error.LineError.TheVariants as error
 use Rattle.live_script.specs.Judging.{Reached, counted, is_within_input, judged, judged_line, may_stand, refused}
-use Rattle.live_script.specs.Stopping.{IsStop, check_stop, group_stop, line_stop}
+use Rattle.live_script.specs.LineErrors.{IsLineError, check_line_error, group_stop, line_fault_error}
 
 -- ---- octets
 
@@ -44,7 +44,7 @@ pub room_kept : (r next : Reached) (octets : List ℕ) → (next.lines ≡ r.lin
 room_kept r next octets same within = rw (same.0, same.1) within
 
 pub judged_fault : (r : Reached) (octets : List ℕ) (fault : LineFault) → is_within_input r octets ≡ true
-    → FaultTells fault (line_of octets) → IsStop (judged r octets) (line_stop fault)
+    → FaultReports fault (line_of octets) → IsLineError (judged r octets) (line_fault_error fault)
 judged_fault r octets line_fault.Syntax within h = rw (within, h) refl
 judged_fault r octets line_fault.Limit within h = rw (within, h) refl
 judged_fault r octets line_fault.NoMemory within h = tt
@@ -62,7 +62,7 @@ not_live r octets (line.Publish label name size content) g m p = absurd (p label
 not_live r octets l g m p = refl
 
 stops_at : (r : Reached) (octets : List ℕ) (s : Stated) (fault : CheckFault) → may_stand s.verb ≡ true
-    → after_line r.declared s ≡ Err fault → IsStop (judged_line r octets s) (check_stop fault)
+    → after_line r.declared s ≡ Err fault → IsLineError (judged_line r octets s) (check_line_error fault)
 unfolding judged_line
 stops_at r octets s check_fault.NoGroup may h = rw (may, h) refl
 stops_at r octets s check_fault.Late may h = rw (may, h) refl
@@ -74,44 +74,45 @@ stops_at r octets s check_fault.NoMemory may h = tt
 
 pub refused_line : (r : Reached) (octets : List ℕ) (s : Stated) (fault : CheckFault) → may_stand s.verb ≡ true
     → (fault ≡ check_fault.NoMemory) ⊎ (after_line r.declared s ≡ Err fault)
-    → IsStop (judged_line r octets s) (check_stop fault)
+    → IsLineError (judged_line r octets s) (check_line_error fault)
 refused_line r octets s fault may (inl out) =
-    subst (λ (f : CheckFault). IsStop (judged_line r octets s) (check_stop f)) (sym out) tt
+    subst (λ (f : CheckFault). IsLineError (judged_line r octets s) (check_line_error f)) (sym out) tt
 refused_line r octets s fault may (inr h) = stops_at r octets s fault may h
 
 -- A line that is checked and refused stops so, at what is seen of the lines before.
-pub stopped_by : {A : Type 0} (view r : Reached) (s : Stated) (fault : CheckFault) (result : Result A Stop) → view ≡ r
+pub stopped_by : {A : Type 0} (view r : Reached) (s : Stated) (fault : CheckFault) (result : Result A LineError) → view
+    ≡ r
     → may_stand s.verb ≡ true → (fault ≡ check_fault.NoMemory) ⊎ (after_line view.declared s ≡ Err fault)
-    → IsErrAnd result (λ stop. stop ≡ check_stop fault)
-    → IfErr result (λ stop. (octets : List ℕ) → IsStop (judged_line r octets s) stop)
+    → IsErrAnd result (λ error. error ≡ check_line_error fault)
+    → IfErr result (λ error. (octets : List ℕ) → IsLineError (judged_line r octets s) error)
 stopped_by view r s fault result same may why is =
-    let P : Stop → Type 0 = λ stop. (octets : List ℕ) → IsStop (judged_line r octets s) stop in
-    stops_so result P (check_stop fault) is (λ octets.
+    let P : LineError → Type 0 = λ error. (octets : List ℕ) → IsLineError (judged_line r octets s) error in
+    stops_so result P (check_line_error fault) is (λ octets.
     rw (← same) (refused_line view octets s fault may why))
 
-pub out_of_memory : {A : Type 0} (r : Reached) (s : Stated) (result : Result A Stop)
-    → IsErrAnd result (λ s. s ≡ stop.NoMemory)
-    → IfErr result (λ stop. (octets : List ℕ) → IsStop (judged_line r octets s) stop)
+pub out_of_memory : {A : Type 0} (r : Reached) (s : Stated) (result : Result A LineError)
+    → IsErrAnd result (λ s. s ≡ error.NoMemory)
+    → IfErr result (λ error. (octets : List ℕ) → IsLineError (judged_line r octets s) error)
 out_of_memory r s result is =
-    let P : Stop → Type 0 = λ stop. (octets : List ℕ) → IsStop (judged_line r octets s) stop in
-    stops_so result P stop.NoMemory is (λ octets. tt)
+    let P : LineError → Type 0 = λ error. (octets : List ℕ) → IsLineError (judged_line r octets s) error in
+    stops_so result P error.NoMemory is (λ octets. tt)
 
--- So where a call stops for want of memory alone.
-pub memory_wanted : {A : Type 0} (r : Reached) (s : Stated) (result : Result A Stop) (why : Stop)
-    → why ≡ stop.NoMemory → IsErrAnd result (λ t. t ≡ why)
-    → IfErr result (λ stop. (octets : List ℕ) → IsStop (judged_line r octets s) stop)
+-- So where a call stops only when memory runs out.
+pub memory_wanted : {A : Type 0} (r : Reached) (s : Stated) (result : Result A LineError) (why : LineError)
+    → why ≡ error.NoMemory → IsErrAnd result (λ t. t ≡ why)
+    → IfErr result (λ error. (octets : List ℕ) → IsLineError (judged_line r octets s) error)
 memory_wanted r s result why memory is =
-    out_of_memory r s result (subst (λ (w : Stop). IsErrAnd result (λ t. t ≡ w)) memory is)
+    out_of_memory r s result (subst (λ (w : LineError). IsErrAnd result (λ t. t ≡ w)) memory is)
 
--- A group that may have the member doesn't take it for want of memory alone.
-pub memory_alone : {A : Type 0} (result : Result A Stop) (fault : GroupFault)
+-- A group that may have the member doesn't take it only when memory runs out.
+pub memory_alone : {A : Type 0} (result : Result A LineError) (fault : GroupFault)
     → (fault ≡ group_fault.Duplicate → ⊥) → (fault ≡ group_fault.Full → ⊥)
-    → IsErrAnd result (λ s. s ≡ group_stop fault) → IfErr result (λ s. s ≡ stop.NoMemory)
+    → IsErrAnd result (λ s. s ≡ group_stop fault) → IfErr result (λ s. s ≡ error.NoMemory)
 memory_alone result group_fault.Duplicate apart room is = absurd (apart refl)
 memory_alone result group_fault.Full apart room is = absurd (room refl)
 memory_alone result group_fault.NoMemory apart room is =
-    stops_so result (λ s. s ≡ stop.NoMemory) stop.NoMemory is refl
+    stops_so result (λ s. s ≡ error.NoMemory) error.NoMemory is refl
 
-pub nothing_taken : {A : Type 0} (result : Result A Stop) (P : A → Type 0) → IsErr result → IfOk result P
+pub nothing_taken : {A : Type 0} (result : Result A LineError) (P : A → Type 0) → IsErr result → IfOk result P
 nothing_taken (Ok x) P failed = absurd cc
 nothing_taken (Err s) P failed = tt

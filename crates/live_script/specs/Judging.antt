@@ -1,4 +1,4 @@
--- What a line of a live group's input comes to, behind those before it.
+-- What a line of a live group's input comes to, after those before it.
 use Rattle.std.specs.Prelude.{◌≡◌, ⊤, ℕ, ◌+◌, Bool, true, false, ◌&&◌, List, [], ◌∷◌, ◌++◌, length, sum_by, slice_set}
 use Rattle.std.specs.Prelude.{slice_index_or, Option, Some, None, Result, Ok, Err, nat_lt, nat_le, if◌then◌else◌}
 use Rattle.std.specs.List.{position_or_len}
@@ -76,7 +76,7 @@ member_number label members = position_or_len (λ (p : Party). bytes_eq p.label 
 abbrev pub cut_object : List Component → ℕ → List ℕ → NamedContents
 cut_object name size content = record { name = name; contents = pieces size content }
 
--- A member is to publish one object more, behind the others of its list.
+-- A member is to publish one object more, after the others of its list.
 abbrev pub with_object : ℕ → NamedContents → List (List NamedContents) → List (List NamedContents)
 with_object m object lists = slice_set lists m (slice_index_or lists m [] ++ object ∷ [])
 

@@ -7,5 +7,5 @@ pub use Rattle.live_member.specs.Meanings
 pub use Rattle.script_report.specs.Refusals
 pub mod Limits
 pub mod Judging
-pub mod Stopping
+pub mod LineErrors
 pub mod Scripts

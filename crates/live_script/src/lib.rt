@@ -3,13 +3,13 @@
 //! What is promised of it: `docs/promises/live_script.md`.
 #![tactic(auto)]
 
+mod error;
 mod laws;
 mod members;
 mod script;
-mod stop;
 mod totals;
 
+pub use error::LineError;
 pub use laws::lines_are_judged;
 pub use members::Members;
 pub use script::Script;
-pub use stop::Stop;

@@ -2,7 +2,7 @@ ghost use Rattle.std.specs.Prelude.{◌≡◌, ◌<◌, ◌+◌, ◌∷◌, ◌+
 ghost use Rattle.std.specs.Prelude.{None, OnOk, Some};
 ghost use Rattle.std.specs.Prelude.{length, map, string_bytes};
 ghost use Rattle.script_lang.specs.declared.verb.Verb.TheVariants as verb;
-ghost use Rattle.script_lang.specs.Forms.{said, stated};
+ghost use Rattle.script_lang.specs.Forms.{statement, stated};
 ghost use Rattle.script_lang.specs.Kinds.{Text, Number, Named, Octets};
 ghost use Rattle.repo_object.specs.Objects.{IsObject};
 ghost use Rattle.repo_member.specs.Groups.{IsKey, IsPlainNodeName, is_name_taken, node_limit};
@@ -10,10 +10,10 @@ ghost use Rattle.live_script.specs.Judging.{counted, cut_object, is_within_input
 ghost use Rattle.live_script.specs.Judging.{nothing_reached, takes};
 ghost use Rattle.live_script.specs.Judging.{with_member_too, with_object};
 ghost use Rattle.live_script.specs.Scripts.{Gives, GivesNobody, IsLine, IsPublication};
-ghost use Rattle.live_script.specs.Stopping.{IsStop};
+ghost use Rattle.live_script.specs.LineErrors.{IsLineError};
 
+use crate::error::LineError;
 use crate::members::Members;
-use crate::stop::Stop;
 use crate::totals::Totals;
 use ndn_name::Name;
 use repo_member::Group;
@@ -89,12 +89,12 @@ impl Script {
     /// Takes the next line, its line feed with it, or tells why not.
     ///
     /// Of an input that is too long the line suffices up to the octet that is one too many.
-    pub fn take(self, line: &[u8]) -> Result<Script, Stop>
+    pub fn take(self, line: &[u8]) -> Result<Script, LineError>
         ensures taken { IfOk result (λ next. judged self line.now ≡ takes next) }
-        ensures stopped { IfErr result (IsStop (judged self line.now)) }
+        ensures stopped { IfErr result (IsLineError (judged self line.now)) }
     {
         if !self.has_room(line) {
-            return Err(Stop::Refused(Refusal::Limit));
+            return Err(LineError::Refused(Refusal::Limit));
         }
         match read_line(self.alloc, line)? {
             Some(stated) => Ok(self.take_stated(&stated)?.counted(line)),
@@ -120,13 +120,13 @@ impl Script {
     }
 
     // Takes what a line states, and doesn't count the line. Whether it may stand in the input is asked first.
-    fn take_stated(self, line: &Line) -> Result<Script, Stop>
+    fn take_stated(self, line: &Line) -> Result<Script, LineError>
         requires { IsLine (stated line.now) }
         ensures taken { IfOk result (λ next. (octets : List ℕ)
             → judged_line self octets (stated line.now) ≡ counted octets next) }
         ensures same { IfOk result (λ next. (next.lines ≡ self.lines) × (next.octets ≡ self.octets)) }
-        ensures stopped { IfErr result (λ stop. (octets : List ℕ)
-            → IsStop (judged_line self octets (stated line.now)) stop) }
+        ensures stopped { IfErr result (λ error. (octets : List ℕ)
+            → IsLineError (judged_line self octets (stated line.now)) error) }
     {
         match line {
             Line::Group { name } => self.declare_group(line, name),
@@ -137,19 +137,19 @@ impl Script {
                 size,
                 content,
             } => self.publish(line, m, name, *size as usize, content),
-            _ => Err(Stop::Refused(Refusal::NotLive)),
+            _ => Err(LineError::Refused(Refusal::NotLive)),
         }
     }
 
     // The group has this name, and nobody is in it yet.
-    fn declare_group(mut self, line: &Line, name: &Name) -> Result<Script, Stop>
+    fn declare_group(mut self, line: &Line, name: &Name) -> Result<Script, LineError>
         requires line { IsLine (stated line.now) }
-        requires is { stated line.now ≡ said verb.Group (Named name.now ∷ []) }
+        requires is { stated line.now ≡ statement verb.Group (Named name.now ∷ []) }
         ensures taken { IfOk result (λ next. (octets : List ℕ)
             → judged_line self octets (stated line.now) ≡ counted octets next) }
         ensures same { IfOk result (λ next. (next.lines ≡ self.lines) × (next.octets ≡ self.octets)) }
-        ensures stopped { IfErr result (λ stop. (octets : List ℕ)
-            → IsStop (judged_line self octets (stated line.now)) stop) }
+        ensures stopped { IfErr result (λ error. (octets : List ℕ)
+            → IsLineError (judged_line self octets (stated line.now)) error) }
     {
         self.draft.words.check(line)?;
         name.is_sound();
@@ -164,17 +164,17 @@ impl Script {
         label: &str,
         node: &Name,
         key: &[u8],
-    ) -> Result<Script, Stop>
+    ) -> Result<Script, LineError>
         requires line { IsLine (stated line.now) }
-        requires is { stated line.now ≡ said verb.Member (Text label.now ∷ Named node.now ∷ Octets key.now ∷ []) }
+        requires is { stated line.now ≡ statement verb.Member (Text label.now ∷ Named node.now ∷ Octets key.now ∷ []) }
         ensures taken { IfOk result (λ next. (octets : List ℕ)
             → judged_line self octets (stated line.now) ≡ counted octets next) }
         ensures same { IfOk result (λ next. (next.lines ≡ self.lines) × (next.octets ≡ self.octets)) }
-        ensures stopped { IfErr result (λ stop. (octets : List ℕ)
-            → IsStop (judged_line self octets (stated line.now)) stop) }
+        ensures stopped { IfErr result (λ error. (octets : List ℕ)
+            → IsLineError (judged_line self octets (stated line.now)) error) }
     {
         let Some(group) = &mut self.draft.group else {
-            return Err(Stop::Refused(Refusal::NoGroup));
+            return Err(LineError::Refused(Refusal::NoGroup));
         };
         self.draft.words.check(line)?;
         node.is_sound();
@@ -196,20 +196,20 @@ impl Script {
         name: &Name,
         size: usize,
         content: &[u8],
-    ) -> Result<Script, Stop>
+    ) -> Result<Script, LineError>
         requires line { IsLine (stated line.now) }
-        requires is { stated line.now ≡ said verb.Publish
+        requires is { stated line.now ≡ statement verb.Publish
             (Text m.now ∷ Named name.now ∷ Number size ∷ Octets content.now ∷ []) }
         ensures taken { IfOk result (λ next. (octets : List ℕ)
             → judged_line self octets (stated line.now) ≡ counted octets next) }
         ensures same { IfOk result (λ next. (next.lines ≡ self.lines) × (next.octets ≡ self.octets)) }
-        ensures stopped { IfErr result (λ stop. (octets : List ℕ)
-            → IsStop (judged_line self octets (stated line.now)) stop) }
+        ensures stopped { IfErr result (λ error. (octets : List ℕ)
+            → IsLineError (judged_line self octets (stated line.now)) error) }
     {
         self.draft.words.check(line)?;
         let object = object_of(self.alloc, name, size, content)?;
         let Some(totals) = self.totals.with(content.len(), object.contents().len()) else {
-            return Err(Stop::Refused(Refusal::TooLarge));
+            return Err(LineError::Refused(Refusal::TooLarge));
         };
         let Some(member) = self.draft.words.member(m) else {
             unreachable!()
@@ -290,7 +290,7 @@ fn object_of(alloc: Global, name: &Name, size: usize, content: &[u8]) -> Result<
     Ok(Object::from_parts(name.clone()?, contents))
 }
 
-// The object stands behind the others of the member's list.
+// The object stands after the others of the member's list.
 fn add_object(lists: &mut Vec<Vec<Object>>, member: usize, object: Object) -> Result<(), AllocError>
     requires { member < length lists.old.items }
     ensures { OnOk result (map (λ l. l.items) lists.new.items
@@ -318,13 +318,13 @@ fn add_list(
 }
 
 // There is a member more, of a name that nobody has, in a group that isn't full.
-fn add_member(group: &mut Group, node: &Name, key: &[u8]) -> Result<(), Stop>
+fn add_member(group: &mut Group, node: &Name, key: &[u8]) -> Result<(), LineError>
     requires node { IsPlainNodeName node.now }
     requires key { IsKey key.now }
     requires apart { is_name_taken group.old node.now ≡ false }
     requires few { length group.old.members.names < node_limit }
     ensures ok { OnOk result (group.new ≡ with_member_too node.now key.now group.old) }
-    ensures err { IfErr result (λ stop. stop ≡ Stop.NoMemory) }
+    ensures err { IfErr result (λ error. error ≡ LineError.NoMemory) }
 {
     group.add_member(node, key)?;
     Ok(())

@@ -4,12 +4,12 @@ use Rattle.std.proofs.Common.{append_assoc}
 use Rattle.std.specs.List.{All}
 use Rattle.std.proofs.lemmas.List.{map-append}
 use Rattle.std.proofs.lemmas.List.Elements.{All-tail, All-push}
-use Rattle.repo_member.specs.Alone.{Alone}
+use Rattle.repo_member.specs.MemberState.{MemberState}
 use Rattle.live_member.specs.declared.event.LiveEntry.{LiveEntry}
 use Rattle.live_member.specs.Meanings.{Meaning}
 use Rattle.live_member.specs.Lives.{Living}
 use Rattle.live_settle.specs.declared.ran.Ran.{Ran}
-use Rattle.live_settle.specs.Ready.{at, Continues, KeepFronts, IsJoined}
+use Rattle.live_settle.specs.Ready.{at, Continues, KeepPrefixes, IsJoined}
 use Rattle.live_settle.specs.Rans.{numbers_below, IsRan, AreContinued}
 
 -- so many are taken out, and the others are still to be
@@ -35,7 +35,8 @@ module _ (t : Meaning) (lives : List Living) (rans : List Ran) (rest later : Lis
   pub one_ended : IsEnding t lives (rans ++ r ∷ []) later
   one_ended = record {
     joined = All-tail (IsJoined t) l later (subst (All (IsJoined t)) first is.joined);
-    numbers = one_moves (λ r. r.member.number) (λ l. l.state.number) _ (ap (λ (a : Alone). a.number) member) is.numbers;
+    numbers = one_moves (λ r. r.member.number) (λ l. l.state.number) _ (ap (λ (a : MemberState). a.number) member)
+        is.numbers;
     journals = one_moves (λ r. r.journal.items) (λ l. l.journal) _ journal is.journals;
     members = one_moves (λ r. r.member) (λ l. l.state) _ member is.members;
     each = All-push (IsRan t) rans r is.each ran;
@@ -48,11 +49,11 @@ journal_at [] p = refl
 journal_at (l ∷ ls) zero = refl
 journal_at (l ∷ ls) (suc p) = journal_at ls p
 
-pub fronts_come_out : (old new taken : List Living) (rans : List Ran) → KeepFronts old new → taken ≡ new
+pub prefixes_come_out : (old new taken : List Living) (rans : List Ran) → KeepPrefixes old new → taken ≡ new
     → map (λ r. r.journal.items) rans ≡ map (λ l. l.journal) taken → AreContinued old rans
-fronts_come_out old new taken rans fronts same journals p =
+prefixes_come_out old new taken rans prefixes same journals p =
     let its : get_or (map (λ (r : Ran). r.journal.items) rans) p [] ≡ (at new p).journal =
     ap (λ (js : List (List LiveEntry)). get_or js p []) journals
     ∙ journal_at taken p
     ∙ ap (λ (ls : List Living). (at ls p).journal) same in
-    subst (Continues (at old p).journal) (sym its) (fronts p)
+    subst (Continues (at old p).journal) (sym its) (prefixes p)

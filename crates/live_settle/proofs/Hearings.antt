@@ -16,17 +16,17 @@ use Rattle.live_member.specs.Lives.{Living}
 use Rattle.live_member.specs.LockedCalls.{entry, IsEntered, StepsBy}
 use Rattle.live_settle.specs.Ready.{at, Only}
 use Rattle.live_settle.specs.Rans.{numbers_below}
-use Rattle.live_settle.specs.Hearings.{hearing, HearsTelling, hearings, HearsFirst}
+use Rattle.live_settle.specs.Hearings.{hearing, HearsReport, hearings, HearsFirst}
 use Rattle.live_settle.proofs.Places.{at_set, at_found}
 
-pub hears_telling : (t : Meaning) (ls : List Living) (j p : ℕ) (d e new : Living) (octets : List ℕ) (r : LiveReply)
+pub hears_report : (t : Meaning) (ls : List Living) (j p : ℕ) (d e new : Living) (octets : List ℕ) (r : LiveReply)
     → j < length ls → p < length ls → length (at ls j).journal < 1000000
     → octets ≡ sync_of t.group (get_or ls p e).state.number (get_or ls p e).state.known
     → StepsBy t 1000000 (event.Hear octets) (get_or ls j d) new r
-    → HearsTelling t (at ls p) (at ls j) (at (set ls j new) j)
-hears_telling t ls j p d e new octets r there other room told steps =
+    → HearsReport t (at ls p) (at ls j) (at (set ls j new) j)
+hears_report t ls j p d e new octets r there other room reported steps =
     let its : octets ≡ sync_of t.group (at ls p).state.number (at ls p).state.known =
-    told ∙ ap (λ (m : Living). sync_of t.group m.state.number m.state.known) (at_found ls p e other) in
+    reported ∙ ap (λ (m : Living). sync_of t.group m.state.number m.state.known) (at_found ls p e other) in
     let here : StepsBy t 1000000 (event.Hear octets) (at ls j) new r =
     subst (λ (m : Living). StepsBy t 1000000 (event.Hear octets) m new r) (at_found ls j d there) steps in
     let entered : IsEntered t (hearing t (at ls p)) (at ls j) new r =
@@ -40,22 +40,22 @@ hears_telling t ls j p d e new octets r there other room told steps =
 -- ---- one more is heard
 
 module _ (t : Meaning) (j n : ℕ) (ls : List Living) where
-  told : ℕ → LiveEvent
-  told p = hearing t (at ls p)
+  reported : ℕ → LiveEvent
+  reported p = hearing t (at ls p)
 
   other : ℕ → Bool
   other p = not (p == j)
 
   one_more_hearing : (b : Bool) → n == j ≡ b
       → hearings t j (n + 1) ls ≡ hearings t j n ls ++ cond b [] (hearing t (at ls n) ∷ [])
-  unfolding told other
+  unfolding reported other
   one_more_hearing b e =
       ap (λ (k : ℕ). hearings t j k ls) (add-one n)
-      ∙ ap (map told) (filter-append other (numbers_below n) (n ∷ []))
-      ∙ map-append told (filter other (numbers_below n)) (filter other (n ∷ []))
-      ∙ ap (λ (b : Bool). hearings t j n ls ++ map told (cond (not b) (n ∷ []) [])) e
+      ∙ ap (map reported) (filter-append other (numbers_below n) (n ∷ []))
+      ∙ map-append reported (filter other (numbers_below n)) (filter other (n ∷ []))
+      ∙ ap (λ (b : Bool). hearings t j n ls ++ map reported (cond (not b) (n ∷ []) [])) e
       ∙ last b where
-        last : (b : Bool) → hearings t j n ls ++ map told (cond (not b) (n ∷ []) [])
+        last : (b : Bool) → hearings t j n ls ++ map reported (cond (not b) (n ∷ []) [])
             ≡ hearings t j n ls ++ cond b [] (hearing t (at ls n) ∷ [])
         last true = refl
         last false = refl
@@ -68,7 +68,7 @@ module _ (t : Meaning) (j n : ℕ) (old mid new : List Living) (before : HearsFi
     events = before.events ∙ sym (one_more_hearing t j n old true (eq-eqb n j is) ∙ append-nil (hearings t j n old));
   }
 
-  first_other : n ≢ j → HearsTelling t (at old n) (at mid j) (at new j) → HearsFirst t j (n + 1) old new
+  first_other : n ≢ j → HearsReport t (at old n) (at mid j) (at new j) → HearsFirst t j (n + 1) old new
   first_other differs heard =
       let one : List LiveEntry = entry (hearing t (at old n)) heard.reply ∷ [] in
       record {
@@ -82,9 +82,9 @@ module _ (t : Meaning) (j n : ℕ) (old mid new : List Living) (before : HearsFi
       }
 
   pub one_more_heard : Only j old mid → (n ≡ j → new ≡ mid)
-      → (n ≢ j → HearsTelling t (at mid n) (at mid j) (at new j)) → HearsFirst t j (n + 1) old new
+      → (n ≢ j → HearsReport t (at mid n) (at mid j) (at new j)) → HearsFirst t j (n + 1) old new
   one_more_heard only itself heard = elim (cases_eq n j) [
     | inl e ↦ first_itself e (itself e)
     | inr d ↦
-        first_other d (subst (λ (m : Living). HearsTelling t m (at mid j) (at new j)) (only.others n d) (heard d))
+        first_other d (subst (λ (m : Living). HearsReport t m (at mid j) (at new j)) (only.others n d) (heard d))
   ]

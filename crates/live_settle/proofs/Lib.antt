@@ -1,4 +1,4 @@
-mod Fronts
+mod Prefixes
 pub mod Places
 mod Missing
 mod States

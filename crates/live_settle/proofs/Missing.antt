@@ -70,12 +70,12 @@ one_less ls held t i lacks =
       now : contains part_cmp (insert_key part_cmp t held) t ≡ true
       now = more t ∙ ap (λ (b : Bool). b || contains part_cmp held t) (eq_itself exact_parts t)
 
-all_true : (xs : List Part) → filter (λ t. true) xs ≡ xs
-all_true [] = refl
-all_true (x ∷ xs) = ap (λ (ys : List Part). x ∷ ys) (all_true xs)
+all_consistent : (xs : List Part) → filter (λ t. true) xs ≡ xs
+all_consistent [] = refl
+all_consistent (x ∷ xs) = ap (λ (ys : List Part). x ∷ ys) (all_consistent xs)
 
 -- no more are missing than there are
 pub missing_few : (ls : Logs) (held : List Part) → length (missing ls held) ≤ length (all_parts ls)
 missing_few ls held =
-    subst (λ (ts : List Part). length (missing ls held) ≤ length ts) (all_true (all_parts ls))
+    subst (λ (ts : List Part). length (missing ls held) ≤ length ts) (all_consistent (all_parts ls))
     (filter_most (λ t. true) (λ t. not (contains part_cmp held t)) (λ y h. refl) (all_parts ls))

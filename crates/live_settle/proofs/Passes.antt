@@ -9,23 +9,23 @@ use Rattle.repo_plan.specs.declared.part.Part.{Part}
 use Rattle.sorted_lists.specs.SortedList.{keys}
 use Rattle.repo_plan.specs.Plan.{unclaimed, first}
 use Rattle.group_model.specs.Publications.{last_of}
-use Rattle.repo_member.specs.Alone.{alone_plan, logged}
-use Rattle.repo_member.specs.InGroup.{true_packet}
+use Rattle.repo_member.specs.MemberState.{member_plan, logged}
+use Rattle.repo_member.specs.InGroup.{published_packet}
 use Rattle.repo_member.specs.Verdicts.{sync_of}
 use Rattle.live_member.specs.declared.event.LiveEvent.TheVariants as event
 use Rattle.live_member.specs.declared.event.LiveReply.{LiveReply}
 use Rattle.live_member.specs.declared.event.LiveReply.TheVariants as reply
 use Rattle.live_member.specs.Meanings.{Meaning, whole_logs}
-use Rattle.live_member.specs.Tellings.{Loan}
+use Rattle.live_member.specs.Reports.{Loan}
 use Rattle.live_member.specs.Lives.{Living}
 use Rattle.live_member.specs.LockedCalls.{StepsBy}
 use Rattle.live_member.proofs.PublicLaws.{width_whole}
 use Rattle.live_settle.specs.Ready.{at, IsReady, AreReady, KnowsThose, Hears, IsGathering, Turned}
 use Rattle.live_settle.specs.Ready.{Joins, EntersTurn, IsJoined, missing_of}
-use Rattle.live_settle.proofs.Fronts.{continues_with}
+use Rattle.live_settle.proofs.Prefixes.{continues_with}
 use Rattle.live_settle.proofs.Missing.{missing_few}
 use Rattle.live_settle.proofs.Places.{no_living, at_set, at_found, only_set, only_again, only_itself, only_then}
-use Rattle.live_settle.proofs.States.{HasHeard, has_heard, whole_truly}
+use Rattle.live_settle.proofs.States.{HasHeard, has_heard, whole_consistently}
 use Rattle.live_settle.proofs.Turning.{next_part, nothing_left, enters_none, entered, publisher_there, publisher_other}
 use Rattle.live_settle.proofs.Turning.{lends, HasTurned, has_turned}
 
@@ -36,17 +36,17 @@ pub heard_at : (t : Meaning) (ls : List Living) (j p : ℕ) (d e new : Living) (
     → KnowsThose (whole_logs t) p (at ls j).state.known
     → octets ≡ sync_of t.group (get_or ls p e).state.number (get_or ls p e).state.known
     → StepsBy t 1000000 (event.Hear octets) (get_or ls j d) new r → Hears t j (p + 1) 1 ls (set ls j new)
-heard_at t ls j p d e new octets r ready there other room knows told steps =
+heard_at t ls j p d e new octets r ready there other room knows reported steps =
     let mine = at_found ls j d there in
     let theirs = at_found ls p e other in
     let h : HasHeard t (p + 1) (at ls j) new =
     has_heard t (at ls j) (at ls p) new p octets r (ready.each j there) (ready.each p other)
     (ready.placed.numbers p other) knows room
-    (told ∙ ap (λ (m : Living). sync_of t.group m.state.number m.state.known) theirs)
+    (reported ∙ ap (λ (m : Living). sync_of t.group m.state.number m.state.known) theirs)
     (subst (λ (m : Living). StepsBy t 1000000 (event.Hear octets) m new r) mine steps) in
     let here = at_set ls j new there in
     record {
-      only = only_set ls j new there h.number h.front;
+      only = only_set ls j new there h.number h.prefix;
       ready = subst (IsReady t) (sym here) h.ready;
       knows = subst (λ (m : Living). KnowsThose (whole_logs t) (p + 1) m.state.known) (sym here) h.knows;
       few =
@@ -62,7 +62,7 @@ heard_itself t ls j p ready there same knows =
     let known : List ℕ = (at ls j).state.known in
     let own : slice_index known p ≡ last_of (whole_logs t) p =
     subst (λ (k : ℕ). slice_index known k ≡ last_of (whole_logs t) k) (ready.placed.numbers j there ∙ sym same)
-    (whole_truly t 1000000 (at ls j) is.live is.coming).sound.own in
+    (whole_consistently t 1000000 (at ls j) is.live is.coming).sound.own in
     record {
       only = only_itself ls j;
       ready = is;
@@ -118,7 +118,7 @@ module _ (t : Meaning) (ls : List Living) (j : ℕ) (d mid : Living) (r : LiveRe
       )
 
   module _ (part : Part) (its : r ≡ reply.Claimed part) where
-    next : first (unclaimed (alone_plan (at ls j).state)) ≡ Some part
+    next : first (unclaimed (member_plan (at ls j).state)) ≡ Some part
     next = next_part t (at ls j) mid r is less here part its
 
     pub publisher_in : part.publisher < length ls
@@ -134,21 +134,23 @@ module _ (t : Meaning) (ls : List Living) (j : ℕ) (d mid : Living) (r : LiveRe
         get_or-set_other ls j part.publisher mid e other ∙ get_or_default ls part.publisher e no_living publisher_in
 
     pub lent : IsSomeAnd (logged t.group (at ls part.publisher).state part)
-        (λ octets. true_packet t.group (whole_logs t) part ≡ Some octets)
+        (λ octets. published_packet t.group (whole_logs t) part ≡ Some octets)
     lent =
         lends t (at ls j) is part next (at ls part.publisher) (ready.each part.publisher publisher_in)
         (sym (ready.placed.numbers part.publisher publisher_in))
 
     pub never_none : (e : Living) → logged t.group (get_or (set ls j mid) part.publisher e).state part ≡ None → ⊥
     never_none e h =
-        subst (λ (o : Option (List ℕ)). IsSomeAnd o (λ octets. true_packet t.group (whole_logs t) part ≡ Some octets))
+        subst (λ (o : Option (List ℕ)). IsSomeAnd o (λ octets. published_packet t.group (whole_logs t) part
+        ≡ Some octets))
         (sym (ap (λ (m : Living). logged t.group m.state part) (publisher_found e)) ∙ h) lent
 
     pub packet_so : (e : Living) (octets : List ℕ)
         → logged t.group (get_or (set ls j mid) part.publisher e).state part ≡ Some octets
-        → true_packet t.group (whole_logs t) part ≡ Some octets
+        → published_packet t.group (whole_logs t) part ≡ Some octets
     packet_so e octets h =
-        subst (λ (o : Option (List ℕ)). IsSomeAnd o (λ octets. true_packet t.group (whole_logs t) part ≡ Some octets))
+        subst (λ (o : Option (List ℕ)). IsSomeAnd o (λ octets. published_packet t.group (whole_logs t) part
+        ≡ Some octets))
         (sym (ap (λ (m : Living). logged t.group m.state part) (publisher_found e)) ∙ h) lent
 
     pub turned_at : (e f new : Living) (s : LiveReply) (loan : Loan) → loan.part ≡ part

@@ -6,15 +6,15 @@ use Rattle.std.proofs.Math.Seq.{get_or-append_seam, take-append_seam}
 use Rattle.std.proofs.lemmas.Bool.{cases_eq}
 use Rattle.std.proofs.lemmas.List.{length-set, length-map, length-append, get_or-map, get_or-set_same, get_or-set_other}
 use Rattle.std.proofs.lemmas.List.{get_or_default}
-use Rattle.repo_member.specs.Alone.{alone_opening}
+use Rattle.repo_member.specs.MemberState.{member_opening}
 use Rattle.live_member.specs.Meanings.{Meaning}
 use Rattle.live_member.specs.Lives.{Living, living}
-use Rattle.live_settle.specs.Ready.{at, ArePlaced, Continues, KeepFronts, Only, IsReady, AreReady}
+use Rattle.live_settle.specs.Ready.{at, ArePlaced, Continues, KeepPrefixes, Only, IsReady, AreReady}
 use Rattle.live_settle.specs.Rans.{numbers_below}
-use Rattle.live_settle.proofs.Fronts.{continues_itself, continues_on}
+use Rattle.live_settle.proofs.Prefixes.{continues_itself, continues_on}
 
 abbrev pub no_living : Living
-no_living = living (alone_opening 0 0 0 0) [] []
+no_living = living (member_opening 0 0 0 0) [] []
 
 -- ---- one place
 
@@ -26,24 +26,24 @@ at_found ls j d less = get_or_default ls j d no_living less
 
 pub only_set : (ls : List Living) (j : ℕ) (l : Living) → j < length ls → l.state.number ≡ (at ls j).state.number
     → Continues (at ls j).journal l.journal → Only j ls (set ls j l)
-only_set ls j l less same front = record {
+only_set ls j l less same prefix = record {
   width = length-set ls j l;
   others = λ p d. get_or-set_other ls j p l no_living d;
   number = ap (λ (m : Living). m.state.number) (at_set ls j l less) ∙ same;
-  front = subst (λ (m : Living). Continues (at ls j).journal m.journal) (sym (at_set ls j l less)) front;
+  prefix = subst (λ (m : Living). Continues (at ls j).journal m.journal) (sym (at_set ls j l less)) prefix;
 }
 
 pub only_again : (ls : List Living) (j : ℕ) (l m : Living) → j < length ls
     → m.state.number ≡ (at ls j).state.number → Continues (at ls j).journal m.journal
     → Only j ls (set (set ls j l) j m)
-only_again ls j l m less same front =
+only_again ls j l m less same prefix =
     let there : at (set (set ls j l) j m) j ≡ m =
     at_set (set ls j l) j m (omega (arith, less, length-set ls j l)) in
     record {
       width = length-set (set ls j l) j m ∙ length-set ls j l;
       others = λ p d. get_or-set_other (set ls j l) j p m no_living d ∙ get_or-set_other ls j p l no_living d;
       number = ap (λ (n : Living). n.state.number) there ∙ same;
-      front = subst (λ (n : Living). Continues (at ls j).journal n.journal) (sym there) front;
+      prefix = subst (λ (n : Living). Continues (at ls j).journal n.journal) (sym there) prefix;
     }
 
 pub only_itself : (ls : List Living) (j : ℕ) → Only j ls ls
@@ -51,7 +51,7 @@ only_itself ls j = record {
   width = refl;
   others = λ p d. refl;
   number = refl;
-  front = continues_itself (at ls j).journal;
+  prefix = continues_itself (at ls j).journal;
 }
 
 pub only_then : (j : ℕ) (old mid new : List Living) → Only j old mid → Only j mid new → Only j old new
@@ -59,7 +59,7 @@ only_then j old mid new first next = record {
   width = next.width ∙ first.width;
   others = λ p d. next.others p d ∙ first.others p d;
   number = next.number ∙ first.number;
-  front = continues_on (at old j).journal (at mid j).journal (at new j).journal first.front next.front;
+  prefix = continues_on (at old j).journal (at mid j).journal (at new j).journal first.prefix next.prefix;
 }
 
 -- ---- all places
@@ -81,19 +81,19 @@ module _ (j : ℕ) (old new : List Living) (only : Only j old new) where
     | inr d ↦ subst P (sym (only.others p d)) (each p (omega (arith, less, only.width)))
   ]
 
-  -- what held of those behind holds of them
+  -- what held of those after holds of them
   pub rest_stays : (P : Living → Type 0) → ((p : ℕ) → j ≤ p → p < length old → P (at old p)) → (p : ℕ) → j + 1 ≤ p
       → p < length new → P (at new p)
   rest_stays P rest p f l =
       let other : p ≢ j = λ e. absurd (omega (arith, e, f)) in
       subst P (sym (only.others p other)) (rest p (omega (arith, f)) (omega (arith, l, only.width)))
 
-  pub fronts_still : (first : List Living) → KeepFronts first old → KeepFronts first new
-  fronts_still first fronts p = elim (cases_eq p j) [
+  pub prefixes_still : (first : List Living) → KeepPrefixes first old → KeepPrefixes first new
+  prefixes_still first prefixes p = elim (cases_eq p j) [
     | inl e ↦
         subst (λ (q : ℕ). Continues (at first q).journal (at new q).journal) (sym e)
-        (continues_on (at first j).journal (at old j).journal (at new j).journal (fronts j) only.front)
-    | inr d ↦ subst (λ (m : Living). Continues (at first p).journal m.journal) (sym (only.others p d)) (fronts p)
+        (continues_on (at first j).journal (at old j).journal (at new j).journal (prefixes j) only.prefix)
+    | inr d ↦ subst (λ (m : Living). Continues (at first p).journal m.journal) (sym (only.others p d)) (prefixes p)
   ]
 
   pub placed_still : (t : Meaning) → j < length old → ArePlaced t old → ArePlaced t new
@@ -167,12 +167,12 @@ numbers_from_places t ls placed =
     ∙ placed.numbers p less
     ∙ sym (at_below (length t.lists) p (omega (arith, less, placed.width))))
 
-pub in_front : (n : ℕ) (ls rest : List Living) → n ≡ length ls → take n (ls ++ rest) ≡ ls
-in_front n ls rest whole = ap (λ (k : ℕ). take k (ls ++ rest)) whole ∙ take-append_seam ls rest
+pub in_prefix : (n : ℕ) (ls rest : List Living) → n ≡ length ls → take n (ls ++ rest) ≡ ls
+in_prefix n ls rest whole = ap (λ (k : ℕ). take k (ls ++ rest)) whole ∙ take-append_seam ls rest
 
--- the same of members at the front of a list
-pub numbers_in_front : (t : Meaning) (n : ℕ) (ls rest : List Living) → ArePlaced t ls → n ≡ length ls
+-- the same of members at the start of a list
+pub numbers_in_prefix : (t : Meaning) (n : ℕ) (ls rest : List Living) → ArePlaced t ls → n ≡ length ls
     → map (λ (l : Living). l.state.number) (take n (ls ++ rest)) ≡ numbers_below (length t.lists)
-numbers_in_front t n ls rest placed whole =
-    ap (λ (xs : List Living). map (λ (l : Living). l.state.number) xs) (in_front n ls rest whole)
+numbers_in_prefix t n ls rest placed whole =
+    ap (λ (xs : List Living). map (λ (l : Living). l.state.number) xs) (in_prefix n ls rest whole)
     ∙ numbers_from_places t ls placed

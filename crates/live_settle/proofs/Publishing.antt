@@ -11,7 +11,7 @@ use Rattle.live_member.specs.Meanings.{Meaning, as_posts, objects_of}
 use Rattle.live_member.specs.Lives.{Living, IsLive}
 use Rattle.live_member.specs.LockedCalls.{IsNext}
 use Rattle.live_settle.specs.Ready.{Continues, IsReady}
-use Rattle.live_settle.proofs.Fronts.{continues_itself, continues_with, continues_on}
+use Rattle.live_settle.proofs.Prefixes.{continues_itself, continues_with, continues_on}
 
 one_in_sum : {X : Type 0} (xs : List (List X)) (j : ℕ) → length (get_or xs j []) ≤ sum_by length xs
 one_in_sum [] j = omega arith
@@ -43,7 +43,7 @@ pub record IsPublishing (t : Meaning) (n : ℕ) (old l : Living) : Type 0 where
   pub coming : length l.coming + n ≤ 200
   pub number : l.state.number ≡ old.state.number
   pub few : length l.journal ≤ 900000 + n
-  pub front : Continues old.journal l.journal
+  pub prefix : Continues old.journal l.journal
 
 -- of 200 those are left that are still to come
 abbrev pub IsPublishingRest : Meaning → Living → Living → Type 0
@@ -56,13 +56,13 @@ nothing_yet t l live room = record {
   coming = let few = few_come t 1000000 l live in omega (arith, few);
   number = refl;
   few = omega (arith, room);
-  front = continues_itself l.journal;
+  prefix = continues_itself l.journal;
 }
 
 pub one_published : (t : Meaning) (old l new : Living) (octets : List ℕ) → IsPublishingRest t old l
     → IsNext t 1000000 l new octets → IsPublishingRest t old new
 one_published t old l new octets is next =
-    let front : Continues l.journal new.journal =
+    let prefix : Continues l.journal new.journal =
     continues_with l.journal _ new.journal next.entered.entered refl in
     let one = ap length next.first in
     let long = ap length next.entered.entered ∙ length-append l.journal _ in
@@ -71,7 +71,7 @@ one_published t old l new octets is next =
       coming = omega (arith, one, is.coming);
       number = next.entered.number ∙ is.number;
       few = omega (arith, one, long, is.few, is.coming);
-      front = continues_on old.journal l.journal new.journal is.front front;
+      prefix = continues_on old.journal l.journal new.journal is.prefix prefix;
     }
 
 -- ---- claims
@@ -82,7 +82,7 @@ pub record IsLosing (t : Meaning) (n : ℕ) (old l : Living) : Type 0 where
   pub coming : l.coming ≡ []
   pub number : l.state.number ≡ old.state.number
   pub few : length l.journal ≤ 900200 + n
-  pub front : Continues old.journal l.journal
+  pub prefix : Continues old.journal l.journal
   pub none : (k : ℕ) → k < n → get_or l.state.claims k None ≡ None
 
 no_claims_left : (n : ℕ) (cs : List (Option Part)) → length cs ≡ n → ((k : ℕ) → k < n → get_or cs k None ≡ None)
@@ -99,5 +99,5 @@ pub all_lost : (t : Meaning) (old l : Living) → IsLosing t 16 old l → IsRead
 all_lost t old l is = record {
   live = is.live;
   coming = is.coming;
-  claims = no_claims_left 16 l.state.claims is.live.truly.sound.fetchers is.none;
+  claims = no_claims_left 16 l.state.claims is.live.consistent.sound.fetchers is.none;
 }

@@ -25,18 +25,18 @@ use Rattle.std.proofs.Math.Bool.{and-true}
 use Rattle.group_model.proofs.Lists.{in_first}
 use Rattle.group_model.proofs.Plans.{IsWanted, wanted_parts}
 use Rattle.group_model.proofs.PublicLaws.{parts_are_those, joins_by_itself}
-use Rattle.repo_member.specs.Alone.{Alone, alone_plan, alone_claims, alone_accepts, logged}
-use Rattle.repo_member.specs.InGroup.{AreLogs, StoresInOrder, in_group, true_packet}
-use Rattle.repo_member.specs.TrueMembers.{IsTrueMember}
-use Rattle.repo_member.proofs.PublicLaws.{plans_alike, lists_alike, true_stores, accepts_alike, wants_published}
+use Rattle.repo_member.specs.MemberState.{MemberState, member_plan, member_claims, member_accepts, logged}
+use Rattle.repo_member.specs.InGroup.{AreLogs, StoresInOrder, in_group, published_packet}
+use Rattle.repo_member.specs.ConsistentMembers.{IsConsistentMember}
+use Rattle.repo_member.proofs.PublicLaws.{plans_alike, lists_alike, consistent_stores, accepts_alike, wants_published}
 use Rattle.repo_member.proofs.PublicLaws.{packets_are_there, logs_those}
-use Rattle.repo_holdings.specs.Listed.{alone_catalogue}
+use Rattle.repo_holdings.specs.Listed.{member_catalogue}
 use Rattle.live_member.specs.declared.event.LiveEvent.TheVariants as event
 use Rattle.live_member.specs.declared.event.LiveReply.{LiveReply}
 use Rattle.live_member.specs.declared.event.LiveReply.TheVariants as reply
 use Rattle.live_member.specs.declared.event.LiveEntry.{LiveEntry}
 use Rattle.live_member.specs.Meanings.{Meaning, whole_logs}
-use Rattle.live_member.specs.Tellings.{Loan}
+use Rattle.live_member.specs.Reports.{Loan}
 use Rattle.live_member.specs.Lives.{Living}
 use Rattle.live_member.specs.LockedCalls.{entry, IsEntered, StepsBy}
 use Rattle.live_member.specs.Replay.{is_part}
@@ -45,7 +45,7 @@ use Rattle.live_member.specs.Calls.{accept_reply}
 use Rattle.live_settle.specs.Ready.{IsReady, IsGathering, IsJoined, missing, missing_of, ClaimsAndTakes}
 use Rattle.live_settle.specs.Ready.{EntersTurn}
 use Rattle.live_settle.proofs.Missing.{one_less}
-use Rattle.live_settle.proofs.States.{whole_truly, claim_state, accept_state}
+use Rattle.live_settle.proofs.States.{whole_consistently, claim_state, accept_state}
 
 none_first : (ts : List Part) → first ts ≡ None → ts ≡ []
 none_first [] e = refl
@@ -87,44 +87,44 @@ module _ (t : Meaning) (l : Living) (is : IsGathering t l) where
   abbrev ls : Logs
   ls = whole_logs t
 
-  abbrev a : Alone
+  abbrev a : MemberState
   a = l.state
 
   are : AreLogs t.group ls
   are = is.ready.live.within.logs
 
-  truly : IsTrueMember t.group ls a
-  truly = whole_truly t 1000000 l is.ready.live is.ready.coming
+  consistent : IsConsistentMember t.group ls a
+  consistent = whole_consistently t 1000000 l is.ready.live is.ready.coming
 
-  same_plan : alone_plan a ≡ plan_of ls (in_group a)
-  same_plan = plans_alike t.group ls a are (true_stores t.group ls a truly)
+  same_plan : member_plan a ≡ plan_of ls (in_group a)
+  same_plan = plans_alike t.group ls a are (consistent_stores t.group ls a consistent)
 
-  idle : claim_of (alone_plan a) 1 ≡ None
+  idle : claim_of (member_plan a) 1 ≡ None
   idle = ap (λ (cs : List (Option Part)). get_or cs 0 None) is.ready.claims
 
   -- where nothing is to be claimed its catalogue is the join
-  joined : first (unclaimed (alone_plan a)) ≡ None → alone_catalogue a.store ≡ join_of ls
+  joined : first (unclaimed (member_plan a)) ≡ None → member_catalogue a.store ≡ join_of ls
   joined none =
-      lists_alike t.group ls a are (true_stores t.group ls a truly)
+      lists_alike t.group ls a are (consistent_stores t.group ls a consistent)
       ∙ joins_by_itself ls (in_group a) is.knows is.ready.live.hidden
-      (ap wanted (sym same_plan) ∙ nothing_wanted (alone_plan a) is.ready.claims none)
+      (ap wanted (sym same_plan) ∙ nothing_wanted (member_plan a) is.ready.claims none)
 
-  module _ (part : Part) (next : first (unclaimed (alone_plan a)) ≡ Some part) where
-    is_open : is_unclaimed (alone_plan a) part ≡ true
+  module _ (part : Part) (next : first (unclaimed (member_plan a)) ≡ Some part) where
+    is_open : is_unclaimed (member_plan a) part ≡ true
     is_open =
-        sym (contains-unclaimed (alone_plan a) part)
-        ∙ contains_in exact_parts (unclaimed (alone_plan a)) part (in_first (unclaimed (alone_plan a)) part next)
+        sym (contains-unclaimed (member_plan a) part)
+        ∙ contains_in exact_parts (unclaimed (member_plan a)) part (in_first (unclaimed (member_plan a)) part next)
 
-    tells_wanted : is_wanted (alone_plan a) part ≡ true
-    tells_wanted = (and_parts (is_wanted (alone_plan a) part) _ is_open).0
+    reports_wanted : is_wanted (member_plan a) part ≡ true
+    reports_wanted = (and_parts (is_wanted (member_plan a) part) _ is_open).0
 
     in_words : IsWanted ls (in_group a) part
     in_words =
         wanted_parts ls (in_group a) part
-        (subst (λ (p : PlanState). is_wanted p part ≡ true) same_plan tells_wanted)
+        (subst (λ (p : PlanState). is_wanted p part ≡ true) same_plan reports_wanted)
 
     there : IsPublishedPart ls part
-    there = wants_published t.group ls a part are truly tells_wanted
+    there = wants_published t.group ls a part are consistent reports_wanted
 
     pub publisher_there : part.publisher < length ls
     publisher_there = in_range ls part.publisher part.seq there.there.from_one there.there.to_last
@@ -136,7 +136,7 @@ module _ (t : Meaning) (l : Living) (is : IsGathering t l) where
         (s : ℕ) → IsPublished ls (j, s)
         → (member_hides (in_group a) (j, s) ≡ true)
         ⊎ ((x : ℕ) → x ≤ count ls (j, s) → member_holds (in_group a) (part_of (j, s) x) ≡ true))
-        (sym own) truly.sound.own_held in
+        (sym own) consistent.sound.own_held in
         elim (mine part.seq there.there) [
           | inl h ↦
               true≢false (sym h ∙ ap (λ (xs : List Pair). contains pair_cmp xs (pair_of part)) is.ready.live.hidden)
@@ -145,13 +145,15 @@ module _ (t : Meaning) (l : Living) (is : IsGathering t l) where
 
     -- the publisher lends its packet
     pub lends : (b : Living) → IsReady t b → part.publisher ≡ b.state.number
-        → IsSomeAnd (logged t.group b.state part) (λ octets. true_packet t.group ls part ≡ Some octets)
+        → IsSomeAnd (logged t.group b.state part) (λ octets. published_packet t.group ls part ≡ Some octets)
     lends b ready own =
-        subst (λ (o : Option (List ℕ)). IsSomeAnd o (λ octets. true_packet t.group ls part ≡ Some octets))
-        (sym (logs_those t.group ls b.state part (whole_truly t 1000000 b ready.live ready.coming) own there.there))
-        (go (true_packet t.group ls part) refl (packets_are_there t.group ls part are there)) where
-          go : (o : Option (List ℕ)) → true_packet t.group ls part ≡ o → IsSomeAnd o (λ octets. length octets ≤ 8800)
-              → IsSomeAnd o (λ octets. true_packet t.group ls part ≡ Some octets)
+        subst (λ (o : Option (List ℕ)). IsSomeAnd o (λ octets. published_packet t.group ls part ≡ Some octets))
+        (sym (logs_those t.group ls b.state part (whole_consistently t 1000000 b ready.live ready.coming) own
+        there.there))
+        (go (published_packet t.group ls part) refl (packets_are_there t.group ls part are there)) where
+          go : (o : Option (List ℕ)) → published_packet t.group ls part ≡ o
+              → IsSomeAnd o (λ octets. length octets ≤ 8800)
+              → IsSomeAnd o (λ octets. published_packet t.group ls part ≡ Some octets)
           go None e h = absurd h
           go (Some x) e h = e
 
@@ -167,12 +169,12 @@ module _ (t : Meaning) (l : Living) (is : IsGathering t l) where
 module _ (t : Meaning) (l new : Living) (r : LiveReply) (is : IsGathering t l) (room : length l.journal < 1000000)
     (steps : StepsBy t 1000000 (event.Claim 1) l new r) where
   abbrev open_part : Option Part
-  open_part = first (unclaimed (alone_plan l.state))
+  open_part = first (unclaimed (member_plan l.state))
 
   pub entered : IsEntered t (event.Claim 1) l new r
   entered = (steps.1 room).0
 
-  claimed : (in_group new.state ≡ in_group (alone_claims 1 open_part l.state)) × (r ≡ part_reply open_part)
+  claimed : (in_group new.state ≡ in_group (member_claims 1 open_part l.state)) × (r ≡ part_reply open_part)
   claimed =
       let state = claim_state t 1000000 l new is.ready.live 1 r entered in (
         state.0 ∙ ap (λ (c : Option Part). in_group (claim_change_of c 1 l.state)) (idle t l is),
@@ -183,8 +185,8 @@ module _ (t : Meaning) (l new : Living) (r : LiveReply) (is : IsGathering t l) (
   next_part part e = some_part open_part part (sym claimed.1 ∙ e)
 
   pub claims_so : (part : Part) → r ≡ reply.Claimed part
-      → in_group new.state ≡ in_group (alone_claims 1 (Some part) l.state)
-  claims_so part e = claimed.0 ∙ ap (λ (c : Option Part). in_group (alone_claims 1 c l.state)) (next_part part e)
+      → in_group new.state ≡ in_group (member_claims 1 (Some part) l.state)
+  claims_so part e = claimed.0 ∙ ap (λ (c : Option Part). in_group (member_claims 1 c l.state)) (next_part part e)
 
   pub enters_none : ((part : Part) → r ≡ reply.Claimed part → ⊥) → EntersTurn l new false
   enters_none none =
@@ -195,8 +197,8 @@ module _ (t : Meaning) (l new : Living) (r : LiveReply) (is : IsGathering t l) (
   pub nothing_left : ((part : Part) → r ≡ reply.Claimed part → ⊥) → IsJoined t new
   nothing_left none =
       let nothing : open_part ≡ None = no_part open_part (λ part e. none part (claimed.1 ∙ e)) in
-      let state : in_group new.state ≡ in_group (alone_claims 1 None l.state) =
-      claimed.0 ∙ ap (λ (c : Option Part). in_group (alone_claims 1 c l.state)) nothing in
+      let state : in_group new.state ≡ in_group (member_claims 1 None l.state) =
+      claimed.0 ∙ ap (λ (c : Option Part). in_group (member_claims 1 c l.state)) nothing in
       let ready : IsReady t new = record {
         live = steps.2;
         coming = (steps.1 room).1 ∙ is.ready.coming;
@@ -209,10 +211,10 @@ module _ (t : Meaning) (l new : Living) (r : LiveReply) (is : IsGathering t l) (
         ready = ready;
         catalogue =
             lists_alike t.group ls new.state logs
-            (true_stores t.group ls new.state (whole_truly t 1000000 new ready.live ready.coming))
+            (consistent_stores t.group ls new.state (whole_consistently t 1000000 new ready.live ready.coming))
             ∙ ap (λ (m : Member). catalogue ls m) state
             ∙ sym (lists_alike t.group ls l.state logs
-            (true_stores t.group ls l.state (whole_truly t 1000000 l is.ready.live is.ready.coming)))
+            (consistent_stores t.group ls l.state (whole_consistently t 1000000 l is.ready.live is.ready.coming)))
             ∙ joined t l is nothing;
       }
 
@@ -226,7 +228,7 @@ pub record HasTurned (t : Meaning) (l new : Living) : Type 0 where
 module _ (t : Meaning) (l mid new : Living) (r s : LiveReply) (part : Part) (lent : Loan) (is : IsGathering t l)
     (room : length l.journal ≤ 999000) (claim : StepsBy t 1000000 (event.Claim 1) l mid r)
     (its : r ≡ reply.Claimed part) (same : lent.part ≡ part)
-    (packet : true_packet t.group (whole_logs t) part ≡ Some lent.octets)
+    (packet : published_packet t.group (whole_logs t) part ≡ Some lent.octets)
     (accept : StepsBy t 1000000 (event.Accept 1 lent.part) mid new s) where
   less : length l.journal < 1000000
   less = omega (arith, room)
@@ -240,7 +242,7 @@ module _ (t : Meaning) (l mid new : Living) (r s : LiveReply) (part : Part) (len
   less_too : length mid.journal < 1000000
   less_too = omega (arith, room, long)
 
-  state_mid : in_group mid.state ≡ in_group (alone_claims 1 (Some part) l.state)
+  state_mid : in_group mid.state ≡ in_group (member_claims 1 (Some part) l.state)
   state_mid = claims_so t l mid r is less claim part its
 
   accepted : StepsBy t 1000000 (event.Accept 1 part) mid new s
@@ -249,7 +251,7 @@ module _ (t : Meaning) (l mid new : Living) (r s : LiveReply) (part : Part) (len
   second_entry : IsEntered t (event.Accept 1 part) mid new s
   second_entry = (accepted.1 less_too).0
 
-  mid_claim : claim_of (alone_plan mid.state) 1 ≡ Some part
+  mid_claim : claim_of (member_plan mid.state) 1 ≡ Some part
   mid_claim =
       ap (λ (m : Member). get_or m.claims 0 None) state_mid
       ∙ ap (λ (cs : List (Option Part)). get_or (set cs 0 (Some part)) 0 None) is.ready.claims
@@ -264,18 +266,18 @@ module _ (t : Meaning) (l mid new : Living) (r s : LiveReply) (part : Part) (len
       ∙ ap (λ (c : Option Part). if is_claim part c then reply.Kept else reply.Refused) mid_claim
       ∙ ap (λ (b : Bool). if b then reply.Kept else reply.Refused) (part_itself part)
 
-  state_new : in_group new.state ≡ in_group (alone_accepts 1 part lent.octets mid.state)
+  state_new : in_group new.state ≡ in_group (member_accepts 1 part lent.octets mid.state)
   state_new =
       second.0
       ∙ ap (λ (c : Option Part).
-      in_group (if is_claim part c then alone_accepts 1 part lent.octets mid.state else mid.state)) mid_claim
-      ∙ ap (λ (b : Bool). in_group (if b then alone_accepts 1 part lent.octets mid.state else mid.state))
+      in_group (if is_claim part c then member_accepts 1 part lent.octets mid.state else mid.state)) mid_claim
+      ∙ ap (λ (b : Bool). in_group (if b then member_accepts 1 part lent.octets mid.state else mid.state))
       (part_itself part)
 
   mid_in_order : StoresInOrder mid.state
-  mid_in_order = (true_stores t.group _ mid.state claim.2.truly).in_order
+  mid_in_order = (consistent_stores t.group _ mid.state claim.2.consistent).in_order
 
-  taken : in_group new.state ≡ takes 1 part (in_group (alone_claims 1 (Some part) l.state))
+  taken : in_group new.state ≡ takes 1 part (in_group (member_claims 1 (Some part) l.state))
   taken = state_new ∙ accepts_alike 1 part lent.octets mid.state mid_in_order ∙ ap (takes 1 part) state_mid
 
   both_entries : new.journal

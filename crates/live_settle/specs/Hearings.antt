@@ -16,7 +16,7 @@ abbrev pub hearing : Meaning → Living → LiveEvent
 hearing t other = event.Hear (sync_of t.group other.state.number other.state.known)
 
 -- A member has heard another's sync Interest, by one entry.
-pub record HearsTelling (t : Meaning) (other old new : Living) : Type 0 where
+pub record HearsReport (t : Meaning) (other old new : Living) : Type 0 where
   pub reply : LiveReply
   pub entered : IsEntered t (hearing t other) old new reply
 

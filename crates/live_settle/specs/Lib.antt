@@ -2,8 +2,8 @@ pub use Rattle.repo_plan.specs.Calls
 pub use Rattle.repo_plan.specs.Plan
 pub use Rattle.group_model.specs.Publications
 pub use Rattle.group_model.specs.OneMember
-pub use Rattle.repo_member.specs.Alone
-pub use Rattle.repo_member.specs.TrueMembers
+pub use Rattle.repo_member.specs.MemberState
+pub use Rattle.repo_member.specs.ConsistentMembers
 pub use Rattle.repo_holdings.specs.Listed
 pub use Rattle.live_member.specs.Meanings
 pub use Rattle.live_member.specs.Replay

@@ -2,8 +2,8 @@
 use Rattle.std.specs.Prelude.{ℕ, zero, suc, ◌≡◌, List, [], ◌∷◌, ◌++◌, map, length, slice_index_or}
 use Rattle.std.specs.List.{All}
 use Rattle.group_model.specs.Publications.{join_of}
-use Rattle.repo_member.specs.TrueMembers.{IsTrueMember}
-use Rattle.repo_holdings.specs.Listed.{alone_catalogue}
+use Rattle.repo_member.specs.ConsistentMembers.{IsConsistentMember}
+use Rattle.repo_holdings.specs.Listed.{member_catalogue}
 use Rattle.live_member.specs.Meanings.{Meaning, whole_logs}
 use Rattle.live_member.specs.Lives.{Living, BringParts, ReplaysTo}
 use Rattle.live_settle.specs.declared.ran.Ran.{Ran}
@@ -20,8 +20,8 @@ numbers_below (suc n) = numbers_below n ++ n ∷ []
 pub record IsRan (t : Meaning) (r : Ran) : Type 0 where
   pub replays : ReplaysTo t r.journal.items r.member
   pub brought : BringParts t r.journal.items
-  pub truly : IsTrueMember t.group (whole_logs t) r.member
-  pub catalogue : alone_catalogue r.member.store ≡ join_of (whole_logs t)
+  pub consistent : IsConsistentMember t.group (whole_logs t) r.member
+  pub catalogue : member_catalogue r.member.store ≡ join_of (whole_logs t)
 
 -- One for each member, in order.
 pub record AreRans (t : Meaning) (rans : List Ran) : Type 0 where

@@ -8,8 +8,8 @@ use Rattle.repo_plan.specs.Parts.{part_cmp}
 use Rattle.repo_plan.specs.Plan.{no_claims, claim_of}
 use Rattle.group_model.specs.Publications.{Logs, last_of, all_parts, join_of}
 use Rattle.group_model.specs.OneMember.{KnowsAll}
-use Rattle.repo_member.specs.Alone.{Alone, alone_opening, alone_plan, alone_claims}
-use Rattle.repo_holdings.specs.Listed.{alone_catalogue}
+use Rattle.repo_member.specs.MemberState.{MemberState, member_opening, member_plan, member_claims}
+use Rattle.repo_holdings.specs.Listed.{member_catalogue}
 use Rattle.live_member.specs.declared.event.LiveEvent.TheVariants as event
 use Rattle.live_member.specs.declared.event.LiveReply.TheVariants as reply
 use Rattle.live_member.specs.declared.event.LiveEntry.{LiveEntry}
@@ -20,7 +20,7 @@ use Rattle.live_member.specs.LockedCalls.{entry}
 
 -- The member at a place.
 abbrev pub at : List Living → ℕ → Living
-at ls p = slice_index_or ls p (living (alone_opening 0 0 0 0) [] [])
+at ls p = slice_index_or ls p (living (member_opening 0 0 0 0) [] [])
 
 abbrev pub AreLive : Meaning → List Living → Type 0
 AreLive t ls = (p : ℕ) → p < length ls → IsLive t 1000000 (at ls p)
@@ -41,27 +41,27 @@ pub record Continues (old new : List LiveEntry) : Type 0 where
   pub second : claims_by 2 more ≡ 0
 
 -- Each member's journal begins with the one that it had.
-abbrev pub KeepFronts : List Living → List Living → Type 0
-KeepFronts old new = (p : ℕ) → Continues (at old p).journal (at new p).journal
+abbrev pub KeepPrefixes : List Living → List Living → Type 0
+KeepPrefixes old new = (p : ℕ) → Continues (at old p).journal (at new p).journal
 
 -- Only the member at place `j` has changed, and its journal begins with the one that it had.
 pub record Only (j : ℕ) (old new : List Living) : Type 0 where
   pub width : length new ≡ length old
   pub others : (p : ℕ) → p ≢ j → at new p ≡ at old p
   pub number : (at new j).state.number ≡ (at old j).state.number
-  pub front : Continues (at old j).journal (at new j).journal
+  pub prefix : Continues (at old j).journal (at new j).journal
 
 -- ---- what was published, and claims
 
 -- A fetcher's claim has ended, by an entry; where it had none nothing has changed.
 pub record Loses (t : Meaning) (f : ℕ) (old new : Living) : Type 0 where
   pub live : IsLive t 1000000 new
-  pub none : claim_of (alone_plan old.state) f ≡ None → new ≡ old
-  pub claims : new.state.claims ≡ (alone_claims f None old.state).claims
+  pub none : claim_of (member_plan old.state) f ≡ None → new ≡ old
+  pub claims : new.state.claims ≡ (member_claims f None old.state).claims
   pub number : new.state.number ≡ old.state.number
   pub coming : new.coming ≡ old.coming
   pub entries : length new.journal ≤ length old.journal + 1
-  pub front : Continues old.journal new.journal
+  pub prefix : Continues old.journal new.journal
 
 -- A member whose whole list is published, and of which no fetcher claims a part.
 pub record IsReady (t : Meaning) (l : Living) : Type 0 where
@@ -75,7 +75,7 @@ pub record AreReady (t : Meaning) (ls : List Living) : Type 0 where
 
 -- ---- what is heard
 
--- A vector with these numbers tells of all publications of the first `n` members.
+-- A vector with these numbers reports all publications of the first `n` members.
 abbrev pub KnowsThose : Logs → ℕ → List ℕ → Type 0
 KnowsThose ls n known = (p : ℕ) → p < n → last_of ls p ≤ slice_index known p
 
@@ -101,7 +101,7 @@ abbrev pub missing : Logs → List Part → List Part
 missing ls held = filter (λ t. not (contains part_cmp held t)) (all_parts ls)
 
 -- How many parts of the lists a member doesn't hold.
-abbrev pub missing_of : Meaning → Alone → ℕ
+abbrev pub missing_of : Meaning → MemberState → ℕ
 missing_of t a = length (missing (whole_logs t) (keys a.store))
 
 -- So many parts have come to the member at place `j`, each by two entries.
@@ -114,7 +114,7 @@ pub record Turned (t : Meaning) (j turns : ℕ) (old new : List Living) : Type 0
 -- A member whose catalogue is the join of all lists.
 pub record IsJoined (t : Meaning) (l : Living) : Type 0 where
   pub ready : IsReady t l
-  pub catalogue : alone_catalogue l.state.store ≡ join_of (whole_logs t)
+  pub catalogue : member_catalogue l.state.store ≡ join_of (whole_logs t)
 
 -- The catalogue of the member at place `j` is the join of all lists.
 pub record Joins (t : Meaning) (j : ℕ) (old new : List Living) : Type 0 where

@@ -1,6 +1,6 @@
 ghost use Rattle.std.specs.Prelude.{◌≡◌, ◌<◌, ◌≤◌, length, IfOk, OnOk};
 ghost use Rattle.live_settle.specs.Ready.{at, AreReady, HasRoom, IsGathering, AreGathering, AreJoined, Joins};
-ghost use Rattle.live_settle.specs.Ready.{AfterTurn, EntersTurn, KeepFronts};
+ghost use Rattle.live_settle.specs.Ready.{AfterTurn, EntersTurn, KeepPrefixes};
 
 use live_member::{Lists, Live, LiveReply};
 use repo_member::Group;
@@ -18,7 +18,7 @@ pub fn all_gather<L: Lists>(
     requires room { HasRoom 0 900232 lives.old }
     ensures ready { OnOk result (AreReady L.meaning lives.new) }
     ensures joined { OnOk result (AreJoined L.meaning lives.new) }
-    ensures fronts { OnOk result (KeepFronts lives.old lives.new) }
+    ensures prefixes { OnOk result (KeepPrefixes lives.old lives.new) }
 {
     for j in 0..lives.len() {
         gather(alloc, g, lives, j)?;

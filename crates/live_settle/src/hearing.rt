@@ -1,7 +1,7 @@
 ghost use Rattle.std.specs.Prelude.{◌≡◌, ◌≢◌, ◌<◌, ◌≤◌, ◌+◌, length, OnOk};
 ghost use Rattle.live_member.specs.Meanings.{whole_logs};
-ghost use Rattle.live_settle.specs.Ready.{at, AreReady, AreGathering, HasRoom, KeepFronts, KnowsThose, Hears};
-ghost use Rattle.live_settle.specs.Hearings.{HearsTelling, HearsFirst};
+ghost use Rattle.live_settle.specs.Ready.{at, AreReady, AreGathering, HasRoom, KeepPrefixes, KnowsThose, Hears};
+ghost use Rattle.live_settle.specs.Hearings.{HearsReport, HearsFirst};
 
 use live_member::{Lists, Live};
 use repo_member::Group;
@@ -19,7 +19,7 @@ pub fn all_hear<L: Lists>(
     ensures ready { OnOk result (AreReady L.meaning lives.new) }
     ensures gathering { OnOk result (AreGathering L.meaning lives.new) }
     ensures room { OnOk result (HasRoom 0 900232 lives.new) }
-    ensures fronts { OnOk result (KeepFronts lives.old lives.new) }
+    ensures prefixes { OnOk result (KeepPrefixes lives.old lives.new) }
 {
     for j in 0..lives.len() {
         hear_others(alloc, g, lives, j)?;
@@ -63,13 +63,13 @@ fn hear_one<L: Lists>(
     requires knows { KnowsThose (whole_logs L.meaning) p (at lives.old j).state.known }
     ensures hears { OnOk result (Hears L.meaning j (p + 1) 1 lives.old lives.new) }
     ensures heard { OnOk result
-        (p ≢ j → HearsTelling L.meaning (at lives.old p) (at lives.old j) (at lives.new j)) }
+        (p ≢ j → HearsReport L.meaning (at lives.old p) (at lives.old j) (at lives.new j)) }
     ensures itself { OnOk result (p ≡ j → lives.new ≡ lives.old) }
 {
     if p == j {
         return Ok(());
     }
-    let told = lives[p].tell(alloc, g)?;
-    lives[j].hear(g, &told)?;
+    let reported = lives[p].tell(alloc, g)?;
+    lives[j].hear(g, &reported)?;
     Ok(())
 }

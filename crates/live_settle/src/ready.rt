@@ -2,7 +2,7 @@ ghost use Rattle.std.specs.Prelude.{◌≡◌, ◌<◌, ◌≤◌, length, [], O
 ghost use Rattle.repo_plan.specs.Calls.{IsFetcher};
 ghost use Rattle.live_member.specs.Lives.{IsLive};
 ghost use Rattle.live_settle.specs.Ready.{AreLive, ArePlaced, AreReady, HasRoom, IsReady, Loses};
-ghost use Rattle.live_settle.specs.Ready.{Continues, KeepFronts};
+ghost use Rattle.live_settle.specs.Ready.{Continues, KeepPrefixes};
 
 use live_member::{Lists, Live, NextTold};
 use repo_member::Group;
@@ -18,7 +18,7 @@ pub fn all_ready<L: Lists>(g: &Group, lives: &mut [Live<L, 1000000>]) -> Result<
     requires room { HasRoom 0 900000 lives.old }
     ensures ready { OnOk result (AreReady L.meaning lives.new) }
     ensures room { OnOk result (HasRoom 0 900216 lives.new) }
-    ensures fronts { OnOk result (KeepFronts lives.old lives.new) }
+    ensures prefixes { OnOk result (KeepPrefixes lives.old lives.new) }
 {
     for j in 0..lives.len() {
         ready(g, &mut lives[j])?;
@@ -34,7 +34,7 @@ fn ready<L: Lists>(g: &Group, live: &mut Live<L, 1000000>) -> Result<(), AllocEr
     ensures ready { OnOk result (IsReady L.meaning live.new) }
     ensures number { OnOk result (live.new.state.number ≡ live.old.state.number) }
     ensures entries { OnOk result (length live.new.journal ≤ 900216) }
-    ensures front { OnOk result (Continues live.old.journal live.new.journal) }
+    ensures prefix { OnOk result (Continues live.old.journal live.new.journal) }
 {
     publish_rest(g, live)?;
     lose_claims(g, live)
@@ -49,7 +49,7 @@ fn publish_rest<L: Lists>(g: &Group, live: &mut Live<L, 1000000>) -> Result<(), 
     ensures coming { OnOk result (live.new.coming ≡ []) }
     ensures number { OnOk result (live.new.state.number ≡ live.old.state.number) }
     ensures entries { OnOk result (length live.new.journal ≤ 900200) }
-    ensures front { OnOk result (Continues live.old.journal live.new.journal) }
+    ensures prefix { OnOk result (Continues live.old.journal live.new.journal) }
 {
     while let NextTold::Told(_) = live.publish_next(g)? {}
     Ok(())
@@ -63,7 +63,7 @@ fn lose_claims<L: Lists>(g: &Group, live: &mut Live<L, 1000000>) -> Result<(), A
     ensures ready { OnOk result (IsReady L.meaning live.new) }
     ensures number { OnOk result (live.new.state.number ≡ live.old.state.number) }
     ensures entries { OnOk result (length live.new.journal ≤ 900216) }
-    ensures front { OnOk result (Continues live.old.journal live.new.journal) }
+    ensures prefix { OnOk result (Continues live.old.journal live.new.journal) }
 {
     for earlier in 0..LAST_FETCHER {
         lose_claim(g, live, earlier + 1)?;
@@ -72,7 +72,7 @@ fn lose_claims<L: Lists>(g: &Group, live: &mut Live<L, 1000000>) -> Result<(), A
 }
 
 // The claim of a fetcher ends, if it has one.
-#[tactic(auto, using(crate::proofs::Fronts::continues_lost, crate::proofs::Fronts::continues_itself))]
+#[tactic(auto, using(crate::proofs::Prefixes::continues_lost, crate::proofs::Prefixes::continues_itself))]
 fn lose_claim<L: Lists>(g: &Group, live: &mut Live<L, 1000000>, f: u8) -> Result<(), AllocError>
     requires fetcher { IsFetcher f }
     requires live { IsLive L.meaning 1000000 live.old }

@@ -25,7 +25,7 @@ pub fn settle<L: Lists>(
     requires live { All (IsLive L.meaning 1000000) lives.items }
     requires room { All (λ l. length l.journal ≤ 900000) lives.items }
     ensures rans { IfOk result (λ rans. AreRans L.meaning rans.items) }
-    ensures fronts { IfOk result (λ rans. AreContinued lives.items rans.items) }
+    ensures prefixes { IfOk result (λ rans. AreContinued lives.items rans.items) }
 {
     all_ready(g, lives.as_mut_slice())?;
     all_hear(alloc, g, lives.as_mut_slice())?;

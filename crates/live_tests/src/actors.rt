@@ -22,7 +22,7 @@ fn published<L: Lists>(
     requires { g.now ≡ L.meaning.group }
 {
     match live.publish_next(g).expect(rt, "memory") {
-        NextTold::Told(told) => told,
+        NextTold::Told(reported) => reported,
         _ => panic!(rt; "an object"),
     }
 }

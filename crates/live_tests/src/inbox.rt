@@ -34,7 +34,7 @@ fn in_turn<R: Wait>(
     let first = inbox.put(rt, one, 1);
     let second = inbox.put(rt, two, 2);
     let full = inbox.put(rt, one, 3);
-    let front = inbox.take(rt, mouth);
+    let prefix = inbox.take(rt, mouth);
     let room = inbox.put(rt, one, 3);
     let next = inbox.take(rt, mouth);
     let last = inbox.take(rt, mouth);
@@ -43,7 +43,7 @@ fn in_turn<R: Wait>(
     let fourth = inbox.put(rt, one, 5);
     Answers {
         puts: [first, second, full, room, third, fourth],
-        takes: [front, next, last, empty],
+        takes: [prefix, next, last, empty],
     }
 }
 

@@ -30,9 +30,9 @@ pub(crate) fn mark(octets: &[u8]) -> u64 {
     sum
 }
 
-fn mark_of<L: Lists>(told: &Option<Told<L>>) -> Option<u64> {
-    match told {
-        Some(told) => Some(mark(told.octets())),
+fn mark_of<L: Lists>(reported: &Option<Told<L>>) -> Option<u64> {
+    match reported {
+        Some(reported) => Some(mark(reported.octets())),
         None => None,
     }
 }
@@ -75,7 +75,7 @@ impl<L: Lists> Places<L> for Memory<L> {
 
     ghost progress = { λ m. record {
       members = m.members;
-      lines = m.members;
+      senders = m.members;
       calls = map (λ c. call_of c.value) m.calls.items;
       left = m.left;
     } };
@@ -88,42 +88,42 @@ impl<L: Lists> Places<L> for Memory<L> {
     }
 
     fn publish_next(&mut self, member: u32) -> Result<Option<Told<L>>, AllocError> {
-        let told = self.objects.pop();
-        self.seen.push(Seen::Publish(member, mark_of(&told)))?;
+        let reported = self.objects.pop();
+        self.seen.push(Seen::Publish(member, mark_of(&reported)))?;
         self.calls.push(Snapshot::of(&Noted::Publish {
             member,
-            told: Snapshot::of(&told),
+            reported: Snapshot::of(&reported),
         }))?;
-        if told.is_none() {
+        if reported.is_none() {
             self.left -= 1;
         }
-        Ok(told)
+        Ok(reported)
     }
 
-    fn tell(&mut self, other: u32, told: &Told<L>) -> Result<(), AllocError> {
-        self.seen.push(Seen::Tell(other, mark(told.octets())))?;
+    fn tell(&mut self, other: u32, reported: &Told<L>) -> Result<(), AllocError> {
+        self.seen.push(Seen::Tell(other, mark(reported.octets())))?;
         self.calls.push(Snapshot::of(&Noted::Tell {
             other,
-            told: Snapshot::of(told),
+            reported: Snapshot::of(reported),
         }))?;
         Ok(())
     }
 
     fn take(&mut self) -> Result<Option<Told<L>>, AllocError> {
-        let told = self.inbox.pop();
-        self.seen.push(Seen::Take(mark_of(&told)))?;
+        let reported = self.inbox.pop();
+        self.seen.push(Seen::Take(mark_of(&reported)))?;
         self.calls.push(Snapshot::of(&Noted::Take {
-            told: Snapshot::of(&told),
+            reported: Snapshot::of(&reported),
         }))?;
-        Ok(told)
+        Ok(reported)
     }
 
-    fn hear(&mut self, member: u32, told: &Told<L>) -> Result<LiveReply, AllocError> {
+    fn hear(&mut self, member: u32, reported: &Told<L>) -> Result<LiveReply, AllocError> {
         let replied = LiveReply::Steady;
-        self.seen.push(Seen::Hear(member, mark(told.octets())))?;
+        self.seen.push(Seen::Hear(member, mark(reported.octets())))?;
         self.calls.push(Snapshot::of(&Noted::Hear {
             member,
-            told: Snapshot::of(told),
+            reported: Snapshot::of(reported),
             replied,
         }))?;
         Ok(replied)

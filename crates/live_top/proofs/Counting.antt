@@ -27,7 +27,7 @@ use Rattle.live_script.specs.Judging.{is_within_input}
 use Rattle.live_script.specs.Judging.{judged, judged_line, judged_read, may_stand, member_number, refused, taken_by}
 use Rattle.live_script.specs.Judging.{takes}
 use Rattle.live_script.specs.Judging.{unjudged, with_object}
-use Rattle.live_top.specs.Outcomes.{Refused, Taken, outcome_behind, outcome_from, outcome_of}
+use Rattle.live_top.specs.Outcomes.{Refused, Taken, outcome_after, outcome_from, outcome_of}
 
 -- ---- octets that are taken
 
@@ -113,7 +113,7 @@ taken_within r [] end is few = omega (arith, few)
 taken_within r (line ∷ ls) end is few =
     go (judged r line) refl is (λ next h less. taken_within next ls end h less) where
       go : (v : Verdict) → judged r line ≡ v
-          → outcome_behind (λ next. outcome_from next ls) (r.lines + 1) v ≡ Taken end
+          → outcome_after (λ next. outcome_from next ls) (r.lines + 1) v ≡ Taken end
           → ((next : Reached) → outcome_from next ls ≡ Taken end → next.octets ≤ 16777216
           → next.octets + length (concat ls) ≤ 16777216)
           → r.octets + length (line ++ concat ls) ≤ 16777216
@@ -137,33 +137,33 @@ unfolding outcome_from
 refused_alike r line longer ls others more wide =
     rw (too_long r line more, too_long r longer (omega (arith, more, wide))) refl
 
-refused_longer : (r : Reached) (ls : List (List ℕ)) (behind : List ℕ) (n : ℕ) (why : Refusal) → AreLines ls
+refused_longer : (r : Reached) (ls : List (List ℕ)) (after : List ℕ) (n : ℕ) (why : Refusal) → AreLines ls
     → 16777216 < r.octets + length (concat ls) → outcome_from r ls ≡ Refused n why
-    → outcome_from r (lines (concat ls ++ behind)) ≡ Refused n why
+    → outcome_from r (lines (concat ls ++ after)) ≡ Refused n why
 unfolding outcome_from
-refused_longer r [] behind n why are more is = absurd cc
-refused_longer r (line ∷ []) behind n why (inl whole) more is =
+refused_longer r [] after n why are more is = absurd cc
+refused_longer r (line ∷ []) after n why (inl whole) more is =
     let joined : line ++ [] ≡ line = append-nil line in
     let long : 16777216 < r.octets + length line = omega (arith, more, ap length joined) in
-    rw (joined, whole_first line behind whole)
-    (refused_alike r line line [] (lines behind) long (omega arith) ∙ is)
-refused_longer r (line ∷ []) behind n why (inr unended) more is =
+    rw (joined, whole_first line after whole)
+    (refused_alike r line line [] (lines after) long (omega arith) ∙ is)
+refused_longer r (line ∷ []) after n why (inr unended) more is =
     let joined : line ++ [] ≡ line = append-nil line in
     let long : 16777216 < r.octets + length line = omega (arith, more, ap length joined) in
-    let first : Begins line (lines (line ++ behind)) = long_line line behind unended.some unended.free in
+    let first : Begins line (lines (line ++ after)) = long_line line after unended.some unended.free in
     rw (joined, first.is)
     (refused_alike r line (line ++ first.rest) [] first.others long
     (omega (arith, length-append line first.rest)) ∙ is)
-refused_longer r (line ∷ next ∷ ls) behind n why are more is =
-    let cut : lines ((line ++ concat (next ∷ ls)) ++ behind) ≡ line ∷ lines (concat (next ∷ ls) ++ behind) =
-    ap lines (append_assoc line (concat (next ∷ ls)) behind) ∙ whole_first line (concat (next ∷ ls) ++ behind) are.0 in
-    rw cut (go (judged r line) refl is (λ m long h. refused_longer m (next ∷ ls) behind n why are.1 long h)) where
+refused_longer r (line ∷ next ∷ ls) after n why are more is =
+    let cut : lines ((line ++ concat (next ∷ ls)) ++ after) ≡ line ∷ lines (concat (next ∷ ls) ++ after) =
+    ap lines (append_assoc line (concat (next ∷ ls)) after) ∙ whole_first line (concat (next ∷ ls) ++ after) are.0 in
+    rw cut (go (judged r line) refl is (λ m long h. refused_longer m (next ∷ ls) after n why are.1 long h)) where
       go : (v : Verdict) → judged r line ≡ v
-          → outcome_behind (λ m. outcome_from m (next ∷ ls)) (r.lines + 1) v ≡ Refused n why
+          → outcome_after (λ m. outcome_from m (next ∷ ls)) (r.lines + 1) v ≡ Refused n why
           → ((m : Reached) → 16777216 < m.octets + length (concat (next ∷ ls))
           → outcome_from m (next ∷ ls) ≡ Refused n why
-          → outcome_from m (lines (concat (next ∷ ls) ++ behind)) ≡ Refused n why)
-          → outcome_behind (λ m. outcome_from m (lines (concat (next ∷ ls) ++ behind))) (r.lines + 1) v ≡ Refused n why
+          → outcome_from m (lines (concat (next ∷ ls) ++ after)) ≡ Refused n why)
+          → outcome_after (λ m. outcome_from m (lines (concat (next ∷ ls) ++ after))) (r.lines + 1) v ≡ Refused n why
       go (refused w) j h others = h
       go (takes m) j h others =
           let one = counted_line r line m j in
@@ -171,9 +171,9 @@ refused_longer r (line ∷ next ∷ ls) behind n why are more is =
       go unjudged j h others = absurd cc
 
 -- An input that is refused and longer than any may be is refused so however it goes on.
-pub refused_whole : (input behind : List ℕ) (n : ℕ) (why : Refusal) → 16777216 < length input
-    → outcome_of input ≡ Refused n why → outcome_of (input ++ behind) ≡ Refused n why
-refused_whole input behind n why more is =
+pub refused_whole : (input after : List ℕ) (n : ℕ) (why : Refusal) → 16777216 < length input
+    → outcome_of input ≡ Refused n why → outcome_of (input ++ after) ≡ Refused n why
+refused_whole input after n why more is =
     let joined : concat (lines input) ≡ input = lines_joined input in
-    subst (λ (octets : List ℕ). outcome_of (octets ++ behind) ≡ Refused n why) joined
-    (refused_longer _ (lines input) behind n why (lines_are_lines input) (omega (arith, more, ap length joined)) is)
+    subst (λ (octets : List ℕ). outcome_of (octets ++ after) ≡ Refused n why) joined
+    (refused_longer _ (lines input) after n why (lines_are_lines input) (omega (arith, more, ap length joined)) is)

@@ -1,4 +1,4 @@
--- The first line of an input, and what the lines behind it come to.
+-- The first line of an input, and what the lines after it come to.
 use Rattle.std.proofs.Common.{◌≡◌, ◌≢◌, ◌∙◌, ℕ, zero, suc, ◌+◌, ◌<◌, true, false, eqb, List, []}
 use Rattle.std.proofs.Common.{◌∷◌, length, take, drop}
 use Rattle.std.proofs.Common.{get_or, Some, None, position, refl, sym, arith}
@@ -6,9 +6,9 @@ use Rattle.std.proofs.lemmas.List.{drop_all, take_all}
 use Rattle.std.proofs.lemmas.List.Quantifiers.{position-Some}
 use Rattle.repo_io.specs.Lines.{lines}
 use Rattle.repo_io.proofs.LineLaws.{no_feed_found, open_line}
-use Rattle.live_script.specs.declared.stop.Stop.{Stop}
-use Rattle.live_script.specs.declared.stop.Stop.TheVariants as stop
-use Rattle.live_script.specs.Stopping.{IsStop}
+use Rattle.live_script.specs.declared.error.LineError.{LineError}
+use Rattle.live_script.specs.declared.error.LineError.TheVariants as error
+use Rattle.live_script.specs.LineErrors.{IsLineError}
 use Rattle.live_top.specs.Inputs.{Stops, halt_at}
 use Rattle.live_script.specs.Judging.{Reached, judged, takes}
 use Rattle.live_top.specs.Outcomes.{Outcome, Taken, outcome_from}
@@ -23,8 +23,8 @@ first_feed [] at there feed none = absurd (omega arith)
 first_feed (b ∷ bs) zero there feed none = rw feed refl
 first_feed (b ∷ bs) (suc at) there feed none =
     let other : eqb b 10 ≡ false = none 0 (omega arith) in
-    let behind = first_feed bs at (omega (arith, there)) feed (λ k lt. none (suc k) (omega (arith, lt))) in
-    rw (other, behind) refl
+    let after = first_feed bs at (omega (arith, there)) feed (λ k lt. none (suc k) (omega (arith, lt))) in
+    rw (other, after) refl
 
 pub line_found : (octets : List ℕ) (at : ℕ) → Some at ≡ position (λ octet. eqb octet 10) octets
     → lines octets ≡ take (at + 1) octets ∷ lines (drop (at + 1) octets)
@@ -38,26 +38,27 @@ pub last_line : (octets : List ℕ) → octets ≢ [] → None ≡ position (λ 
 unfolding lines
 last_line octets some is = open_line octets some (no_feed_found octets (sym is))
 
-pub whole_line : (octets front back : List ℕ) → front ≡ take (length octets) octets → back ≡ drop (length octets) octets
-    → lines octets ≡ octets ∷ lines [] → lines octets ≡ front ∷ lines back
-whole_line octets front back f b is =
-    let all : front ≡ octets = f ∙ take_all (length octets) octets (omega arith) in
+pub whole_line : (octets prefix back : List ℕ) → prefix ≡ take (length octets) octets → back
+    ≡ drop (length octets) octets
+    → lines octets ≡ octets ∷ lines [] → lines octets ≡ prefix ∷ lines back
+whole_line octets prefix back f b is =
+    let all : prefix ≡ octets = f ∙ take_all (length octets) octets (omega arith) in
     let none : back ≡ [] = b ∙ drop_all (length octets) octets (omega arith) in
     rw (all, none) is
 
 -- ---- what lines come to
 
-pub taken_on : (o : Outcome) (r next : Reached) (octets line behind : List ℕ) → o ≡ outcome_from r (lines octets)
-    → lines octets ≡ line ∷ lines behind → judged r line ≡ takes next → o ≡ outcome_from next (lines behind)
+pub taken_on : (o : Outcome) (r next : Reached) (octets line after : List ℕ) → o ≡ outcome_from r (lines octets)
+    → lines octets ≡ line ∷ lines after → judged r line ≡ takes next → o ≡ outcome_from next (lines after)
 unfolding outcome_from
-taken_on o r next octets line behind so_far cut is = so_far ∙ rw (cut, is) refl
+taken_on o r next octets line after so_far cut is = so_far ∙ rw (cut, is) refl
 
-pub stops_at : (o : Outcome) (r : Reached) (octets line behind : List ℕ) (s : Stop)
-    → o ≡ outcome_from r (lines octets) → lines octets ≡ line ∷ lines behind → IsStop (judged r line) s
+pub stops_at : (o : Outcome) (r : Reached) (octets line after : List ℕ) (s : LineError)
+    → o ≡ outcome_from r (lines octets) → lines octets ≡ line ∷ lines after → IsLineError (judged r line) s
     → Stops o (halt_at (r.lines + 1) s)
 unfolding outcome_from
-stops_at o r octets line behind (stop.Refused why) so_far cut is = so_far ∙ rw (cut, is) refl
-stops_at o r octets line behind stop.NoMemory so_far cut is = tt
+stops_at o r octets line after (error.Refused why) so_far cut is = so_far ∙ rw (cut, is) refl
+stops_at o r octets line after error.NoMemory so_far cut is = tt
 
 pub all_taken : (o : Outcome) (r : Reached) (octets : List ℕ) → o ≡ outcome_from r (lines octets) → octets ≡ []
     → o ≡ Taken r

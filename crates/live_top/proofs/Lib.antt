@@ -6,4 +6,4 @@ pub mod Cutting
 pub mod Counting
 pub mod Reading
 mod Running
-mod Fronts
+mod Prefixes

@@ -18,12 +18,12 @@ use Rattle.group_model.specs.Member.{Member, plan_of}
 use Rattle.group_model.specs.Changes.{publishes, learns, member_with_claim, takes}
 use Rattle.group_model.specs.World.{World, member, with_member, no_member, logs}
 use Rattle.group_model.specs.Steps.{claim_at, to_claim, after_claiming, after_hear, after_came}
-use Rattle.group_model.specs.Steps.{came_as, drawn, tells_too_much, after_deliver}
+use Rattle.group_model.specs.Steps.{came_as, drawn, reports_too_much, after_deliver}
 use Rattle.group_model.proofs.Lists.{from_filter, in_first}
 use Rattle.group_model.proofs.Plans.{wanted_parts}
 use Rattle.live_member.specs.declared.event.LiveEvent.{LiveEvent}
 use Rattle.live_member.specs.declared.event.LiveEvent.TheVariants as event
-use Rattle.live_member.specs.Meanings.{Meaning, as_posts, whole_logs, with_log, world_at, outside}
+use Rattle.live_member.specs.Meanings.{Meaning, as_posts, whole_logs, with_log, world_at, environment}
 use Rattle.live_member.specs.Replay.{after, next_object, sync_read, fed}
 
 -- ---- claims
@@ -103,13 +103,13 @@ module _ (t : Meaning) (j : ℕ) (there : j < length t.lists) (m : Member) where
   same_as_before : GoesOn m (member w j)
   same_as_before = subst (GoesOn m) (sym same) (stays m)
 
-  hears : (read : Option SyncInterest) → GoesOn m (member (after_hear (outside t) w j read) j)
+  hears : (read : Option SyncInterest) → GoesOn m (member (after_hear (environment t) w j read) j)
   hears None = same_as_before
-  hears (Some sync) = go (tells_too_much w j sync) where
+  hears (Some sync) = go (reports_too_much w j sync) where
     go : (ahead : Bool)
-        → GoesOn m (member (if ahead then w else after_deliver (outside t) w j sync.vector) j)
+        → GoesOn m (member (if ahead then w else after_deliver (environment t) w j sync.vector) j)
     go true = same_as_before
-    go false = becomes (learns (drawn (outside t) w j) w.moment sync.vector (member w j))
+    go false = becomes (learns (drawn (environment t) w j) w.time sync.vector (member w j))
         (record { longer = long_join (member w j).known sync.vector; claims = λ n wide each. each })
 
   claims : (f : ℕ) (c : Option Part) → to_claim w j ≡ c → GoesOn m (member (after_claiming w j f c) j)
@@ -118,7 +118,7 @@ module _ (t : Meaning) (j : ℕ) (there : j < length t.lists) (m : Member) where
       becomes (member_with_claim f (Some part) (member w j))
       (claims_on f (Some part) (member w j) (open_below (logs w) (member w j) (Some part) is))
 
-  comes : (f : ℕ) (c : Option Part) (came : Came) → GoesOn m (member (after_came (outside t) w j f c came) j)
+  comes : (f : ℕ) (c : Option Part) (came : Came) → GoesOn m (member (after_came (environment t) w j f c came) j)
   comes f None came = same_as_before
   comes f (Some part) Nothing = same_as_before
   comes f (Some part) Its = becomes (takes f part (member w j)) (takes_on f part (member w j))
@@ -130,7 +130,7 @@ module _ (t : Meaning) (j : ℕ) (there : j < length t.lists) (m : Member) where
 
   pub goes_on : (e : LiveEvent) → GoesOn m (after t j m e)
   goes_on event.Publish =
-      becomes (publishes (drawn (outside t) w j) w.moment j (Offers (next_object t j m)) (member w j)) (record {
+      becomes (publishes (drawn (environment t) w j) w.time j (Offers (next_object t j m)) (member w j)) (record {
         longer = omega (arith, length-set (member w j).known j (length (member w j).log + 1));
         claims = λ n wide each. each;
       })

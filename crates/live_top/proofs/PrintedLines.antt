@@ -8,21 +8,22 @@ use Rattle.std.proofs.lemmas.List.Elements.{All-nil, All-cons}
 use Rattle.repo_plan.specs.declared.part.Part.{Part}
 use Rattle.svs_sync.specs.declared.mode.Mode.{Mode}
 use Rattle.svs_sync.specs.declared.mode.Mode.TheVariants.{Steady, Suppressed}
-use Rattle.script_report.specs.Texts.{line, behind_spaces}
+use Rattle.script_report.specs.Texts.{line, after_spaces}
 use Rattle.repo_member.specs.InGroup.{in_group}
 use Rattle.repo_member.specs.Verdicts.{group_verdict}
 use Rattle.group_model.specs.Member.{Member}
 use Rattle.group_model.specs.Events.{SyncInterest}
 use Rattle.group_model.specs.Replies.{Reply, heard_reply, hear_reply}
 use Rattle.group_model.specs.World.{World}
-use Rattle.group_model.specs.Steps.{claim_at, to_claim, tells_too_much, after_deliver, mode_at, came_as, passes_checks}
+use Rattle.group_model.specs.Steps.{claim_at, to_claim, reports_too_much, after_deliver, mode_at, came_as}
+use Rattle.group_model.specs.Steps.{passes_checks}
 use Rattle.group_model.specs.Steps.{hear_outcome}
 use Rattle.live_member.specs.declared.event.LiveEvent.{LiveEvent}
 use Rattle.live_member.specs.declared.event.LiveEvent.TheVariants as event
 use Rattle.live_member.specs.declared.event.LiveReply.{LiveReply}
 use Rattle.live_member.specs.declared.event.LiveReply.TheVariants as reply
 use Rattle.live_member.specs.declared.event.LiveEntry.{LiveEntry}
-use Rattle.live_member.specs.Meanings.{Meaning, world_at, outside}
+use Rattle.live_member.specs.Meanings.{Meaning, world_at, environment}
 use Rattle.live_member.specs.Replay.{Replays, after, reply_of, live_reply, sync_read, fed}
 use Rattle.live_member.specs.Lives.{opening}
 use Rattle.live_settle.specs.declared.ran.Ran.{Ran}
@@ -32,10 +33,10 @@ use Rattle.live_top.specs.Printed.{HasLine, JournalsArePrintedWhole}
 some_line : (first : List ℕ) (words : List (List ℕ)) → line first words ≢ []
 unfolding line
 some_line first words none =
-    let whole : length (first ++ (behind_spaces words ++ 10 ∷ [])) ≡ 0 = ap length none in
-    let behind = length-append first (behind_spaces words ++ 10 ∷ []) in
-    let last = length-append (behind_spaces words) (10 ∷ []) in
-    omega (arith, whole, behind, last)
+    let whole : length (first ++ (after_spaces words ++ 10 ∷ [])) ≡ 0 = ap length none in
+    let after = length-append first (after_spaces words ++ 10 ∷ []) in
+    let last = length-append (after_spaces words) (10 ∷ []) in
+    omega (arith, whole, after, last)
 
 -- the reply to the event has a line
 abbrev IsPrinted : LiveEvent → LiveReply → Type 0
@@ -67,10 +68,10 @@ module _ (t : Meaning) (j : ℕ) where
   w m = world_at t j m
 
   hears : (m : Member) (octets : List ℕ) (read : Option SyncInterest)
-      → IsPrinted (event.Hear octets) (live_reply (hear_reply read (hear_outcome (outside t) (w m) j read)))
+      → IsPrinted (event.Hear octets) (live_reply (hear_reply read (hear_outcome (environment t) (w m) j read)))
   hears m octets None = λ labels. some_line _ _
   hears m octets (Some sync) =
-      heard octets (tells_too_much (w m) j sync) _ (mode_at (after_deliver (outside t) (w m) j sync.vector) j)
+      heard octets (reports_too_much (w m) j sync) _ (mode_at (after_deliver (environment t) (w m) j sync.vector) j)
 
   printed_of : (m : Member) (e : LiveEvent) → IsPrinted e (reply_of t j m e)
   printed_of m event.Publish = λ labels. some_line _ _

@@ -1,6 +1,6 @@
 -- The journals and the catalogues of members, a member at a time.
 use Rattle.std.proofs.Common.{String, Global, string_bytes, ◌≡◌, ℕ, List, [], ◌∷◌, map, refl}
-use Rattle.repo_holdings.specs.Listed.{alone_catalogue}
+use Rattle.repo_holdings.specs.Listed.{member_catalogue}
 use Rattle.script_report.proofs.Together.{IsText}
 use Rattle.live_settle.specs.declared.ran.Ran.{Ran}
 use Rattle.live_top.specs.Journals as text
@@ -27,7 +27,7 @@ abbrev pub catalogues : List (List ℕ) → List (String Global) → List Ran �
 catalogues labels owns rans = text.catalogues labels (map string_bytes owns) rans
 
 abbrev pub catalogue : List (List ℕ) → String Global → Ran → List ℕ
-catalogue labels own r = catalogue_lines labels (string_bytes own) (alone_catalogue r.member.store)
+catalogue labels own r = catalogue_lines labels (string_bytes own) (member_catalogue r.member.store)
 
 pub catalogues_are_text : (labels : List (List ℕ)) → IsText (catalogues labels) (catalogue labels)
 unfolding text.catalogues

@@ -120,8 +120,8 @@ module _ (ls : Logs) where
 names_members : (t : Meaning) (r : Ran) → IsRan t r → NamesMembers t r
 names_members t r is =
     let whole : length (whole_logs t) ≡ length t.lists = length-map t.lists as_posts in
-    let there : r.member.number < length t.lists = omega (arith, is.truly.there, whole) in
-    let wide : length r.member.known ≤ length t.lists = omega (arith, is.truly.sound.width, whole) in
+    let there : r.member.number < length t.lists = omega (arith, is.consistent.there, whole) in
+    let wide : length r.member.known ≤ length t.lists = omega (arith, is.consistent.sound.width, whole) in
     record {
       journal = each_labelled t r.member.number there r.journal.items (in_group (opening t r.member.number))
           (in_group r.member) is.replays is.brought wide (All-replicate (IsBelow (length t.lists)) 16 None tt);

@@ -14,17 +14,17 @@ use Rattle.repo_io.specs.Lines.{lines}
 use Rattle.live_script.specs.Judging.{IsJudged, Reached, Verdict, is_of_live, judged, refused, takes, unjudged}
 use Rattle.live_script.proofs.Judged.{each_line_is_judged}
 use Rattle.script_report.specs.declared.refusal.Refusal.{Refusal}
-use Rattle.live_top.specs.declared.input.Halt.{Halt}
-use Rattle.live_top.specs.declared.input.Halt.TheVariants as halt
+use Rattle.live_top.specs.declared.input.InputError.{InputError}
+use Rattle.live_top.specs.declared.input.InputError.TheVariants as halt
 use Rattle.live_top.specs.Inputs.{IsHaltedAt, IsRead, Stops, halt_of}
-use Rattle.live_top.specs.Outcomes.{Refused, Taken, outcome_behind, outcome_from, outcome_of}
+use Rattle.live_top.specs.Outcomes.{Refused, Taken, outcome_after, outcome_from, outcome_of}
 use Rattle.live_top.proofs.Counting.{input_within, refused_whole}
 
 -- An input whose lines are all taken is shorter than what was asked for, so it was read to its end.
-pub read_whole : (left rest : Option (List ℕ)) (input : List ℕ) (r : Result Reached Halt)
+pub read_whole : (left rest : Option (List ℕ)) (input : List ℕ) (r : Result Reached InputError)
     → Keeps left (prepend_known input rest) → (length input < 16777217 → IsAtEnd rest)
     → IfOk r (λ script. outcome_of input ≡ Taken script) → IfOk r (IsRead left rest)
-read_whole left rest input (Err stop) read ended taken = tt
+read_whole left rest input (Err error) read ended taken = tt
 read_whole left rest input (Ok script) read ended taken =
     let few = input_within input script taken in
     record { input = input; read = read; ended = ended (omega (arith, few)); taken = taken }
@@ -54,7 +54,7 @@ refused_among r [] n why is = absurd cc
 refused_among r (line ∷ ls) n why is =
     go (judged r line) (each_line_is_judged r line) is (λ next h. refused_among next ls n why h) where
       go : (v : Verdict) → IsJudged v
-          → outcome_behind (λ next. outcome_from next ls) (r.lines + 1) v ≡ Refused n why
+          → outcome_after (λ next. outcome_from next ls) (r.lines + 1) v ≡ Refused n why
           → ((next : Reached) → outcome_from next ls ≡ Refused n why → is_of_live why ≡ true)
           → is_of_live why ≡ true
       go (refused w) is_judged h others =
@@ -63,7 +63,7 @@ refused_among r (line ∷ ls) n why is =
       go (takes next) is_judged h others = others next h
       go unjudged is_judged h others = absurd is_judged
 
-pub halted_at : (left rest : Option (List ℕ)) (old new : ℕ) (input : List ℕ) (r : Result Reached Halt)
+pub halted_at : (left rest : Option (List ℕ)) (old new : ℕ) (input : List ℕ) (r : Result Reached InputError)
     → Keeps left (prepend_known input rest) → length input ≤ 16777217 → (length input < 16777217 → IsAtEnd rest)
     → IfErr r (Stops (outcome_of input)) → IfErr r (IsHaltedAt left old new)
 halted_at left rest old new input (Ok script) read most ended stops = tt
@@ -73,7 +73,7 @@ halted_at left rest old new input (Err (halt.Refused n why)) read most ended sto
 halted_at left rest old new input (Err halt.NoMemory) read most ended stops = tt
 
 -- Nothing was read whole.
-pub halts_unread : {A : Type 0} (left : Option (List ℕ)) (old new : ℕ) (r : Result A Halt) (f : ReadFault)
+pub halts_unread : {A : Type 0} (left : Option (List ℕ)) (old new : ℕ) (r : Result A InputError) (f : ReadFault)
     → (f ≡ fault.Failed → HasRisen old new) → IsErrAnd r (λ h. h ≡ halt_of f) → IfErr r (IsHaltedAt left old new)
 halts_unread left old new (Ok x) f risen is = tt
 halts_unread left old new (Err h) fault.Failed risen is = subst (IsHaltedAt left old new) (sym is) (risen refl)

@@ -8,8 +8,8 @@ use Rattle.live_settle.specs.declared.ran.Ran.{Ran}
 use Rattle.live_settle.specs.Rans.{AreRans}
 use Rattle.repo_io.specs.declared.status.Status.{Status}
 use Rattle.repo_io.specs.declared.status.Status.TheVariants as status
-use Rattle.repo_io.specs.Outside.{GainsText, GainsFront}
-use Rattle.repo_io.specs.Statuses.{IsTold}
+use Rattle.repo_io.specs.Outside.{GainsText, GainsPrefix}
+use Rattle.repo_io.specs.Statuses.{IsReported}
 use Rattle.script_report.specs.declared.refusal.Refusal.{Refusal}
 use Rattle.script_report.specs.Refusals.{refusal_number, refusal_text}
 use Rattle.live_script.specs.Judging.{Reached, is_of_live}
@@ -36,7 +36,7 @@ pub record SaysRefused (line number : ℕ) (old new : Option (List ℕ)) : Type 
   pub text : GainsText old new (refusal_text line why)
 
 -- An input was read to its end, each of its lines was taken, its members ran, and what was written are their journals
--- and catalogues. Of a source and a sink it is told what was left and written before and after.
+-- and catalogues. Of a source and a sink it is given what was left and written before and after.
 pub record HasRun (draw : ℕ → ℕ → ℕ) (left rest old new : Option (List ℕ)) (rans : List Ran) : Type 0 where
   pub input : List ℕ
   pub read : Keeps left (prepend_known input rest)
@@ -48,22 +48,22 @@ pub record HasRun (draw : ℕ → ℕ → ℕ) (left rest old new : Option (List
 
 -- A text that a run may write over an input that comes to this: why a line is refused; or the journals and catalogues
 -- of members that ran.
-pub record TellsOfRun (draw : ℕ → ℕ → ℕ) (r : Reached) (text : List ℕ) : Type 0 where
+pub record ReportsOfRun (draw : ℕ → ℕ → ℕ) (r : Reached) (text : List ℕ) : Type 0 where
   pub rans : List Ran
   pub ran : AreRans (meaning_at draw r) rans
   pub is : text ≡ live_text (labels_at r) rans
 
 abbrev pub MayWrite : (ℕ → ℕ → ℕ) → Outcome → List ℕ → Type 0
 MayWrite draw (Refused line why) text = text ≡ refusal_text line why
-MayWrite draw (Taken r) text = TellsOfRun draw r text
+MayWrite draw (Taken r) text = ReportsOfRun draw r text
 MayWrite draw Unjudged text = ⊥
 
--- A front of such a text was written; and where it fell short, not the whole.
-pub record WritesFront (draw : ℕ → ℕ → ℕ) (outcome : Outcome) (old new : Option (List ℕ)) (FellShort : Type 0)
+-- A prefix of such a text was written; and where it fell short, not the whole.
+pub record WritesPrefix (draw : ℕ → ℕ → ℕ) (outcome : Outcome) (old new : Option (List ℕ)) (FellShort : Type 0)
     : Type 0 where
   pub text : List ℕ
   pub may : MayWrite draw outcome text
-  pub front : GainsFront old new text FellShort
+  pub prefix : GainsPrefix old new text FellShort
 
 -- ---- a run, topic by topic
 
@@ -77,7 +77,7 @@ pub record UsageIsOfWords (words : List (List ℕ)) (answer : Status) (SameSourc
 -- The status is of the lines of the input.
 pub record IsOfLines (left : Option (List ℕ)) (answer : Status) : Type 0 where
   -- On `Done` and `Refused` it is what they come to.
-  pub told : IsTold answer → IfSome left (λ input. answer ≡ status_of (outcome_of input))
+  pub reported : IsReported answer → IfSome left (λ input. answer ≡ status_of (outcome_of input))
   -- No line brings octets, so none is foreign.
   pub never_foreign : (line : ℕ) → answer ≢ status.Foreign line
 
@@ -105,22 +105,22 @@ pub record HasCause (words : List (List ℕ)) (left : Option (List ℕ)) (answer
 
 -- ---- the two ends of a run
 
--- The line is refused, and what was written says so; or a front of that alone was written, or nothing.
+-- The line is refused, and what was written says so; or a prefix of that alone was written, or nothing.
 abbrev pub Refuses : ℕ → Refusal → (old new : Option (List ℕ)) → Status → Type 0
 Refuses line why old new (status.Refused at number) =
     (at ≡ line) × (number ≡ refusal_number why) × GainsText old new (refusal_text line why)
-Refuses line why old new status.WriteFault = GainsFront old new (refusal_text line why) ⊤
+Refuses line why old new status.WriteFault = GainsPrefix old new (refusal_text line why) ⊤
 Refuses line why old new status.NoMemory = ⊤
 Refuses line why old new _ = ⊥
 
--- The members that the lines gave ran and are left, and their journals and catalogues were written; or a front of those
--- alone was written, or nothing, and none are left.
+-- The members that the lines gave ran and are left, and their journals and catalogues were written; or a prefix of
+-- those alone was written, or nothing, and none are left.
 pub record RunsTo (draw : ℕ → ℕ → ℕ) (r : Reached) (old new : Option (List ℕ)) (rans : List Ran) : Type 0 where
   pub ran : AreRans (meaning_at draw r) rans
   pub text : GainsText old new (live_text (labels_at r) rans)
 
 abbrev pub Runs : (ℕ → ℕ → ℕ) → Reached → (old new : Option (List ℕ)) → Option (Vec Ran Global) → Status → Type 0
 Runs draw r old new (Some rans) status.Done = RunsTo draw r old new rans.items
-Runs draw r old new None status.WriteFault = WritesFront draw (Taken r) old new ⊤
+Runs draw r old new None status.WriteFault = WritesPrefix draw (Taken r) old new ⊤
 Runs draw r old new None status.NoMemory = ⊤
 Runs draw r old new end _ = ⊥

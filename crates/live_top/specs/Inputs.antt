@@ -4,11 +4,11 @@ use Rattle.std.specs.Io.KnownBytes.{IsAtEnd, Keeps, prepend_known}
 use Rattle.repo_io.specs.Outside.{HasRisen}
 use Rattle.repo_io.specs.declared.read_fault.ReadFault.{ReadFault}
 use Rattle.repo_io.specs.declared.read_fault.ReadFault.TheVariants as fault
-use Rattle.live_top.specs.declared.input.Halt.{Halt}
-use Rattle.live_top.specs.declared.input.Halt.TheVariants as halt
+use Rattle.live_top.specs.declared.input.InputError.{InputError}
+use Rattle.live_top.specs.declared.input.InputError.TheVariants as halt
 use Rattle.live_script.specs.Judging.{Reached, is_of_live}
-use Rattle.live_script.specs.declared.stop.Stop.{Stop}
-use Rattle.live_script.specs.declared.stop.Stop.TheVariants as stop
+use Rattle.live_script.specs.declared.error.LineError.{LineError}
+use Rattle.live_script.specs.declared.error.LineError.TheVariants as error
 use Rattle.live_top.specs.Outcomes.{Outcome, Refused, Taken, outcome_of}
 
 -- The input was read to its end, and all its lines were taken.
@@ -19,24 +19,24 @@ pub record IsRead (left rest : Option (List ℕ)) (r : Reached) : Type 0 where
   pub taken : outcome_of input ≡ Taken r
 
 -- An input that comes to this stops so, unless memory ran out. No source fails meanwhile.
-abbrev pub Stops : Outcome → Halt → Type 0
+abbrev pub Stops : Outcome → InputError → Type 0
 Stops outcome halt.Failed = ⊥
 Stops outcome (halt.Refused line why) = outcome ≡ Refused line why
 Stops outcome halt.NoMemory = ⊤
 
 -- Why nothing runs where the input could not be read.
-abbrev pub halt_of : ReadFault → Halt
+abbrev pub halt_of : ReadFault → InputError
 halt_of fault.Failed = halt.Failed
 halt_of fault.NoMemory = halt.NoMemory
 
 -- Why nothing runs where this line isn't taken.
-abbrev pub halt_at : ℕ → Stop → Halt
-halt_at line (stop.Refused why) = halt.Refused line why
-halt_at line stop.NoMemory = halt.NoMemory
+abbrev pub halt_at : ℕ → LineError → InputError
+halt_at line (error.Refused why) = halt.Refused line why
+halt_at line error.NoMemory = halt.NoMemory
 
 -- A line of the input is the first that is refused, however much of it was read, for a reason that such an input has;
 -- or the source failed, or memory ran out.
-abbrev pub IsHaltedAt : Option (List ℕ) → (old new : ℕ) → Halt → Type 0
+abbrev pub IsHaltedAt : Option (List ℕ) → (old new : ℕ) → InputError → Type 0
 IsHaltedAt left old new halt.Failed = HasRisen old new
 IsHaltedAt left old new (halt.Refused line why) =
     (is_of_live why ≡ true) × IfSome left (λ input. outcome_of input ≡ Refused line why)

@@ -3,7 +3,7 @@ use Rattle.std.specs.Prelude.{ℕ, List, [], ◌∷◌, ◌++◌, map, length, c
 use Rattle.std.specs.List.{flat_map}
 use Rattle.repo_plan.specs.declared.part.Part.{Part}
 use Rattle.repo_catalog.specs.declared.entry.Entry.{Entry}
-use Rattle.repo_holdings.specs.Listed.{alone_catalogue}
+use Rattle.repo_holdings.specs.Listed.{member_catalogue}
 use Rattle.script_report.specs.Texts.{journal_text, journal_publish_text, journal_hear_text, journal_part_text}
 use Rattle.script_report.specs.Texts.{journal_fetcher_text, journal_feed_text, catalogue_text}
 use Rattle.live_member.specs.declared.event.LiveEvent.{LiveEvent}
@@ -68,7 +68,7 @@ unfoldable pub catalogues : List (List ℕ) → List (List ℕ) → List Ran →
 catalogues labels [] rans = []
 catalogues labels (own ∷ others) [] = []
 catalogues labels (own ∷ others) (r ∷ rans) =
-    catalogue_lines labels own (alone_catalogue r.member.store) ++ catalogues labels others rans
+    catalogue_lines labels own (member_catalogue r.member.store) ++ catalogues labels others rans
 
 -- The journals of all members, in order, and then their catalogues.
 abbrev pub live_text : List (List ℕ) → List Ran → List ℕ

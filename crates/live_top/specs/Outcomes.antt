@@ -13,15 +13,15 @@ pub data Outcome : Type 0 where
   Taken : Reached → Outcome
   Unjudged : Outcome
 
-abbrev pub outcome_behind : (Reached → Outcome) → ℕ → Verdict → Outcome
-outcome_behind others line (refused why) = Refused line why
-outcome_behind others line (takes next) = others next
-outcome_behind others line unjudged = Unjudged
+abbrev pub outcome_after : (Reached → Outcome) → ℕ → Verdict → Outcome
+outcome_after others line (refused why) = Refused line why
+outcome_after others line (takes next) = others next
+outcome_after others line unjudged = Unjudged
 
--- What lines come to behind those before them.
+-- What lines come to after those before them.
 unfoldable pub outcome_from : Reached → List (List ℕ) → Outcome
 outcome_from r [] = Taken r
-outcome_from r (line ∷ others) = outcome_behind (λ next. outcome_from next others) (r.lines + 1) (judged r line)
+outcome_from r (line ∷ others) = outcome_after (λ next. outcome_from next others) (r.lines + 1) (judged r line)
 
 abbrev pub outcome_of : List ℕ → Outcome
 outcome_of input = outcome_from nothing_reached (lines input)

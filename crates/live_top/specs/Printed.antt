@@ -1,7 +1,7 @@
 -- What the lines of members that ran tell.
 use Rattle.std.specs.Prelude.{ℕ, ◌≡◌, ◌≢◌, ⊤, List, [], length, Some, slice_get}
 use Rattle.std.specs.List.{All}
-use Rattle.repo_holdings.specs.Listed.{alone_catalogue}
+use Rattle.repo_holdings.specs.Listed.{member_catalogue}
 use Rattle.script_report.specs.Labels.{label_at}
 use Rattle.live_member.specs.Meanings.{Meaning}
 use Rattle.live_member.specs.declared.event.LiveEvent.{LiveEvent}
@@ -34,7 +34,7 @@ abbrev pub HasLabel : Meaning → ℕ → Type 0
 HasLabel t p =
     (labels : List (List ℕ)) → length labels ≡ length t.lists → slice_get labels p ≡ Some (label_at labels p)
 
--- The publisher of a part that an entry tells of is a member: of one that was claimed or lost, and of one whose packet
+-- The publisher of a part that an entry reports is a member: of one that was claimed or lost, and of one whose packet
 -- came, whether it was kept or refused.
 abbrev pub PartIsOfMember : Meaning → LiveEvent → LiveReply → Type 0
 PartIsOfMember t (event.Claim f) (reply.Claimed part) = HasLabel t part.publisher
@@ -45,9 +45,9 @@ PartIsOfMember t _ _ = ⊤
 -- So is that of each entry of a journal, and of each of a catalogue.
 pub record NamesMembers (t : Meaning) (r : Ran) : Type 0 where
   pub journal : All (λ e. PartIsOfMember t e.event e.reply) r.journal.items
-  pub catalogue : All (λ e. HasLabel t e.publisher) (alone_catalogue r.member.store)
+  pub catalogue : All (λ e. HasLabel t e.publisher) (member_catalogue r.member.store)
 
--- Where members ran, the publishers of all parts that their journals tell of, and of what they list, are members of the
+-- Where members ran, the publishers of all parts that their journals report, and of what they list, are members of the
 -- group, so that each is printed by its label.
 abbrev pub PublishersAreMembers : Type 0
 PublishersAreMembers = (t : Meaning) (rans : List Ran) → AreRans t rans → All (NamesMembers t) rans

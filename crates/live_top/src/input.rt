@@ -3,7 +3,7 @@ ghost use Rattle.repo_io.specs.Lines.{lines};
 ghost use Rattle.live_top.specs.Outcomes.{Outcome, outcome_of};
 ghost use Rattle.live_top.specs.Inputs.{IsHaltedAt, IsRead, Stops, halt_at};
 
-use live_script::{Script, Stop};
+use live_script::{LineError, Script};
 use repo_io::{ReadFault, Source, read_up_to};
 use script_lang::SCRIPT_LIMIT;
 use script_report::Refusal;
@@ -11,7 +11,7 @@ use std::alloc::Global;
 
 // Why no group runs.
 #[derive(Clone, Copy, Debug, PartialEq, Eq)]
-pub(crate) enum Halt {
+pub(crate) enum InputError {
     // The source failed.
     Failed,
     // The line, counted from 1, is the first that is refused.
@@ -19,22 +19,22 @@ pub(crate) enum Halt {
     NoMemory,
 }
 
-impl From<ReadFault> for Halt {
+impl From<ReadFault> for InputError {
     ghost use Rattle.std.specs.Prelude.{◌≡◌};
     ghost use Rattle.live_top.specs.Inputs.{halt_of};
 
     ghost from_gives = { λ fault halt. halt ≡ halt_of fault };
 
-    fn from(fault: ReadFault) -> Halt {
+    fn from(fault: ReadFault) -> InputError {
         match fault {
-            ReadFault::Failed => Halt::Failed,
-            ReadFault::NoMemory => Halt::NoMemory,
+            ReadFault::Failed => InputError::Failed,
+            ReadFault::NoMemory => InputError::NoMemory,
         }
     }
 }
 
 // Reads the input to its end and takes its lines. No more is read of one that is too long.
-pub(crate) fn read_script<S: Source>(alloc: Global, source: &mut S) -> Result<Script, Halt>
+pub(crate) fn read_script<S: Source>(alloc: Global, source: &mut S) -> Result<Script, InputError>
     ensures read { IfOk result (IsRead (S.left source.old) (S.left source.new)) }
     ensures halted { IfErr result
         (IsHaltedAt (S.left source.old) (S.faults source.old) (S.faults source.new)) }
@@ -45,35 +45,35 @@ pub(crate) fn read_script<S: Source>(alloc: Global, source: &mut S) -> Result<Sc
 }
 
 // Takes each line of the input.
-fn script_of(alloc: Global, input: &[u8]) -> Result<Script, Halt>
+fn script_of(alloc: Global, input: &[u8]) -> Result<Script, InputError>
     ensures taken { IfOk result (λ script. outcome_of input.now ≡ Outcome.Taken script) }
     ensures halted { IfErr result (Stops (outcome_of input.now)) }
 {
     let mut script = Script::new(alloc);
     let mut rest = input;
     while !rest.is_empty() {
-        let (line, behind) = first_line(rest);
+        let (line, after) = first_line(rest);
         let number = script.next_line();
         script = match script.take(line) {
             Ok(next) => next,
-            Err(stop) => return Err(halt_at(number, stop)),
+            Err(error) => return Err(halt_at(number, error)),
         };
-        rest = behind;
+        rest = after;
     }
     Ok(script)
 }
 
 // Why nothing runs where a line isn't taken.
-fn halt_at(line: u32, stop: Stop) -> Halt
-    ensures { result ≡ halt_at line stop }
+fn halt_at(line: u32, error: LineError) -> InputError
+    ensures { result ≡ halt_at line error }
 {
-    match stop {
-        Stop::Refused(why) => Halt::Refused { line, why },
-        Stop::NoMemory => Halt::NoMemory,
+    match error {
+        LineError::Refused(why) => InputError::Refused { line, why },
+        LineError::NoMemory => InputError::NoMemory,
     }
 }
 
-// The first line, its line feed with it, and what stands behind it.
+// The first line, its line feed with it, and what stands after it.
 fn first_line(octets: &[u8]) -> (&[u8], &[u8])
     requires { octets.now ≢ [] }
     ensures cut { lines octets.now ≡ result.0.now ∷ lines result.1.now }

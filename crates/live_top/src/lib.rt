@@ -6,7 +6,7 @@
 
 mod input;
 mod laws;
-mod telling;
+mod live_report;
 mod top;
 
 pub use laws::{journals_are_printed_whole, publishers_are_members};

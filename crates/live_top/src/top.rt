@@ -3,12 +3,12 @@ ghost use Rattle.live_member.specs.Meanings.{IsWithinLimits, meaning_of};
 ghost use Rattle.live_settle.specs.Rans.{AreRans};
 ghost use Rattle.repo_io.specs.Outside.{HasRisen};
 ghost use Rattle.live_top.specs.Answers.{HasCause, IsOfLines, LeavesRans, Refuses, Runs, SaysRefused, UsageIsOfWords};
-ghost use Rattle.live_top.specs.Answers.{WritesFront, is_live};
+ghost use Rattle.live_top.specs.Answers.{WritesPrefix, is_live};
 ghost use Rattle.script_report.specs.Refusals.{refusal_text};
 ghost use Rattle.live_top.specs.Outcomes.{first_draws, outcome_of};
 
-use crate::input::{Halt, read_script};
-use crate::telling::live_text;
+use crate::input::{InputError, read_script};
+use crate::live_report::live_text;
 use bench_net::Draws;
 use live_group::{Gate, run_group};
 use live_script::{Members, Script};
@@ -62,8 +62,8 @@ pub fn run_live<R: Threads + Wait + Sync, S: Source, K: Sink, D: Draws, G: Gate 
 
     // Whatever comes, nothing was written, or a prefix of a text that such a run may write, and after `WriteFault` not
     // the whole of it.
-    ensures front { IfSome (S.left source.old) (λ input. (sink.new ≡ sink.old)
-        ⊎ WritesFront (D.draw draws.now) (outcome_of input) (K.out sink.old) (K.out sink.new)
+    ensures prefix { IfSome (S.left source.old) (λ input. (sink.new ≡ sink.old)
+        ⊎ WritesPrefix (D.draw draws.now) (outcome_of input) (K.out sink.old) (K.out sink.new)
         (result ≡ Status.WriteFault)) }
 {
     if !is_live(words) {
@@ -71,9 +71,9 @@ pub fn run_live<R: Threads + Wait + Sync, S: Source, K: Sink, D: Draws, G: Gate 
     }
     match read_script(alloc, source) {
         Ok(script) => run_script(rt, alloc, script, sink, draws, gate, end),
-        Err(Halt::Refused { line, why }) => refuse(alloc, line, why, sink),
-        Err(Halt::Failed) => Status::ReadFault,
-        Err(Halt::NoMemory) => Status::NoMemory,
+        Err(InputError::Refused { line, why }) => refuse(alloc, line, why, sink),
+        Err(InputError::Failed) => Status::ReadFault,
+        Err(InputError::NoMemory) => Status::NoMemory,
     }
 }
 

@@ -4,7 +4,7 @@ use Rattle.std.proofs.Common.{refl, sym, ap, subst, Option, Some, None, arith}
 use Rattle.std.specs.Prelude.{Result, Ok, Err, nat_lt, ◌==◌}
 use Rattle.std.proofs.lemmas.Bool.{ltb-false}
 use Rattle.ndn_tlv.specs.declared.tlv_fault.TlvFault.{TlvFault}
-use Rattle.ndn_tlv.specs.declared.order_table.FieldFault.{FieldFault}
+use Rattle.ndn_tlv.specs.declared.order_table.FieldError.{FieldError}
 use Rattle.ndn_tlv.specs.Listing.{gather, ◌>>=◌}
 use Rattle.ndn_tlv.specs.Elements.{Item, elements, AreWithin}
 use Rattle.ndn_tlv.specs.OrderTable.{fields}
@@ -51,7 +51,7 @@ value_fits : (n low high : ℕ) (e : Item) (es : List Item) → high ≤ low + n
 value_fits n low high e es h w = omega (arith, w.0, w.1, w.2, AreWithin-ends e.end high es w.3)
 
 content_fits :
-    (octets : List ℕ) (n low high : ℕ) (items : List (DataField × Item)) (fault : Option FieldFault) (s t : DataSoFar)
+    (octets : List ℕ) (n low high : ℕ) (items : List (DataField × Item)) (fault : Option FieldError) (s t : DataSoFar)
     → AreWithin low high (map (λ x. x.1) items) → high ≤ low + n → length s.content ≤ n
     → gather (with_data_field octets) packet_fault s items fault ≡ Ok t → length t.content ≤ n
 unfolding gather

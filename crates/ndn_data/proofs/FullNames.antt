@@ -14,8 +14,8 @@ one_more (c ∷ name) [] last p one at =
     ap (λ (n : List Component). c ∷ n) (nil_from_length name (omega arith)) ∙ ap (λ (x : Component). x ∷ []) same
 one_more (c ∷ name) (d ∷ of) last p one at =
     let first : c ≡ d = cc in
-    let front : take (length of) name ≡ of = cc in
-    ap (λ (n : List Component). c ∷ n) (one_more name of last front (omega arith) at)
+    let prefix : take (length of) name ≡ of = cc in
+    ap (λ (n : List Component). c ∷ n) (one_more name of last prefix (omega arith) at)
     ∙ ap (λ (x : Component). x ∷ (of ++ last ∷ [])) first
 
 abbrev found : Component → Option Component

@@ -93,17 +93,17 @@ module _ (name key_name : List Component) (content mac : List ℕ) (octets : Lis
   abbrev info : Info
   info = record { signature_type = 4; locator = Some key_name }
 
-  -- what is left to read behind the meta info
-  abbrev behind : List ℕ
-  behind = element 0x15 content ++ (element 0x16 (written_info key_name) ++ element 0x17 mac)
+  -- what is left to read after the meta info
+  abbrev after : List ℕ
+  after = element 0x15 content ++ (element 0x16 (written_info key_name) ++ element 0x17 mac)
 
-  behind_read : (o : ℕ) → length behind ≤ 8800
-      → elements o behind
+  after_read : (o : ℕ) → length after ≤ 8800
+      → elements o after
       ≡ (placed o 0x15 content then
       (placed (o + length (element 0x15 content)) 0x16 (written_info key_name) then
       (placed (o + length (element 0x15 content) + length (element 0x16 (written_info key_name))) 0x17 mac then
       nothing)))
-  behind_read o short =
+  after_read o short =
       let a = length-append (element 0x15 content) (element 0x16 (written_info key_name) ++ element 0x17 mac) in
       let b = length-append (element 0x16 (written_info key_name)) (element 0x17 mac) in
       let c = length-element 0x15 content in
@@ -139,7 +139,7 @@ module _ (name key_name : List Component) (content mac : List ℕ) (octets : Lis
   meta_step o p n short =
       ap (λ (r : Result Meta PacketFault). r >>= λ m. Ok (record (named o) { meta = m })) (meta_again p n short)
 
-  -- the fields behind the meta info
+  -- the fields after the meta info
   others : (o p q r : ℕ) (m : Meta) → length (written_info key_name) < 2 ^ 64
       → gathered (with_data_field octets) packet_fault (record (named o) { meta = m })
       ((Content, placed p 0x15 content) then
@@ -200,7 +200,7 @@ plain_again name key_name content key valid key_valid short =
     let first = element 0x07 (encoding name) in
     let second = element 0x15 content in
     let third = element 0x16 info in
-    let rest = behind name key_name content mac octets valid key_valid in
+    let rest = after name key_name content mac octets valid key_valid in
     let o = (placed 0 0x06 value).value_start in
     let p = o + length first in
     let q = p + length second in
@@ -215,7 +215,7 @@ plain_again name key_name content key valid key_valid short =
     let read =
     ap (elements o) parts
     ∙ followed o 0x07 (encoding name) rest _ (omega arith) (omega arith) (omega arith)
-    (behind_read name key_name content mac octets valid key_valid p (omega arith)) in
+    (after_read name key_name content mac octets valid key_valid p (omega arith)) in
     let take = with_data_field octets in
     let fields_read : data_fields octets (placed 0 0x06 value)
     ≡ Ok (all_fields name key_name content mac octets valid key_valid o r plain) =
@@ -249,7 +249,7 @@ last_again name key_name n content key valid key_valid short =
     let meta = element 0x14 (final_block n) in
     let second = element 0x15 content in
     let third = element 0x16 info in
-    let rest = behind name key_name content mac octets valid key_valid in
+    let rest = after name key_name content mac octets valid key_valid in
     let o = (placed 0 0x06 value).value_start in
     let k = o + length first in
     let p = k + length meta in
@@ -267,7 +267,7 @@ last_again name key_name n content key valid key_valid short =
     let read =
     ap (elements o) parts ∙ followed o 0x07 (encoding name) (meta ++ rest) _ (omega arith) (omega arith) (omega arith)
     (followed k 0x14 (final_block n) rest _ (omega arith) (omega arith) (omega arith)
-    (behind_read name key_name content mac octets valid key_valid p (omega arith))) in
+    (after_read name key_name content mac octets valid key_valid p (omega arith))) in
     let take = with_data_field octets in
     let fields_read : data_fields octets (placed 0 0x06 value)
     ≡ Ok (all_fields name key_name content mac octets valid key_valid o r (last_of n)) =

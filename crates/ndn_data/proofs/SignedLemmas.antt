@@ -19,7 +19,7 @@ use Rattle.ndn_name.specs.declared.fault.PacketFault.TheVariants.{BadField, Miss
 use Rattle.ndn_name.specs.declared.name_fault.NameFault.{NameFault}
 use Rattle.ndn_name.specs.Names.{Component, encoding, name_of}
 use Rattle.ndn_tlv.proofs.Steps.{bind_ok, ok_is}
-use Rattle.ndn_name.proofs.Encodings.{IsOctets-before, IsOctets-behind, name_of-encoded}
+use Rattle.ndn_name.proofs.Encodings.{IsOctets-before, IsOctets-after, name_of-encoded}
 use Rattle.ndn_packet.specs.Contents.{ok_or, name_or, name_in}
 use Rattle.ndn_packet.specs.SignatureInfo.{Info, info_in}
 use Rattle.ndn_packet.proofs.Gathering.{none_before, Stands, elements_stand, keeps}
@@ -80,9 +80,9 @@ Signature = List ℕ × List ℕ
 
 -- the Name element stands in the packet before an offset
 pub record NameStands (whole : List ℕ) (start low : ℕ) (name : Named) : Type 0 where
-  pub behind_start : start ≤ name.0
-  pub behind : List ℕ
-  pub parts : drop name.0 whole ≡ element 0x07 (encoding name.1) ++ behind
+  pub after_start : start ≤ name.0
+  pub after : List ℕ
+  pub parts : drop name.0 whole ≡ element 0x07 (encoding name.1) ++ after
   pub ends : name.0 + length (element 0x07 (encoding name.1)) ≤ low
 
 -- the octets begin with the Name element
@@ -90,11 +90,11 @@ pub record BeginsWith (signed : List ℕ) (name : Named) : Type 0 where
   pub more : List ℕ
   pub parts : signed ≡ element 0x07 (encoding name.1) ++ more
 
--- the SignatureValue stands right behind what it signs
+-- the SignatureValue stands right after what it signs
 pub record SignatureStands (value : List ℕ) (name : Option Named) (g : Signature) : Type 0 where
   pub before : List ℕ
-  pub behind : List ℕ
-  pub parts : value ≡ before ++ (g.1 ++ (element 0x17 g.0 ++ behind))
+  pub after : List ℕ
+  pub parts : value ≡ before ++ (g.1 ++ (element 0x17 g.0 ++ after))
   pub named : IfSome name (BeginsWith g.1)
 
 pub record Keeps (whole : List ℕ) (start from low : ℕ) (s : DataSoFar) : Type 0 where
@@ -107,7 +107,7 @@ name_later : (whole : List ℕ) (start low more : ℕ) (name : Option Named) →
     → IfSome name (NameStands whole start low) → IfSome name (NameStands whole start more)
 name_later whole start low more None h s = tt
 name_later whole start low more (Some n) h s =
-    record { behind_start = s.behind_start; behind = s.behind; parts = s.parts; ends = omega (arith, s.ends) }
+    record { after_start = s.after_start; after = s.after; parts = s.parts; ends = omega (arith, s.ends) }
 
 later : (whole : List ℕ) (start from low more : ℕ) (s : DataSoFar) → low ≤ more
     → Keeps whole start from low s → Keeps whole start from more s
@@ -134,18 +134,18 @@ signs : (whole : List ℕ) (start low : ℕ) (name : Option Named) (e : Item) �
     → e.typ ≡ 0x17 → Stands whole e → IfSome name (NameStands whole start low)
     → SignatureStands (drop start whole) name (e.value, signed_before whole name e.start)
 signs whole start low None e above le typ stands n =
-    let tail : drop e.start whole ≡ element 0x17 e.value ++ stands.behind =
-    stands.parts ∙ ap (λ (t : ℕ). element t e.value ++ stands.behind) typ in
+    let tail : drop e.start whole ≡ element 0x17 e.value ++ stands.after =
+    stands.parts ∙ ap (λ (t : ℕ). element t e.value ++ stands.after) typ in
     let before = slice_range whole start e.start in
     record {
       before = before;
-      behind = stands.behind;
+      after = stands.after;
       parts = drop_split whole start e.start above ∙ ap (λ (r : List ℕ). before ++ r) tail;
       named = tt;
     }
 signs whole start low (Some name) e above le typ stands n =
-    let tail : drop e.start whole ≡ element 0x17 e.value ++ stands.behind =
-    stands.parts ∙ ap (λ (t : ℕ). element t e.value ++ stands.behind) typ in
+    let tail : drop e.start whole ≡ element 0x17 e.value ++ stands.after =
+    stands.parts ∙ ap (λ (t : ℕ). element t e.value ++ stands.after) typ in
     let before = slice_range whole start name.0 in
     let signed = slice_range whole name.0 e.start in
     let first = element 0x07 (encoding name.1) in
@@ -153,17 +153,17 @@ signs whole start low (Some name) e above le typ stands n =
     let long : e.start - name.0 ≡ length first + left = omega (arith, n.ends) in
     record {
       before = before;
-      behind = stands.behind;
+      after = stands.after;
       parts =
-          drop_split whole start name.0 n.behind_start
+          drop_split whole start name.0 n.after_start
           ∙ ap (λ (r : List ℕ). before ++ r)
           (drop_split whole name.0 e.start (omega (arith, n.ends)) ∙ ap (λ (r : List ℕ). signed ++ r) tail);
       named = record {
-        more = take left n.behind;
+        more = take left n.after;
         parts =
             ap (λ (r : List ℕ). take (e.start - name.0) r) n.parts
-            ∙ ap (λ (k : ℕ). take k (first ++ n.behind)) long
-            ∙ take-append-add first n.behind left;
+            ∙ ap (λ (k : ℕ). take k (first ++ n.after)) long
+            ∙ take-append-add first n.after left;
       };
     }
 
@@ -173,8 +173,8 @@ module _ (whole : List ℕ) (start : ℕ) (fits : IsOctets whole) (short : lengt
   octets_of : (e : Item) → Stands whole e → IsOctets e.value
   octets_of e stands =
       let octets = subst IsOctets stands.parts (IsOctets-drop e.start whole fits) in
-      IsOctets-behind (head e.typ (length e.value)) e.value
-      (IsOctets-before (element e.typ e.value) stands.behind octets)
+      IsOctets-after (head e.typ (length e.value)) e.value
+      (IsOctets-before (element e.typ e.value) stands.after octets)
 
   length_of : (e : Item) → Stands whole e → length e.value < 2 ^ 64
   length_of e stands =
@@ -182,7 +182,7 @@ module _ (whole : List ℕ) (start : ℕ) (fits : IsOctets whole) (short : lengt
         arith,
         ap length stands.parts,
         length-drop e.start whole,
-        length-append (element e.typ e.value) stands.behind,
+        length-append (element e.typ e.value) stands.after,
         length-append (head e.typ (length e.value)) e.value,
       )
 
@@ -199,9 +199,9 @@ module _ (whole : List ℕ) (start : ℕ) (fits : IsOctets whole) (short : lengt
       let first : element e.typ e.value ≡ element 0x07 (encoding name) =
       ap (λ (k : ℕ). element k e.value) typ ∙ ap (λ (v : List ℕ). element 0x07 v) spelled in
       let stands_here : NameStands whole start e.end (e.start, name) = record {
-        behind_start = omega (arith, j.above);
-        behind = stands.behind;
-        parts = stands.parts ∙ ap (λ (v : List ℕ). v ++ stands.behind) first;
+        after_start = omega (arith, j.above);
+        after = stands.after;
+        parts = stands.parts ∙ ap (λ (v : List ℕ). v ++ stands.after) first;
         ends = omega (arith, stands.ends, ap length first);
       } in
       subst (Keeps whole start 1 e.end) (ok_is (record s { name = Some (e.start, name) }) t b.2) (record {
@@ -288,7 +288,7 @@ data_gathers octets e s fits short whole at h =
     ap (λ (n : ℕ). drop n octets) start
     ∙ ap (drop (length (head 0x06 (length e.value)))) whole
     ∙ drop_at (head 0x06 (length e.value)) e.value (length (head 0x06 (length e.value))) refl in
-    let octet = IsOctets-behind (head 0x06 (length e.value)) e.value (subst IsOctets whole fits) in
+    let octet = IsOctets-after (head 0x06 (length e.value)) e.value (subst IsOctets whole fits) in
     let read = elements e.value_start e.value in
     let are = elements_are e.value_start e.value octet in
     let stand = elements_stand octets e.value_start e.value read.items read.fault value are in
@@ -356,7 +356,7 @@ data_spelled octets d fits h =
           subst (DataIsSpelled octets) (same (made value s n.0 i.0 g.0) d g.2) (record {
             before = stands.before;
             fields = stands.named.more;
-            behind = stands.behind;
+            after = stands.after;
             packet = whole;
             value = stands.parts;
             signed = stands.named.parts;
@@ -368,16 +368,16 @@ pub signs_of : (value : List ℕ) (name : Option Named) (g : Signature) → leng
     → SignatureStands value name g → Signs value g.1 g.0
 signs_of value name g small stands =
     let last = element 0x17 g.0 in
-    let long = ap length stands.parts ∙ length-append stands.before (g.1 ++ (last ++ stands.behind)) in
-    let inner = length-append g.1 (last ++ stands.behind) in
-    let inmost = length-append last stands.behind in
+    let long = ap length stands.parts ∙ length-append stands.before (g.1 ++ (last ++ stands.after)) in
+    let inner = length-append g.1 (last ++ stands.after) in
+    let inmost = length-append last stands.after in
     record {
       short = omega (arith, long, inner, inmost, length-append (head 0x17 (length g.0)) g.0);
       whole = λ same.
           let before = nil_from_length stands.before (omega (arith, long, inner, inmost)) in
-          let behind = nil_from_length stands.behind (omega (arith, long, inner, inmost)) in
+          let after = nil_from_length stands.after (omega (arith, long, inner, inmost)) in
           stands.parts
-          ∙ ap (λ (b : List ℕ). b ++ (g.1 ++ (last ++ stands.behind))) before
-          ∙ ap (λ (b : List ℕ). g.1 ++ (last ++ b)) behind
+          ∙ ap (λ (b : List ℕ). b ++ (g.1 ++ (last ++ stands.after))) before
+          ∙ ap (λ (b : List ℕ). g.1 ++ (last ++ b)) after
           ∙ ap (λ (b : List ℕ). g.1 ++ b) (append-nil last);
     }

@@ -20,7 +20,7 @@ use Rattle.ndn_data.specs.MetaInfo.{Meta, plain, meta_in, meta}
 use Rattle.ndn_data.specs.declared.data_fields.DataField.{DataField}
 use Rattle.ndn_data.specs.declared.data_fields.DataField.TheVariants.{Name, MetaInfo, Content, SignatureInfo}
 use Rattle.ndn_data.specs.declared.data_fields.DataField.TheVariants.{SignatureValue}
-use Rattle.ndn_data.specs.declared.data_fields.Gathered.{Gathered}
+use Rattle.ndn_data.specs.declared.data_fields.DataFields.{DataFields}
 use Rattle.ndn_data.specs.declared.data_view.DataView.{DataView}
 
 -- The places of the fields of a Data packet.
@@ -101,22 +101,22 @@ abbrev pub data_of : List ℕ → Result Data PacketFault
 data_of octets =
     outer_of types.Data octets >>= λ e. data_fields octets e >>= data_from e.value
 
--- The packet has no octets but those that are signed, and the signature's element behind them.
+-- The packet has no octets but those that are signed, and the signature's element after them.
 abbrev pub IsAllSigned : Data → Type 0
 IsAllSigned d = d.value ≡ d.signed ++ element types.SignatureValue d.signature
 
 -- The octets are the packet's element, whose value has what is signed, from the beginning of the
--- Name on, and right behind that the SignatureValue. What stands around them was passed over.
+-- Name on, and right after that the SignatureValue. What stands around them was passed over.
 pub record DataIsSpelled (octets : List ℕ) (d : Data) : Type 0 where
   pub before : List ℕ
   pub fields : List ℕ
-  pub behind : List ℕ
+  pub after : List ℕ
   pub packet : octets ≡ element types.Data d.value
-  pub value : d.value ≡ before ++ (d.signed ++ (element types.SignatureValue d.signature ++ behind))
+  pub value : d.value ≡ before ++ (d.signed ++ (element types.SignatureValue d.signature ++ after))
   pub signed : d.signed ≡ element types.Name (encoding d.name) ++ fields
 
 -- An Interest of this name asks for the packet of this digest: by its name, by its full name, or
--- where the Interest allows that by a front of the full name.
+-- where the Interest allows that by a prefix of the full name.
 abbrev pub Satisfies : List Component → Bool → List ℕ → Data → Type 0
 Satisfies name can_be_prefix digest d =
     (name ≡ d.name)
@@ -125,7 +125,7 @@ Satisfies name can_be_prefix digest d =
 
 -- ---- the structs without where their octets lie in memory
 
-abbrev pub data_so_far : Gathered → DataSoFar
+abbrev pub data_so_far : DataFields → DataSoFar
 data_so_far g =
     record {
       name = option_map (λ n. (n.0, n.1)) g.name;
@@ -136,7 +136,7 @@ data_so_far g =
     }
 
 -- The name, if there is one, begins by this offset.
-abbrev pub NameStartsBy : ℕ → Gathered → Type 0
+abbrev pub NameStartsBy : ℕ → DataFields → Type 0
 NameStartsBy offset g = IfSome g.name (λ n. n.0 ≤ offset)
 
 abbrev pub data_seen : DataView → Data

@@ -50,7 +50,7 @@ const DATA: [Place<DataField>; 5] = [
 
 // The fields of a packet as far as they have come.
 #[derive(Drop)]
-pub(crate) struct Gathered<'p> {
+pub(crate) struct DataFields<'p> {
     // With its element's offset.
     pub(crate) name: Option<(usize, NameView<'p>)>,
     pub(crate) meta: MetaInfo<'p>,
@@ -60,12 +60,12 @@ pub(crate) struct Gathered<'p> {
     pub(crate) signature: Option<(&'p [u8], &'p [u8])>,
 }
 
-impl<'p> Gathered<'p> {
+impl<'p> DataFields<'p> {
     // The fields of the packet whose octets these are and whose element is `outer`.
     pub(crate) fn of_fields(
         octets: &'p [u8],
         outer: Element<'p>,
-    ) -> Result<Gathered<'p>, PacketFault>
+    ) -> Result<DataFields<'p>, PacketFault>
         requires whole { octets.now ≡ element standard.Data outer.value.now }
         requires placed { item outer ≡ placed 0 standard.Data outer.value.now }
         requires short { length octets.now ≤ packet_limit }
@@ -77,7 +77,7 @@ impl<'p> Gathered<'p> {
     {
         let elements = Reader::new(outer.value, outer.value_start);
         let mut fields = FieldReader::new(elements, &DATA);
-        let mut gathered = Gathered {
+        let mut gathered = DataFields {
             name: None,
             meta: PLAIN,
             content: &[],

@@ -1,6 +1,6 @@
 ghost use Rattle.ndn_data.specs.Signed.{IsShort, IsWholeWhenLong};
 
-use crate::data_fields::Gathered;
+use crate::data_fields::DataFields;
 use crate::full_name::{is_full_name, is_same_name};
 use ndn_name::{ComponentView, Field, NameView, PacketFault};
 use ndn_packet::{element_len, outer_element};
@@ -42,12 +42,12 @@ impl<'p> DataView<'p> {
             (λ fault. data_of octets.now ≡ Err fault) }
     {
         let outer = outer_element(octets, types::DATA)?;
-        let gathered = Gathered::of_fields(octets, outer)?;
+        let gathered = DataFields::of_fields(octets, outer)?;
         DataView::of(outer.value, gathered)
     }
 
     // The packet of this value that the fields make.
-    fn of(value: &'p [u8], gathered: Gathered<'p>) -> Result<DataView<'p>, PacketFault>
+    fn of(value: &'p [u8], gathered: DataFields<'p>) -> Result<DataView<'p>, PacketFault>
         requires { IfSome gathered.signature (λ s. Signs value.now s.1.now s.0.now) }
         ensures { MatchResult result
             (λ d. data_from value.now (data_so_far gathered.entry) ≡ Ok (data_seen d))
@@ -78,7 +78,7 @@ impl<'p> DataView<'p> {
         self.signed
     }
 
-    /// Whether the packet has no octets but those that are signed, and the signature behind them.
+    /// Whether the packet has no octets but those that are signed, and the signature after them.
     pub fn all_signed(&self) -> bool
         ensures { IsTrue result ↔ IsAllSigned (data_seen self.now) }
     {
@@ -87,7 +87,7 @@ impl<'p> DataView<'p> {
     }
 
     /// Whether an Interest of this name asks for the packet, whose digest is given: by its name or
-    /// by its full name, or by a front of the full name, where the Interest allows that
+    /// by its full name, or by a prefix of the full name, where the Interest allows that
     /// (CanBePrefix).
     pub fn satisfies(&self, name: &NameView<'_>, can_be_prefix: bool, digest: &[u8; 32]) -> bool
         ensures { IsTrue result ↔ Satisfies name.now can_be_prefix digest.now (data_seen self.now) }

@@ -1,4 +1,4 @@
--- Lines one behind the other, and the lines of octets as the lines of their elements.
+-- Lines one after the other, and the lines of octets as the lines of their elements.
 use Rattle.std.proofs.Common.{◌≡◌, ℕ, zero, suc, ◌+◌, ◌-◌, ◌<◌, ◌≤◌, if◌then◌else◌, List, [], ◌∷◌, ◌++◌, length}
 use Rattle.std.proofs.Common.{append_assoc, append-nil, Option, Some, None, Err, refl, sym, ap, ◌∙◌, arith}
 use Rattle.ndn_tlv.specs.declared.tlv_fault.TlvFault.{TlvFault}
@@ -97,11 +97,11 @@ pub lines_at-element : (depth offset typ : ℕ) (value rest : List ℕ) → IsEl
 unfolding lines_of
 lines_at-element depth offset typ value rest h =
     let e = placed offset typ value in
-    let behind = offset + length (element typ value) in
+    let after = offset + length (element typ value) in
     lines_at-elements depth offset (element typ value ++ rest)
     ∙ ap (listed_lines depth) (elements-element offset typ value rest h.0 h.1 h.2)
     ∙ ap (λ (x : Lines). element_line depth e before inner_lines lines_at depth e and_then x)
-    (sym (lines_at-elements depth behind rest))
+    (sym (lines_at-elements depth after rest))
 
 pub lines_at-fault : (depth offset : ℕ) (octets : List ℕ) (f : TlvFault) → 0 < length octets
     → element_at offset octets ≡ Err f

@@ -94,13 +94,13 @@ module _ (text : List ℕ) (outer : Readings) (read : Listing Item TlvFault) (wh
   at_nest e rest is nest =
       let depth = length outer in
       let inner = elements e.value_start e.value in
-      let front = text ++ element_line depth e in
+      let prefix = text ++ element_line depth e in
       let here = rw nest at (at_element e rest is) in
       let read = rw (lines_at-elements (depth + 1) e.value_start e.value) at here in
       let deeper : length (outer ++ rest ∷ []) ≡ depth + 1 = omega (arith, length-append outer (rest ∷ [])) in
-      ap (λ (x : Lines). front before x) (pending-deepest (outer ++ rest ∷ []) inner no_lines)
-      ∙ ap (λ (d : ℕ). front before (listed_lines d inner and_then pending 0 (outer ++ rest ∷ []) no_lines)) deeper
-      ∙ ap (λ (x : Lines). front before (listed_lines (depth + 1) inner and_then x))
+      ap (λ (x : Lines). prefix before x) (pending-deepest (outer ++ rest ∷ []) inner no_lines)
+      ∙ ap (λ (d : ℕ). prefix before (listed_lines d inner and_then pending 0 (outer ++ rest ∷ []) no_lines)) deeper
+      ∙ ap (λ (x : Lines). prefix before (listed_lines (depth + 1) inner and_then x))
       (pending-deepest outer rest no_lines)
       ∙ read
 

@@ -18,7 +18,7 @@ indent (suc depth) = indent depth ++ codes "  "
 abbrev pub type_digits : ℕ → List ℕ
 type_digits typ = (if nat_lt typ 16 then codes "0" else []) ++ digits 16 false typ
 
--- The digits of a value that is not read as elements, behind a space, unless it is empty.
+-- The digits of a value that is not read as elements, after a space, unless it is empty.
 abbrev pub value_digits : Item → List ℕ
 value_digits e =
     if has_elements e.typ || length e.value == 0 then [] else codes " " ++ encode_lower e.value
@@ -30,7 +30,7 @@ element_line depth e =
     indent depth ++ type_digits e.typ ++ codes " " ++ type_name e.typ ++ codes " "
     ++ decimal (length e.value) ++ value_digits e ++ codes "\n"
 
--- Lines, and the fault behind the last of them, if one ends them.
+-- Lines, and the fault after the last of them, if one ends them.
 pub record Lines : Type 0 where
   pub text : List ℕ
   pub fault : Option TlvFault
@@ -43,7 +43,7 @@ infixr 10 ◌before◌
 abbrev pub ◌before◌ : List ℕ → Lines → Lines
 text before lines = record { text = text ++ lines.text; fault = lines.fault }
 
--- Lines, and others behind them unless a fault ended them.
+-- Lines, and others after them unless a fault ended them.
 abbrev pub carried_on : List ℕ → Option TlvFault → Lines → Lines
 carried_on text None others = text before others
 carried_on text (Some fault) others = record { text = text; fault = Some fault }

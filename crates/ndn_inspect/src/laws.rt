@@ -9,9 +9,9 @@ ghost use Rattle.ndn_inspect.specs.Inspection.{no_lines, ◌before◌, ◌and_th
 pub fn lines_are_those_of_elements()
     ensures nothing { (depth offset : ℕ) → lines_at depth offset [] ≡ no_lines }
     ensures element { (depth offset typ : ℕ) (value rest : List ℕ) → IsElement typ value
-        → let e = placed offset typ value in let behind = offset + length (element typ value) in
+        → let e = placed offset typ value in let after = offset + length (element typ value) in
         lines_at depth offset (element typ value ++ rest)
-        ≡ (element_line depth e before inner_lines lines_at depth e and_then lines_at depth behind rest) }
+        ≡ (element_line depth e before inner_lines lines_at depth e and_then lines_at depth after rest) }
     ensures fault { (depth offset : ℕ) (octets : List ℕ) (fault : TlvFault)
         → 0 < length octets → element_at offset octets ≡ Err fault
         → lines_at depth offset octets ≡ record { text = []; fault = Some fault } }

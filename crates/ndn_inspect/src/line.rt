@@ -26,7 +26,7 @@ pub(crate) fn put_line(
     Ok(())
 }
 
-// The value's digits behind a space, unless it is read as elements or empty.
+// The value's digits after a space, unless it is read as elements or empty.
 fn put_value(text: &mut String, element: &Element<'_>) -> Result<(), AllocError>
     ensures { OnOk result (string_bytes text.new
         ≡ string_bytes text.old ++ value_digits (item element.now)) }

@@ -147,8 +147,8 @@ plain_again name false valid some short =
 -- ---- a signed Interest
 
 -- octets from a place on
-behind_is : (front tail : List ℕ) (from : ℕ) → from ≡ length front → drop from (front ++ tail) ≡ tail
-behind_is front tail from f = drop_at front tail from (sym f)
+after_is : (prefix tail : List ℕ) (from : ℕ) → from ≡ length prefix → drop from (prefix ++ tail) ≡ tail
+after_is prefix tail from f = drop_at prefix tail from (sym f)
 
 module _ (name key_name : List Component) (parameters key : List ℕ) where
   abbrev portion : List ℕ
@@ -184,7 +184,7 @@ module _ (name key_name : List Component) (parameters key : List ℕ) where
       }
 
   abbrev made : List Component → List ℕ → List ℕ → Result Interest PacketFault
-  made front second third =
+  made prefix second third =
       Ok (record {
         name = full;
         can_be_prefix = false;
@@ -196,19 +196,19 @@ module _ (name key_name : List Component) (parameters key : List ℕ) where
         signature_type = Some 4;
         locator = Some key_name;
         signature = Some mac;
-        signed = Some (encoding front, second);
+        signed = Some (encoding prefix, second);
         digested = Some third;
       })
 
   makes : (p r : ℕ) → slice_range octets p r ≡ portion → drop p octets ≡ digested
       → interest_from octets (all_fields p r) ≡ made name portion digested
-  makes p r signed behind =
+  makes p r signed after =
       ap (λ (b : Bool). cond (not b) (Err (Missing field.ParametersDigest))
       (made (without_last full) (slice_range octets p r) (drop p octets))) (ends-push name (sha256 digested))
       ∙ ap (λ (n : List Component). made n (slice_range octets p r) (drop p octets))
       (without-push name (2, sha256 digested))
       ∙ ap (λ (s : List ℕ). made name s (drop p octets)) signed
-      ∙ ap (made name portion) behind
+      ∙ ap (made name portion) after
 
   pub signed_again : IsName name → IsName key_name → length (written_interest name parameters key_name key) ≤ 8800
       → interest_of (written_interest name parameters key_name key) ≡ Ok (read_signed name parameters key_name key)
@@ -258,13 +258,13 @@ module _ (name key_name : List Component) (parameters key : List ℕ) where
       ∙ gathers take packet_fault t u (InterestSignatureInfo, c) ((InterestSignatureValue, d) then nothing) infos_read
       ∙ gathers take packet_fault u (all_fields p r) (InterestSignatureValue, d) nothing refl
       ∙ gathered-nothing take packet_fault (all_fields p r) in
-      let front = head 0x05 (length value) ++ first in
-      let whole : octets ≡ front ++ digested = sym (append_assoc (head 0x05 (length value)) first digested) in
-      let at : p ≡ length front = omega (arith, length-append (head 0x05 (length value)) first) in
-      let behind : drop p octets ≡ digested = ap (drop p) whole ∙ behind_is front digested p at in
+      let prefix = head 0x05 (length value) ++ first in
+      let whole : octets ≡ prefix ++ digested = sym (append_assoc (head 0x05 (length value)) first digested) in
+      let at : p ≡ length prefix = omega (arith, length-append (head 0x05 (length value)) first) in
+      let after : drop p octets ≡ digested = ap (drop p) whole ∙ after_is prefix digested p at in
       let between : slice_range octets p r ≡ portion =
-      ap (λ (x : List ℕ). slice_range x p r) whole ∙ portion_is front portion last p r at (omega arith) in
-      finished value (all_fields p r) (made name portion digested) short all (makes p r between behind)
+      ap (λ (x : List ℕ). slice_range x p r) whole ∙ portion_is prefix portion last p r at (omega arith) in
+      finished value (all_fields p r) (made name portion digested) short all (makes p r between after)
 
   pub has_digest : last_component full ≡ Some (2, sha256 digested)
   has_digest = last-push name (2, sha256 digested)

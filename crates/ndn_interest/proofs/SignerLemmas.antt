@@ -13,9 +13,9 @@ use Rattle.ndn_name.specs.Names.{Component, encoding}
 use Rattle.ndn_sign.specs.Hmac.{hmac}
 use Rattle.ndn_sign.specs.Ring.{NamedKey, key_number, pair}
 use Rattle.ndn_interest.specs.Interest.{Interest, IsDigested, last_component}
-use Rattle.ndn_interest.specs.declared.signature_refusal.SignatureRefusal.{SignatureRefusal}
-use Rattle.ndn_interest.specs.declared.signature_refusal.SignatureRefusal.TheVariants.{Unsigned, ParamsDigest}
-use Rattle.ndn_interest.specs.declared.signature_refusal.SignatureRefusal.TheVariants.{UnknownKey, BadSignature}
+use Rattle.ndn_interest.specs.declared.signature_error.SignatureError.{SignatureError}
+use Rattle.ndn_interest.specs.declared.signature_error.SignatureError.TheVariants.{Unsigned, ParamsDigest}
+use Rattle.ndn_interest.specs.declared.signature_error.SignatureError.TheVariants.{UnknownKey, BadSignature}
 use Rattle.ndn_interest.specs.Signer.{ensured, is_digest_of, has_its_digest, located_key, is_mac, is_signed, signer_of}
 use Rattle.ndn_interest.specs.WrittenInterest.{written_signed_parameters, written_digested, read_signed}
 use Rattle.ndn_interest.proofs.LastLemmas.{last-push}
@@ -89,13 +89,13 @@ mac_there ring n signed None None e h = absurd cc
 mac_there ring n signed None (Some mac) e h = absurd cc
 mac_there ring n signed (Some pair) signature e h = there ring n pair e
 
-abbrev signs : {A : Type 0} → A → Result A SignatureRefusal
+abbrev signs : {A : Type 0} → A → Result A SignatureError
 signs x = Ok x
 
 signs_is : {A : Type 0} (x y : A) → signs x ≡ signs y → x ≡ y
 signs_is x y e = cc
 
-ensured_true : (b : Bool) (refusal : SignatureRefusal) → (u : Unit {0}) → ensured b refusal ≡ Ok u → b ≡ true
+ensured_true : (b : Bool) (refusal : SignatureError) → (u : Unit {0}) → ensured b refusal ≡ Ok u → b ≡ true
 ensured_true true refusal u e = refl
 ensured_true false refusal u e = absurd cc
 

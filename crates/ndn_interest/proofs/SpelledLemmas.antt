@@ -20,7 +20,7 @@ use Rattle.ndn_name.specs.declared.fault.Field.TheVariants as field
 use Rattle.ndn_name.specs.declared.fault.PacketFault.TheVariants.{Missing}
 use Rattle.ndn_name.specs.Names.{Component, encoding}
 use Rattle.ndn_tlv.proofs.Steps.{bind_ok, ok_is}
-use Rattle.ndn_name.proofs.Encodings.{IsOctets-behind}
+use Rattle.ndn_name.proofs.Encodings.{IsOctets-after}
 use Rattle.ndn_packet.specs.Contents.{ok_or, number_in}
 use Rattle.ndn_packet.specs.Outer.{outer_of}
 use Rattle.ndn_packet.specs.SignatureInfo.{Info, info_in}
@@ -102,19 +102,19 @@ Signature = List ℕ × Option (List ℕ)
 
 -- the element of the parameters stands in the packet before an offset
 pub record ParametersStand (whole : List ℕ) (start low : ℕ) (p : Parameters) : Type 0 where
-  pub behind_start : start ≤ p.0
-  pub behind : List ℕ
-  pub parts : drop p.0 whole ≡ element 0x24 p.1 ++ behind
+  pub after_start : start ≤ p.0
+  pub after : List ℕ
+  pub parts : drop p.0 whole ≡ element 0x24 p.1 ++ after
   pub ends : p.0 + length (element 0x24 p.1) ≤ low
 
 -- a signature covers the octets from the parameters up to it
 pub record Covers (whole : List ℕ) (g : Signature) (p : Parameters) : Type 0 where
   pub portion : List ℕ
   pub more : List ℕ
-  pub behind : List ℕ
+  pub after : List ℕ
   pub is : g.1 ≡ Some portion
   pub begins : portion ≡ element 0x24 p.1 ++ more
-  pub parts : drop p.0 whole ≡ portion ++ (element 0x2e g.0 ++ behind)
+  pub parts : drop p.0 whole ≡ portion ++ (element 0x2e g.0 ++ after)
 
 abbrev pub SignatureStands : List ℕ → Option Parameters → Signature → Type 0
 SignatureStands whole parameters g = MatchOption parameters (g.1 ≡ None) (Covers whole g)
@@ -129,7 +129,7 @@ stands_later : (whole : List ℕ) (start low more : ℕ) (p : Option Parameters)
     → IfSome p (ParametersStand whole start low) → IfSome p (ParametersStand whole start more)
 stands_later whole start low more None h s = tt
 stands_later whole start low more (Some p) h s =
-    record { behind_start = s.behind_start; behind = s.behind; parts = s.parts; ends = omega (arith, s.ends) }
+    record { after_start = s.after_start; after = s.after; parts = s.parts; ends = omega (arith, s.ends) }
 
 later : (whole : List ℕ) (start from low more : ℕ) (s : InterestSoFar) → low ≤ more
     → Keeps whole start from low s → Keeps whole start from more s
@@ -151,21 +151,21 @@ covers : (whole : List ℕ) (start low : ℕ) (p : Option Parameters) (e : Item)
     → SignatureStands whole p (e.value, option_map (λ (q : Parameters). slice_range whole q.0 e.start) p)
 covers whole start low None e le typ stands n = refl
 covers whole start low (Some p) e le typ stands n =
-    let tail : drop e.start whole ≡ element 0x2e e.value ++ stands.behind =
-    stands.parts ∙ ap (λ (t : ℕ). element t e.value ++ stands.behind) typ in
+    let tail : drop e.start whole ≡ element 0x2e e.value ++ stands.after =
+    stands.parts ∙ ap (λ (t : ℕ). element t e.value ++ stands.after) typ in
     let portion = slice_range whole p.0 e.start in
     let first = element 0x24 p.1 in
     let left = e.start - p.0 - length first in
     let long : e.start - p.0 ≡ length first + left = omega (arith, n.ends) in
     record {
       portion = portion;
-      more = take left n.behind;
-      behind = stands.behind;
+      more = take left n.after;
+      after = stands.after;
       is = refl;
       begins =
           ap (λ (r : List ℕ). take (e.start - p.0) r) n.parts
-          ∙ ap (λ (k : ℕ). take k (first ++ n.behind)) long
-          ∙ take-append-add first n.behind left;
+          ∙ ap (λ (k : ℕ). take k (first ++ n.after)) long
+          ∙ take-append-add first n.after left;
       parts = drop_split whole p.0 e.start (omega (arith, n.ends)) ∙ ap (λ (r : List ℕ). portion ++ r) tail;
     }
 
@@ -178,9 +178,9 @@ module _ (whole : List ℕ) (start : ℕ) where
       → with_interest_field whole s (ApplicationParameters, e) ≡ Ok t → Keeps whole start 8 e.end t
   with_parameters from low s t e le typ j above end stands h =
       let here : ParametersStand whole start e.end (e.start, e.value) = record {
-        behind_start = omega (arith, j.above);
-        behind = stands.behind;
-        parts = stands.parts ∙ ap (λ (k : ℕ). element k e.value ++ stands.behind) typ;
+        after_start = omega (arith, j.above);
+        after = stands.after;
+        parts = stands.parts ∙ ap (λ (k : ℕ). element k e.value ++ stands.after) typ;
         ends = omega (arith, stands.ends, ap (λ (k : ℕ). length (element k e.value)) typ);
       } in
       subst (Keeps whole start 8 e.end) (ok_is (record s { parameters = Some (e.start, e.value) }) t h) (record {
@@ -288,7 +288,7 @@ interest_gathers octets e s fits whole at h =
     ap (λ (n : ℕ). drop n octets) start
     ∙ ap (drop (length (head 0x05 (length e.value)))) whole
     ∙ drop_at (head 0x05 (length e.value)) e.value (length (head 0x05 (length e.value))) refl in
-    let octet = IsOctets-behind (head 0x05 (length e.value)) e.value (subst IsOctets whole fits) in
+    let octet = IsOctets-after (head 0x05 (length e.value)) e.value (subst IsOctets whole fits) in
     let read = elements e.value_start e.value in
     let are = elements_are e.value_start e.value octet in
     let stand = elements_stand octets e.value_start e.value read.items read.fault value are in
@@ -313,9 +313,9 @@ digests octets value start low i (Some p) at is n =
     let before = slice_range octets start p.0 in
     record {
       before = before;
-      behind = n.behind;
+      after = n.after;
       digested = is ∙ ap (λ (d : List ℕ). Some d) n.parts;
-      parts = sym at ∙ drop_split octets start p.0 n.behind_start ∙ ap (λ (r : List ℕ). before ++ r) n.parts;
+      parts = sym at ∙ drop_split octets start p.0 n.after_start ∙ ap (λ (r : List ℕ). before ++ r) n.parts;
     }
 
 abbrev pair : ℕ → List ℕ → Component
@@ -338,12 +338,12 @@ signs octets i name (Some p) (Some x) (Some g) a b c d h n =
     split_at name (length name - 1) last (omega (arith, within)) f.1
     ∙ ap (λ (t : ℕ). without_last name ++ pair t last.1 ∷ []) f.2 in
     let here : IsSignedUpTo i (encoding (without_last name), n.portion) = record {
-      front = without_last name;
+      prefix = without_last name;
       digest = last.1;
       parameters = p.1;
       signature = g.0;
       fields = n.more;
-      behind = n.behind;
+      after = n.after;
       name = a ∙ ends;
       has_parameters = b;
       has_signature = c;

@@ -29,7 +29,7 @@ use Rattle.ndn_interest.specs.declared.interest_fields.InterestField.TheVariants
 use Rattle.ndn_interest.specs.declared.interest_fields.InterestField.TheVariants.{ApplicationParameters}
 use Rattle.ndn_interest.specs.declared.interest_fields.InterestField.TheVariants.{InterestSignatureInfo}
 use Rattle.ndn_interest.specs.declared.interest_fields.InterestField.TheVariants.{InterestSignatureValue}
-use Rattle.ndn_interest.specs.declared.interest_fields.Gathered.{Gathered}
+use Rattle.ndn_interest.specs.declared.interest_fields.InterestFields.{InterestFields}
 use Rattle.ndn_interest.specs.declared.interest_view.InterestView.{InterestView}
 
 -- The places of the fields of an Interest.
@@ -209,25 +209,25 @@ IsDigested i =
 -- that and of all that follows it.
 pub record IsDigestedFrom (value : List ℕ) (i : Interest) (parameters : List ℕ) : Type 0 where
   pub before : List ℕ
-  pub behind : List ℕ
-  pub digested : i.digested ≡ Some (element types.ApplicationParameters parameters ++ behind)
-  pub parts : value ≡ before ++ (element types.ApplicationParameters parameters ++ behind)
+  pub after : List ℕ
+  pub digested : i.digested ≡ Some (element types.ApplicationParameters parameters ++ after)
+  pub parts : value ≡ before ++ (element types.ApplicationParameters parameters ++ after)
 
 -- The two pieces of what is signed: the name without the parameters digest at its end, and the
 -- element of the parameters with what stands between that and the element of the signature.
 pub record IsSignedUpTo (i : Interest) (pieces : List ℕ × List ℕ) : Type 0 where
-  pub front : List Component
+  pub prefix : List Component
   pub digest : List ℕ
   pub parameters : List ℕ
   pub signature : List ℕ
   pub fields : List ℕ
-  pub behind : List ℕ
-  pub name : i.name ≡ front ++ (types.ParametersSha256DigestComponent, digest) ∷ []
+  pub after : List ℕ
+  pub name : i.name ≡ prefix ++ (types.ParametersSha256DigestComponent, digest) ∷ []
   pub has_parameters : i.parameters ≡ Some parameters
   pub has_signature : i.signature ≡ Some signature
-  pub first : pieces.0 ≡ encoding front
+  pub first : pieces.0 ≡ encoding prefix
   pub second : pieces.1 ≡ element types.ApplicationParameters parameters ++ fields
-  pub digested : i.digested ≡ Some (pieces.1 ++ (element types.InterestSignatureValue signature ++ behind))
+  pub digested : i.digested ≡ Some (pieces.1 ++ (element types.InterestSignatureValue signature ++ after))
 
 -- The octets are the packet's element, in which parameters and signature stand where they are
 -- digested and signed.
@@ -243,7 +243,7 @@ abbrev pub signature_parts : Option (Bor (List ℕ) × Option (Bor (List ℕ)))
     → Option (List ℕ × Option (List ℕ))
 signature_parts signature = option_map (λ s. (s.0.now, option_map (λ o. o.now) s.1)) signature
 
-abbrev pub interest_so_far : Gathered → InterestSoFar
+abbrev pub interest_so_far : InterestFields → InterestSoFar
 interest_so_far g =
     record {
       name = g.name;
@@ -258,7 +258,7 @@ interest_so_far g =
     }
 
 -- The parameters, if there are any, begin by this offset.
-abbrev pub ParametersStartBy : ℕ → Gathered → Type 0
+abbrev pub ParametersStartBy : ℕ → InterestFields → Type 0
 ParametersStartBy offset g = IfSome g.parameters (λ p. p.0 ≤ offset)
 
 abbrev pub interest_seen : InterestView → Interest

@@ -12,9 +12,9 @@ use Rattle.ndn_sign.specs.Hmac.{hmac}
 use Rattle.ndn_sign.specs.Ring.{NamedKey, key_number}
 use Rattle.ndn_packet.specs.SignatureInfo.{SignatureHmacWithSha256}
 use Rattle.ndn_interest.specs.Interest.{Interest, last_component}
-use Rattle.ndn_interest.specs.declared.signature_refusal.SignatureRefusal.{SignatureRefusal}
-use Rattle.ndn_interest.specs.declared.signature_refusal.SignatureRefusal.TheVariants.{Unsigned, ParamsDigest}
-use Rattle.ndn_interest.specs.declared.signature_refusal.SignatureRefusal.TheVariants.{UnknownKey, BadSignature}
+use Rattle.ndn_interest.specs.declared.signature_error.SignatureError.{SignatureError}
+use Rattle.ndn_interest.specs.declared.signature_error.SignatureError.TheVariants.{Unsigned, ParamsDigest}
+use Rattle.ndn_interest.specs.declared.signature_error.SignatureError.TheVariants.{UnknownKey, BadSignature}
 
 -- A refusal, where a test fails.
 abbrev pub ensured : {E : Type 0} → Bool → E → Result (Unit {0}) E
@@ -44,7 +44,7 @@ abbrev pub is_signed : List NamedKey → ℕ → List ℕ × List ℕ → Intere
 is_signed ring signer signed i = option_map_or (is_mac signed (slice_get ring signer)) i.signature false
 
 -- The number of the key that signed an Interest, or the first refusal.
-abbrev pub signer_of : List NamedKey → Interest → Result ℕ SignatureRefusal
+abbrev pub signer_of : List NamedKey → Interest → Result ℕ SignatureError
 signer_of ring i = do
   signed ← ok_or i.signed Unsigned
   _ ← ensured (has_its_digest i) ParamsDigest

@@ -24,17 +24,17 @@ written_signed_parameters parameters key_name =
     element types.ApplicationParameters parameters
     ++ element types.InterestSignatureInfo (written_info key_name)
 
--- The same, and behind them the mac as the signature: what the parameters digest is of.
+-- The same, and after them the mac as the signature: what the parameters digest is of.
 abbrev pub written_digested : List Component → List ℕ → List Component → List ℕ → List ℕ
 written_digested name parameters key_name key =
     let portion = written_signed_parameters parameters key_name in
     portion ++ element types.InterestSignatureValue (hmac key (encoding name ++ portion))
 
--- A name with the digest of these octets behind it as its parameters digest.
+-- A name with the digest of these octets after it as its parameters digest.
 abbrev pub with_digest_of : List ℕ → List Component → List Component
 with_digest_of digested name = name ++ (types.ParametersSha256DigestComponent, sha256 digested) ∷ []
 
--- The Interest: the name with the parameters digest behind it, and what that is of.
+-- The Interest: the name with the parameters digest after it, and what that is of.
 abbrev pub with_digest : List Component → List ℕ → List ℕ
 with_digest name digested =
     element types.Interest
@@ -62,7 +62,7 @@ read_plain name can_be_prefix =
       digested = None;
     }
 
--- What a signed Interest is read as. Its name has the parameters digest behind it, and its
+-- What a signed Interest is read as. Its name has the parameters digest after it, and its
 -- signature is the mac of what is signed: the name without that, and what stands before the
 -- signature.
 abbrev pub read_signed : List Component → List ℕ → List Component → List ℕ → Interest

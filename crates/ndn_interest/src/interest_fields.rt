@@ -76,7 +76,7 @@ const INTEREST: [Place<InterestField>; 10] = [
 
 // The fields of an Interest as far as they have come.
 #[derive(Drop)]
-pub(crate) struct Gathered<'p> {
+pub(crate) struct InterestFields<'p> {
     pub(crate) name: Option<NameView<'p>>,
     pub(crate) can_be_prefix: bool,
     pub(crate) must_be_fresh: bool,
@@ -90,12 +90,12 @@ pub(crate) struct Gathered<'p> {
     pub(crate) signature: Option<(&'p [u8], Option<&'p [u8]>)>,
 }
 
-impl<'p> Gathered<'p> {
+impl<'p> InterestFields<'p> {
     // The fields of the packet whose octets these are and whose element is `outer`.
     pub(crate) fn of_fields(
         octets: &'p [u8],
         outer: Element<'p>,
-    ) -> Result<Gathered<'p>, PacketFault>
+    ) -> Result<InterestFields<'p>, PacketFault>
         requires { outer.value_start + length outer.value.now ≤ length octets.now }
         ensures read { MatchResult result
             (λ g. interest_fields octets.now (item outer.entry) ≡ Ok (interest_so_far g))
@@ -104,7 +104,7 @@ impl<'p> Gathered<'p> {
     {
         let elements = Reader::new(outer.value, outer.value_start);
         let mut fields = FieldReader::new(elements, &INTEREST);
-        let mut gathered = Gathered {
+        let mut gathered = InterestFields {
             name: None,
             can_be_prefix: false,
             must_be_fresh: false,

@@ -5,7 +5,7 @@ ghost use Rattle.ndn_packet.specs.SignatureInfo.{info};
 ghost use Rattle.ndn_interest.specs.Interest.{interest_of, interest_from, ends_in_digest, signed_of, signature_parts};
 ghost use Rattle.ndn_interest.specs.Interest.{interest_seen, interest_so_far, ParametersStartBy, IsDigested};
 
-use crate::interest_fields::Gathered;
+use crate::interest_fields::InterestFields;
 use crate::parameters_digest::{before_digest, ends_in_digest, last_component};
 use ndn_name::{Field, NameView, PacketFault};
 use ndn_packet::{SignatureInfo, outer_element};
@@ -45,12 +45,12 @@ impl<'p> InterestView<'p> {
             (λ fault. interest_of octets.now ≡ Err fault) }
     {
         let outer = outer_element(octets, types::INTEREST)?;
-        let gathered = Gathered::of_fields(octets, outer)?;
+        let gathered = InterestFields::of_fields(octets, outer)?;
         InterestView::of(octets, gathered)
     }
 
     // The Interest of these octets that the fields make.
-    fn of(octets: &'p [u8], gathered: Gathered<'p>) -> Result<InterestView<'p>, PacketFault>
+    fn of(octets: &'p [u8], gathered: InterestFields<'p>) -> Result<InterestView<'p>, PacketFault>
         requires { ParametersStartBy (length octets.now) gathered }
         ensures { MatchResult result
             (λ i. interest_from octets.now (interest_so_far gathered.entry) ≡ Ok (interest_seen i))

@@ -9,7 +9,7 @@ mod interest_fields;
 mod interest_view;
 mod laws;
 mod parameters_digest;
-mod signature_refusal;
+mod signature_error;
 mod signer;
 mod write;
 
@@ -19,6 +19,6 @@ pub use laws::{
     written_interest_has_its_digest, written_interest_has_its_signer, written_interest_is_read,
     written_plain_is_read,
 };
-pub use signature_refusal::SignatureRefusal;
+pub use signature_error::SignatureError;
 pub use signer::signer_of;
 pub use write::{write_plain, write_signed};

@@ -54,7 +54,7 @@ fn put_flag(writer: &mut Writer, can_be_prefix: bool) -> Result<(), AllocError>
     Ok(())
 }
 
-/// Writes an Interest of this name with the parameters digest behind it, with these parameters,
+/// Writes an Interest of this name with the parameters digest after it, with these parameters,
 /// signed by HMAC with SHA-256 under the key of that name.
 ///
 /// The number of octets that is too large is given up to the greatest `usize`.

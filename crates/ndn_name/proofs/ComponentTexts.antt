@@ -21,10 +21,10 @@ use Rattle.ndn_name.specs.Uri.{version, sequence}
 use Rattle.ndn_name.specs.UriVerdict.{LeavesLanguage}
 use Rattle.ndn_name.specs.UriReading.{FailsIn, HasNoHead, IsHead, IsTail, LacksOctet, ReadsText}
 use Rattle.ndn_name.proofs.Escapes.{escaped-append, escaped-one}
-use Rattle.ndn_name.proofs.Values.{IsSomeValueText, value-other, letter_behind}
+use Rattle.ndn_name.proofs.Values.{IsSomeValueText, value-other, letter_after}
 use Rattle.ndn_name.proofs.Separators.{lacks-append, lacks-test, lacks-separator, split-same, cut}
 use Rattle.ndn_name.proofs.Heads.{head-unreserved, head-lacks, head-same, all_digits_unreserved}
-use Rattle.ndn_name.proofs.LeavesLemmas.{Leaves-behind}
+use Rattle.ndn_name.proofs.LeavesLemmas.{Leaves-after}
 
 abbrev pub IsSomeComponent : List ℕ → Type 0
 IsSomeComponent text = (c : Component) × IsComponentText c text
@@ -209,7 +209,7 @@ tail_leaves : (form : Form) (head tail : List ℕ) (k : ℕ) → IsHead form hea
 tail_leaves form head tail k is_head h =
     let P : List ℕ → Type 0 = λ t. LeavesLanguage IsSomeComponent t (length (head ++ 61 ∷ []) + k) in
     subst P (regroup tail)
-    (Leaves-behind (λ t. (c : Component) × IsTail form c t) IsSomeComponent (head ++ 61 ∷ []) tail k
+    (Leaves-after (λ t. (c : Component) × IsTail form c t) IsSomeComponent (head ++ 61 ∷ []) tail k
     (λ t m. (m.0, subst (IsComponentText m.0) (sym (regroup t)) (component-headed form m.0 head t is_head m.1)))
     (λ t m. (m.0, component-tail form m.0 head t is_head (subst (IsComponentText m.0) (regroup t) m.1))) h) where
       regroup : (t : List ℕ) → (head ++ 61 ∷ []) ++ t ≡ headed head t
@@ -241,7 +241,7 @@ head_value form head h =
     let whole =
     escaped-append head (97 ∷ []) head (97 ∷ []) (head_escaped head (head-unreserved form head h))
     (escaped-one 97 (97 ∷ []) (plain refl refl)) in
-    (head ++ 97 ∷ [], value-other (head ++ 97 ∷ []) (head ++ 97 ∷ []) whole (letter_behind head))
+    (head ++ 97 ∷ [], value-other (head ++ 97 ∷ []) (head ++ 97 ∷ []) whole (letter_after head))
 
 plain_leaves : (text : List ℕ) (k : ℕ) → HasNoHead text → LeavesLanguage IsSomeValueText text k
     → LeavesLanguage IsSomeComponent text k

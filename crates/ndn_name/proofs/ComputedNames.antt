@@ -17,7 +17,7 @@ use Rattle.ndn_name.specs.UriVerdict.{HasUri}
 use Rattle.ndn_name.specs.UriReading.{HasNoHead, IsHead, IsTail, LacksOctet, tail_of_text}
 use Rattle.ndn_name.specs.UriText.{unescaped, value_of_text, digest_of_text, decimal_of_text, number_of_text, typed}
 use Rattle.ndn_name.specs.UriText.{typed_by, component_of_parts, cut_at, component_by, component_of_text}
-use Rattle.ndn_name.specs.UriText.{component_in_front, components_of_texts, name_of_path, behind_word, without_scheme}
+use Rattle.ndn_name.specs.UriText.{component_before, components_of_texts, name_of_path, after_word, without_scheme}
 use Rattle.ndn_name.specs.UriText.{name_of_text}
 use Rattle.ndn_name.proofs.Heads.{is_word, head-lacks, head-same}
 use Rattle.ndn_name.proofs.ComponentTexts.{component-cases, component-headed, component-lacks, no_equals}
@@ -28,45 +28,45 @@ use Rattle.ndn_name.proofs.ComputedValues.{is_digest_text, decimal_is, is_decima
 -- ---- what stands before an equals sign
 
 -- the first separator of a text
-pub cut_at-splits : (s : ℕ) (front text : List ℕ) → LacksOctet s front
-    → cut_at s (front ++ s ∷ text) ≡ Some (front, text)
+pub cut_at-splits : (s : ℕ) (prefix text : List ℕ) → LacksOctet s prefix
+    → cut_at s (prefix ++ s ∷ text) ≡ Some (prefix, text)
 unfolding cut_at
 cut_at-splits s [] text h = rw (eq-eqb s s refl) refl
-cut_at-splits s (c ∷ front) text h = rw (ne_eqb c s h.0, cut_at-splits s front text h.1) refl
+cut_at-splits s (c ∷ prefix) text h = rw (ne_eqb c s h.0, cut_at-splits s prefix text h.1) refl
 
 -- what is cut
-pub record IsCut (s : ℕ) (text front rest : List ℕ) : Type 0 where
-  pub split : text ≡ front ++ s ∷ rest
-  pub lacks : LacksOctet s front
+pub record IsCut (s : ℕ) (text prefix rest : List ℕ) : Type 0 where
+  pub split : text ≡ prefix ++ s ∷ rest
+  pub lacks : LacksOctet s prefix
 
-cut_step : (s c : ℕ) (text front rest : List ℕ)
+cut_step : (s c : ℕ) (text prefix rest : List ℕ)
     → ((f r : List ℕ) → cut_at s text ≡ Some (f, r) → IsCut s text f r)
-    → cut_at s (c ∷ text) ≡ Some (front, rest) → IsCut s (c ∷ text) front rest
+    → cut_at s (c ∷ text) ≡ Some (prefix, rest) → IsCut s (c ∷ text) prefix rest
 unfolding cut_at
-cut_step s c text front rest behind_it h = by_test (eqb c s) refl where
-  by_test : (b : Bool) → eqb c s ≡ b → IsCut s (c ∷ text) front rest
+cut_step s c text prefix rest after_it h = by_test (eqb c s) refl where
+  by_test : (b : Bool) → eqb c s ≡ b → IsCut s (c ∷ text) prefix rest
   by_test true e =
-      let same = some_pair_parts [] front text rest (rw e at h) in
+      let same = some_pair_parts [] prefix text rest (rw e at h) in
       record {
         split = ap (λ (n : ℕ). n ∷ text) (eqb-true c s e) ∙ ap (λ (t : List ℕ). s ∷ t) same.1
             ∙ ap (λ (f : List ℕ). f ++ s ∷ rest) same.0;
         lacks = subst (λ (f : List ℕ). LacksOctet s f) same.0 tt;
       }
   by_test false e =
-      let m = option_map_some (λ (p : List ℕ × List ℕ). (c ∷ p.0, p.1)) (cut_at s text) (front, rest) (rw e at h) in
-      let inner = behind_it m.0.0 m.0.1 m.1 in
-      let front_is : c ∷ m.0.0 ≡ front = ap (λ (p : List ℕ × List ℕ). p.0) m.2 in
+      let m = option_map_some (λ (p : List ℕ × List ℕ). (c ∷ p.0, p.1)) (cut_at s text) (prefix, rest) (rw e at h) in
+      let inner = after_it m.0.0 m.0.1 m.1 in
+      let prefix_is : c ∷ m.0.0 ≡ prefix = ap (λ (p : List ℕ × List ℕ). p.0) m.2 in
       let rest_is : m.0.1 ≡ rest = ap (λ (p : List ℕ × List ℕ). p.1) m.2 in
       record {
-        split = ap (λ (t : List ℕ). c ∷ t) inner.split ∙ ap (λ (f : List ℕ). f ++ s ∷ m.0.1) front_is
-            ∙ ap (λ (r : List ℕ). front ++ s ∷ r) rest_is;
-        lacks = subst (λ (f : List ℕ). LacksOctet s f) front_is (eqb-false c s e, inner.lacks);
+        split = ap (λ (t : List ℕ). c ∷ t) inner.split ∙ ap (λ (f : List ℕ). f ++ s ∷ m.0.1) prefix_is
+            ∙ ap (λ (r : List ℕ). prefix ++ s ∷ r) rest_is;
+        lacks = subst (λ (f : List ℕ). LacksOctet s f) prefix_is (eqb-false c s e, inner.lacks);
       }
 
-pub is_cut : (s : ℕ) (text front rest : List ℕ) → cut_at s text ≡ Some (front, rest) → IsCut s text front rest
+pub is_cut : (s : ℕ) (text prefix rest : List ℕ) → cut_at s text ≡ Some (prefix, rest) → IsCut s text prefix rest
 unfolding cut_at
-is_cut s [] front rest h = absurd (none-some (front, rest) h)
-is_cut s (c ∷ text) front rest h = cut_step s c text front rest (λ f r k. is_cut s text f r k) h
+is_cut s [] prefix rest h = absurd (none-some (prefix, rest) h)
+is_cut s (c ∷ text) prefix rest h = cut_step s c text prefix rest (λ f r k. is_cut s text f r k) h
 
 -- ---- components
 
@@ -221,14 +221,14 @@ is_component text c h = by_cut (cut_at 61 text) refl where
 abbrev pub is_slash : ℕ → Bool
 is_slash o = eqb o 47
 
-pub split-lacks : (front : List ℕ) → LacksOctet 47 front → slice_split is_slash front ≡ front ∷ []
+pub split-lacks : (prefix : List ℕ) → LacksOctet 47 prefix → slice_split is_slash prefix ≡ prefix ∷ []
 split-lacks [] h = refl
-split-lacks (c ∷ front) h = rw (ne_eqb c 47 h.0, split-lacks front h.1) refl
+split-lacks (c ∷ prefix) h = rw (ne_eqb c 47 h.0, split-lacks prefix h.1) refl
 
-pub split-slash : (front rest : List ℕ) → LacksOctet 47 front
-    → slice_split is_slash (front ++ 47 ∷ rest) ≡ front ∷ slice_split is_slash rest
+pub split-slash : (prefix rest : List ℕ) → LacksOctet 47 prefix
+    → slice_split is_slash (prefix ++ 47 ∷ rest) ≡ prefix ∷ slice_split is_slash rest
 split-slash [] rest h = refl
-split-slash (c ∷ front) rest h = rw (ne_eqb c 47 h.0, split-slash front rest h.1) refl
+split-slash (c ∷ prefix) rest h = rw (ne_eqb c 47 h.0, split-slash prefix rest h.1) refl
 
 abbrev some_name : List Component → Option (List Component)
 some_name name = Some name
@@ -256,14 +256,14 @@ path_is (q ∷ parts) at part path h =
     let whole = h.2 in
     let split : path ≡ h.0 ++ h.1 = cc in
     let others = h.5 in
-    let behind_it = others.0 ++ others.1 in
-    let there : IsPath (at + 1 + length h.0) (q ∷ parts) (47 ∷ behind_it) =
+    let after_it = others.0 ++ others.1 in
+    let there : IsPath (at + 1 + length h.0) (q ∷ parts) (47 ∷ after_it) =
     subst (λ (t : List ℕ). IsPath (at + 1 + length h.0) (q ∷ parts) t) others.2 others in
-    let parted : path ≡ h.0 ++ 47 ∷ behind_it = split ∙ ap (λ (t : List ℕ). h.0 ++ t) others.2 in
+    let parted : path ≡ h.0 ++ 47 ∷ after_it = split ∙ ap (λ (t : List ℕ). h.0 ++ t) others.2 in
     ap (λ (t : List ℕ). components_of_texts (slice_split is_slash t)) parted
-    ∙ ap components_of_texts (split-slash h.0 behind_it (component-lacks part.1 h.0 h.4))
-    ∙ texts-cons part.1 (name_of_parts (q ∷ parts)) h.0 (slice_split is_slash behind_it) (component_is part.1 h.0 h.4)
-    (path_is parts (at + 1 + length h.0) q behind_it there)
+    ∙ ap components_of_texts (split-slash h.0 after_it (component-lacks part.1 h.0 h.4))
+    ∙ texts-cons part.1 (name_of_parts (q ∷ parts)) h.0 (slice_split is_slash after_it) (component_is part.1 h.0 h.4)
+    (path_is parts (at + 1 + length h.0) q after_it there)
 
 -- texts with a slash before each
 abbrev slashed : List (List ℕ) → List ℕ
@@ -274,8 +274,8 @@ slashed-first : (c : ℕ) (texts : List (List ℕ)) (path : List ℕ) → slashe
     → slashed (onto_first c texts) ≡ 47 ∷ c ∷ path
 slashed-first c [] path h = absurd cc
 slashed-first c (text ∷ texts) path h =
-    let behind_it : text ++ slashed texts ≡ path = cc in
-    ap (λ (t : List ℕ). 47 ∷ c ∷ t) behind_it
+    let after_it : text ++ slashed texts ≡ path = cc in
+    ap (λ (t : List ℕ). 47 ∷ c ∷ t) after_it
 
 slashed-split : (path : List ℕ) → slashed (slice_split is_slash path) ≡ 47 ∷ path
 slashed-split [] = refl
@@ -300,7 +300,7 @@ texts-named : (texts : List (List ℕ)) (at : ℕ) (name : List Component) → c
 unfolding components_of_texts
 texts-named [] at name h = record { parts = []; is = refl; name_is = sym (same_Some [] name h) }
 texts-named (text ∷ texts) at name h =
-    option_and_then_some (λ (c : Component). component_in_front c (components_of_texts texts)) (component_of_text text)
+    option_and_then_some (λ (c : Component). component_before c (components_of_texts texts)) (component_of_text text)
     name h
     (λ c e k.
     let m = option_map_some (λ (others : List Component). c ∷ others) (components_of_texts texts) name k in
@@ -324,23 +324,23 @@ path-named path at name h =
 
 -- ---- the front of a text
 
-pub behind-append : (word path : List ℕ) → behind_word word (word ++ path) ≡ Some path
-unfolding behind_word
-behind-append [] path = refl
-behind-append (c ∷ word) path = rw (eq-eqb c c refl) (behind-append word path)
+pub rest-append : (word path : List ℕ) → after_word word (word ++ path) ≡ Some path
+unfolding after_word
+rest-append [] path = refl
+rest-append (c ∷ word) path = rw (eq-eqb c c refl) (rest-append word path)
 
-pub is_behind : (word text path : List ℕ) → behind_word word text ≡ Some path → text ≡ word ++ path
-unfolding behind_word
-is_behind [] text path h = same_Some text path h
-is_behind (c ∷ word) [] path h = absurd (none-some path h)
-is_behind (c ∷ word) (d ∷ text) path h =
-    either (eqb c d) (behind_word word text) None path h
-    (λ e k. ap (λ (n : ℕ). n ∷ text) (sym (eqb-true c d e)) ∙ ap (λ (t : List ℕ). c ∷ t) (is_behind word text path k))
+pub is_after : (word text path : List ℕ) → after_word word text ≡ Some path → text ≡ word ++ path
+unfolding after_word
+is_after [] text path h = same_Some text path h
+is_after (c ∷ word) [] path h = absurd (none-some path h)
+is_after (c ∷ word) (d ∷ text) path h =
+    either (eqb c d) (after_word word text) None path h
+    (λ e k. ap (λ (n : ℕ). n ∷ text) (sym (eqb-true c d e)) ∙ ap (λ (t : List ℕ). c ∷ t) (is_after word text path k))
     (λ k. absurd (none-some path k))
 
--- the name behind the scheme
+-- the name after the scheme
 abbrev pub rooted_name : List ℕ → Option (List Component)
-rooted_name text = option_and_then name_of_path (behind_word (codes "/") text)
+rooted_name text = option_and_then name_of_path (after_word (codes "/") text)
 
 no_component : (c : Component) → component_of_text [] ≡ Some c → ⊥
 unfolding component_of_text cut_at unescaped
@@ -353,7 +353,7 @@ some_path (c ∷ first) rest some = refl
 
 rooted_is : (at : ℕ) (parts : List Part) (text : List ℕ) → IsRooted at parts text
     → rooted_name text ≡ Some (name_of_parts parts)
-unfolding behind_word
+unfolding after_word
 rooted_is at [] text h = rw h refl
 rooted_is at (part ∷ parts) text h =
     let path = h.0 ++ h.1 in
@@ -372,19 +372,19 @@ root-named at (c ∷ path) name h =
 rooted-named : (at : ℕ) (text : List ℕ) (name : List Component) → rooted_name text ≡ Some name
     → IsNamed (λ parts. IsRooted at parts text) name
 rooted-named at text name h =
-    option_and_then_some name_of_path (behind_word (codes "/") text) name h
+    option_and_then_some name_of_path (after_word (codes "/") text) name h
     (λ path e k.
     let n = root-named at path name k in
     record {
       parts = n.parts;
-      is = subst (λ (t : List ℕ). IsRooted at n.parts t) (sym (is_behind (codes "/") text path e)) n.is;
+      is = subst (λ (t : List ℕ). IsRooted at n.parts t) (sym (is_after (codes "/") text path e)) n.is;
       name_is = n.name_is;
     })
 
 -- ---- texts
 
 no_scheme : (rest : List ℕ) → without_scheme (47 ∷ rest) ≡ 47 ∷ rest
-unfolding behind_word
+unfolding after_word
 no_scheme rest = refl
 
 uri_is : (parts : List Part) (text : List ℕ) → IsUri parts text → name_of_text text ≡ Some (name_of_parts parts)
@@ -398,20 +398,20 @@ uri_is parts text h =
       | inr a ↦
           let same : without_scheme text ≡ a.0 =
           ap without_scheme a.1
-          ∙ ap (λ (o : Option (List ℕ)). unwrap_or o (codes "ndn:" ++ a.0)) (behind-append (codes "ndn:") a.0) in
+          ∙ ap (λ (o : Option (List ℕ)). unwrap_or o (codes "ndn:" ++ a.0)) (rest-append (codes "ndn:") a.0) in
           ap rooted_name same ∙ rooted_is 4 parts a.0 a.2
     ]
 
 is_uri : (text : List ℕ) (name : List Component) → name_of_text text ≡ Some name → HasUri name text
 unfolding name_of_text
-is_uri text name h = by_scheme (behind_word (codes "ndn:") text) refl where
-  by_scheme : (path : Option (List ℕ)) → behind_word (codes "ndn:") text ≡ path → HasUri name text
+is_uri text name h = by_scheme (after_word (codes "ndn:") text) refl where
+  by_scheme : (path : Option (List ℕ)) → after_word (codes "ndn:") text ≡ path → HasUri name text
   by_scheme None e =
       let n = rooted-named 0 text name (rw e at h) in
       (n.parts, inl n.is, n.name_is)
   by_scheme (Some path) e =
       let n = rooted-named 4 path name (rw e at h) in
-      (n.parts, inr (path, is_behind (codes "ndn:") text path e, n.is), n.name_is)
+      (n.parts, inr (path, is_after (codes "ndn:") text path e, n.is), n.name_is)
 
 pub texts-computed : (text : List ℕ) (name : List Component) → (name_of_text text ≡ Some name) ↔ HasUri name text
 texts-computed text name =

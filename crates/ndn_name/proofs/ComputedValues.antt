@@ -18,7 +18,7 @@ use Rattle.std.proofs.lemmas.Str.Parse.{IsNumeralModel, numerals_by_value}
 use Rattle.ndn_tlv.specs.NumberField.{number_field}
 use Rattle.ndn_name.specs.Uri.{is_unreserved, IsPair, IsOctetText, plain, escape, IsEscaped, are_periods, guarded}
 use Rattle.ndn_name.specs.Uri.{IsValueText, IsDigits, IsDigestText, IsDecimal, IsNumberText}
-use Rattle.ndn_name.specs.UriText.{onto, is_escape, unescaped, behind_three, unguarded, value_of_text, octets_of_digits}
+use Rattle.ndn_name.specs.UriText.{onto, is_escape, unescaped, after_three, unguarded, value_of_text, octets_of_digits}
 use Rattle.ndn_name.specs.UriText.{digest_of_text, is_decimal, decimal_of_text, number_of_text}
 use Rattle.ndn_name.proofs.Values.{guarded-other, guarded-periods}
 
@@ -47,7 +47,7 @@ unfolding unescaped
 escape_step high low text h l =
     rw (lt-ltb (digit_value high) 16 h, lt-ltb (digit_value low) 16 l) refl
 
--- an octet at the front
+-- an octet at the start
 pub unescaped-octet : (octet : ℕ) (first rest : List ℕ) → IsOctetText octet first
     → unescaped (first ++ rest) ≡ onto octet (unescaped rest)
 unescaped-octet octet first rest (plain free is) =
@@ -62,25 +62,25 @@ unescaped_is [] text h = rw h refl
 unescaped_is (octet ∷ octets) text h =
     ap unescaped h.2 ∙ unescaped-octet octet h.0 h.1 h.3 ∙ ap (onto octet) (unescaped_is octets h.1 h.4)
 
--- a first octet, and what is read behind it
+-- a first octet, and what is read after it
 plainly : (c : ℕ) (text octets : List ℕ) → is_unreserved c ≡ true
     → ((others : List ℕ) → unescaped text ≡ Some others → IsEscaped others text)
     → onto c (unescaped text) ≡ Some octets → IsEscaped octets (c ∷ text)
-plainly c text octets free behind h =
+plainly c text octets free following h =
     let o = option_map_some (λ (others : List ℕ). c ∷ others) (unescaped text) octets h in
-    rw (← o.2) (c ∷ [], text, refl, plain free refl, behind o.0 o.1)
+    rw (← o.2) (c ∷ [], text, refl, plain free refl, following o.0 o.1)
 
 by_escape : (c d e : ℕ) (text octets : List ℕ) → is_escape c d e ≡ true
     → ((others : List ℕ) → unescaped text ≡ Some others → IsEscaped others text)
     → onto (digit_value d * 16 + digit_value e) (unescaped text) ≡ Some octets
     → IsEscaped octets (c ∷ d ∷ e ∷ text)
-by_escape c d e text octets is behind h =
+by_escape c d e text octets is following h =
     let octet = digit_value d * 16 + digit_value e in
     let o = option_map_some (λ (others : List ℕ). octet ∷ others) (unescaped text) octets h in
     let p = and_parts (eqb c 37 && ltb (digit_value d) 16) (ltb (digit_value e) 16) is in
     let q = and_parts (eqb c 37) (ltb (digit_value d) 16) p.0 in
     let pair : IsPair octet d e = (ltb-true (digit_value d) 16 q.1, ltb-true (digit_value e) 16 p.1, refl) in
-    rw (← o.2, eqb-true c 37 q.0) (37 ∷ d ∷ e ∷ [], text, refl, escape d e pair refl, behind o.0 o.1)
+    rw (← o.2, eqb-true c 37 q.0) (37 ∷ d ∷ e ∷ [], text, refl, escape d e pair refl, following o.0 o.1)
 
 -- the ways that lead to a value
 pub either : {A P : Type 0} (b : Bool) (x y : Option A) (v : A) → cond b x y ≡ Some v
@@ -117,12 +117,12 @@ value_is value text h =
       by_test true e = rw (guarded-periods value e, e) refl
       by_test false e = rw (guarded-other value e, e) refl
 
-behind_periods : (octets value : List ℕ) → are_periods octets ≡ true → behind_three octets ≡ Some value
+after_periods : (octets value : List ℕ) → are_periods octets ≡ true → after_three octets ≡ Some value
     → guarded value ≡ octets
-behind_periods [] value h k = absurd (none-some value k)
-behind_periods (a ∷ []) value h k = absurd (none-some value k)
-behind_periods (a ∷ b ∷ []) value h k = absurd (none-some value k)
-behind_periods (a ∷ b ∷ c ∷ octets) value h k =
+after_periods [] value h k = absurd (none-some value k)
+after_periods (a ∷ []) value h k = absurd (none-some value k)
+after_periods (a ∷ b ∷ []) value h k = absurd (none-some value k)
+after_periods (a ∷ b ∷ c ∷ octets) value h k =
     let p = and_parts (eqb a 46) (are_periods (b ∷ c ∷ octets)) h in
     let q = and_parts (eqb b 46) (are_periods (c ∷ octets)) p.1 in
     let r = and_parts (eqb c 46) (are_periods octets) q.1 in
@@ -137,7 +137,7 @@ is_value text value h =
       guarded_is : (octets : List ℕ) → unguarded octets ≡ Some value → guarded value ≡ octets
       guarded_is octets k = by_test (are_periods octets) refl where
         by_test : (b : Bool) → are_periods octets ≡ b → guarded value ≡ octets
-        by_test true e = behind_periods octets value e (rw e at k)
+        by_test true e = after_periods octets value e (rw e at k)
         by_test false e =
             let same : octets ≡ value = same_Some octets value (rw e at k) in
             ap guarded (sym same) ∙ guarded-other octets e
@@ -148,8 +148,8 @@ pub digits_are : (octets text : List ℕ) → IsDigits octets text → octets_of
 unfolding octets_of_digits
 digits_are [] text h = rw h refl
 digits_are (octet ∷ octets) text h =
-    let behind : octets_of_digits h.2 ≡ Some octets = digits_are octets h.2 h.5 in
-    rw (h.3, lt-ltb (digit_value h.0) 16 h.4.0, lt-ltb (digit_value h.1) 16 h.4.1, behind, h.4.2) refl
+    let following : octets_of_digits h.2 ≡ Some octets = digits_are octets h.2 h.5 in
+    rw (h.3, lt-ltb (digit_value h.0) 16 h.4.0, lt-ltb (digit_value h.1) 16 h.4.1, following, h.4.2) refl
 
 pub are_digits : (text octets : List ℕ) → octets_of_digits text ≡ Some octets → IsDigits octets text
 unfolding octets_of_digits

@@ -13,7 +13,7 @@ use Rattle.std.proofs.lemmas.Option.{same_Some}
 use Rattle.ndn_name.specs.Uri.{IsDecimal}
 use Rattle.ndn_name.specs.UriVerdict.{LeavesLanguage}
 use Rattle.ndn_name.specs.UriReading.{with_digit}
-use Rattle.ndn_name.proofs.LeavesLemmas.{Leaves-behind, Leaves-first, Leaves-end}
+use Rattle.ndn_name.proofs.LeavesLemmas.{Leaves-after, Leaves-first, Leaves-end}
 
 abbrev pub IsSomeDecimal : ℕ → List ℕ → Type 0
 IsSomeDecimal most text = (n : ℕ) × IsDecimal most n text
@@ -34,9 +34,9 @@ after-ge : (n : ℕ) (a : List ℕ) → n ≤ digits_value_after 10 n a
 after-ge n [] = omega arith
 after-ge n (c ∷ a) = omega (arith, after-ge (n * 10 + digit_value c) a)
 
-all-behind : (a b : List ℕ) → AllDigits 10 (a ++ b) → AllDigits 10 b
-all-behind [] b h = h
-all-behind (c ∷ a) b h = all-behind a b h.1
+all-after : (a b : List ℕ) → AllDigits 10 (a ++ b) → AllDigits 10 b
+all-after [] b h = h
+all-after (c ∷ a) b h = all-after a b h.1
 
 pub digit_char : (c : ℕ) → digit_value c < 10 → c ≡ 48 + digit_value c
 digit_char c h = grind arith
@@ -52,11 +52,11 @@ decimal-push : (n c : ℕ) → 0 < n → digit_value c < 10 → n * 10 + digit_v
     → decimal (n * 10 + digit_value c) ≡ decimal n ++ c ∷ []
 decimal-push n c some small fits =
     let longer = n * 10 + digit_value c in
-    let front : longer / 10 ≡ n = omega arith in
+    let prefix : longer / 10 ≡ n = omega arith in
     let last : longer % 10 ≡ digit_value c = omega arith in
     let char : 48 + longer % 10 ≡ c = omega (arith, last, digit_char c small) in
     decimal_step longer (omega arith) fits
-    ∙ ap (λ (k : ℕ). decimal k ++ (48 + longer % 10) ∷ []) front
+    ∙ ap (λ (k : ℕ). decimal k ++ (48 + longer % 10) ∷ []) prefix
     ∙ ap (λ (k : ℕ). decimal n ++ k ∷ []) char
 
 abbrev some_number : ℕ → Option ℕ
@@ -102,11 +102,11 @@ stuck most None w c fits so_far e more n low text =
     let no_digit : 10 ≤ digit_value c =
     ltb-false (digit_value c) 10 (guard_none (ltb (digit_value c) 10) (digit_value c) e) in
     let P : List ℕ → Type 0 = λ t. AllDigits 10 t in
-    let all = all-behind w (c ∷ more) (subst P (sym text) (digits_of n (omega arith))) in
+    let all = all-after w (c ∷ more) (subst P (sym text) (digits_of n (omega arith))) in
     absurd (omega (arith, all.0))
 stuck most (Some m) w c fits so_far e more n low text =
     let P : List ℕ → Type 0 = λ t. AllDigits 10 t in
-    let all = all-behind w (c ∷ more) (subst P (sym text) (digits_of n (omega arith))) in
+    let all = all-after w (c ∷ more) (subst P (sym text) (digits_of n (omega arith))) in
     no_next (ltb (digit_value c) 10) (not (eqb m 0)) (leb (m * 10 + digit_value c) most) refl refl refl all.0
     (guard_none (ltb (digit_value c) 10 && not (eqb m 0) && leb (m * 10 + digit_value c) most) (m * 10 + digit_value c)
     e) where
@@ -150,7 +150,7 @@ pub longer-none : (most : ℕ) (number : Option ℕ) (w : List ℕ) (c : ℕ) (r
 longer-none most number w c rest fits so_far e =
     let P : ℕ → Type 0 = λ k. LeavesLanguage (IsSomeDecimal most) (w ++ c ∷ rest) k in
     let here : length w + 0 ≡ length w = omega arith in
-    subst P here (Leaves-behind (λ t. IsSomeDecimal most (w ++ t)) (IsSomeDecimal most) w (c ∷ rest) 0 (λ t m. m)
+    subst P here (Leaves-after (λ t. IsSomeDecimal most (w ++ t)) (IsSomeDecimal most) w (c ∷ rest) 0 (λ t m. m)
     (λ t m. m) (Leaves-first (λ t. IsSomeDecimal most (w ++ t)) c rest (goes_on most number w so_far)
     (λ more m. stuck most number w c fits so_far e more m.0 m.1.0 m.1.1)))
 

@@ -59,8 +59,8 @@ elements-encoding offset (c ∷ cs) h =
     let first = h.0 in
     let small : c.0 < 2 ^ 32 = omega (arith, first.below) in
     let e = elements-element offset c.0 c.1 (encoding cs) first.above small first.long in
-    let behind = offset + length (element c.0 c.1) in
-    let others = elements-encoding behind cs h.1 in
+    let following = offset + length (element c.0 c.1) in
+    let others = elements-encoding following cs h.1 in
     record {
       items = ap (λ (l : Listing Item TlvFault). pairs l.items) e ∙ ap (λ (x : List Component). c ∷ x) others.items;
       fault = ap (λ (l : Listing Item TlvFault). l.fault) e ∙ others.fault;
@@ -82,26 +82,26 @@ component_again e h =
     digest true k = let len : length e.value ≡ 32 = h.digest (leb-true e.typ 2 k) in rw len refl
     digest false k = refl
 
-pub gathered-encoding : (offset : ℕ) (front name : List Component) → IsName name
-    → gathered with_component Tlv front (elements offset (encoding name)) ≡ Ok (front ++ name)
+pub gathered-encoding : (offset : ℕ) (prefix name : List Component) → IsName name
+    → gathered with_component Tlv prefix (elements offset (encoding name)) ≡ Ok (prefix ++ name)
 unfolding gather encoding
-gathered-encoding offset front [] h =
-    ap (gathered with_component Tlv front) (elements-nil offset [] refl)
-    ∙ ap (λ (n : List Component). Ok n) (sym (append-nil front))
-gathered-encoding offset front (c ∷ cs) h =
+gathered-encoding offset prefix [] h =
+    ap (gathered with_component Tlv prefix) (elements-nil offset [] refl)
+    ∙ ap (λ (n : List Component). Ok n) (sym (append-nil prefix))
+gathered-encoding offset prefix (c ∷ cs) h =
     let first = h.0 in
     let small : c.0 < 2 ^ 32 = omega (arith, first.below) in
     let e = elements-element offset c.0 c.1 (encoding cs) first.above small first.long in
-    let behind = offset + length (element c.0 c.1) in
+    let following = offset + length (element c.0 c.1) in
     let item = placed offset c.0 c.1 in
-    let step : with_component front item ≡ Ok (front ++ c ∷ []) =
+    let step : with_component prefix item ≡ Ok (prefix ++ c ∷ []) =
     ap (λ (r : Result Component NameFault).
-    r >>= λ d. let x : Result (List Component) NameFault = Ok (front ++ d ∷ []) in x) (component_again item first) in
-    ap (gathered with_component Tlv front) e
+    r >>= λ d. let x : Result (List Component) NameFault = Ok (prefix ++ d ∷ []) in x) (component_again item first) in
+    ap (gathered with_component Tlv prefix) e
     ∙ ap (λ (r : Result (List Component) NameFault).
-    r >>= λ t. gathered with_component Tlv t (elements behind (encoding cs))) step
-    ∙ gathered-encoding behind (front ++ c ∷ []) cs h.1
-    ∙ ap (λ (n : List Component). Ok n) (append_assoc front (c ∷ []) cs)
+    r >>= λ t. gathered with_component Tlv t (elements following (encoding cs))) step
+    ∙ gathered-encoding following (prefix ++ c ∷ []) cs h.1
+    ∙ ap (λ (n : List Component). Ok n) (append_assoc prefix (c ∷ []) cs)
 
 pub name_of-encoding : (offset : ℕ) (name : List Component) → IsName name → name_of offset (encoding name) ≡ Ok name
 name_of-encoding offset name h = gathered-encoding offset [] name h
@@ -131,51 +131,51 @@ component_takes e c h above long octets =
           sized true false k h = absurd cc
           sized false q k h = absurd cc
 
-pub IsOctets-behind : (a b : List ℕ) → IsOctets (a ++ b) → IsOctets b
-IsOctets-behind a b h = rw (drop_at a b (length a) refl) at (IsOctets-drop (length a) (a ++ b) h)
+pub IsOctets-after : (a b : List ℕ) → IsOctets (a ++ b) → IsOctets b
+IsOctets-after a b h = rw (drop_at a b (length a) refl) at (IsOctets-drop (length a) (a ++ b) h)
 
 pub IsOctets-before : (a b : List ℕ) → IsOctets (a ++ b) → IsOctets a
 IsOctets-before a b h = rw (take_at a b (length a) refl) at (IsOctets-take (length a) (a ++ b) h)
 
-pub record Encoded (octets : List ℕ) (front name : List Component) : Type 0 where
+pub record Encoded (octets : List ℕ) (prefix name : List Component) : Type 0 where
   pub whole : List Component
-  pub parts : front ++ whole ≡ name
+  pub parts : prefix ++ whole ≡ name
   pub valid : IsName whole
   pub spelled : octets ≡ encoding whole
 
-whole_is : (front : List Component) (c : Component) (whole name : List Component) → (front ++ c ∷ []) ++ whole ≡ name
-    → front ++ c ∷ whole ≡ name
-whole_is front c whole name e = sym (append_assoc front (c ∷ []) whole) ∙ e
+whole_is : (prefix : List Component) (c : Component) (whole name : List Component) → (prefix ++ c ∷ []) ++ whole ≡ name
+    → prefix ++ c ∷ whole ≡ name
+whole_is prefix c whole name e = sym (append_assoc prefix (c ∷ []) whole) ∙ e
 
 gather_encoded : (offset : ℕ) (octets : List ℕ) (items : List Item) (fault : Option TlvFault)
-    (front name : List Component)
+    (prefix name : List Component)
     → IsOctets octets → length octets < 2 ^ 64 → AreElements offset octets items fault
-    → gather with_component Tlv front items fault ≡ Ok name → Encoded octets front name
+    → gather with_component Tlv prefix items fault ≡ Ok name → Encoded octets prefix name
 unfolding gather encoding
-gather_encoded offset octets [] None front name fits long are h =
-    record { whole = []; parts = append-nil front ∙ ok_is front name h; valid = tt; spelled = are }
-gather_encoded offset octets [] (Some f) front name fits long are h = absurd cc
-gather_encoded offset octets (e ∷ es) fault front name fits long are h =
+gather_encoded offset octets [] None prefix name fits long are h =
+    record { whole = []; parts = append-nil prefix ∙ ok_is prefix name h; valid = tt; spelled = are }
+gather_encoded offset octets [] (Some f) prefix name fits long are h = absurd cc
+gather_encoded offset octets (e ∷ es) fault prefix name fits long are h =
     let rest = are.0 in
     let split = rw are.1 at fits in
     let size = ap length are.1 ∙ length-append (element e.typ e.value) rest in
     let value_octets =
-    IsOctets-behind (number e.typ ++ number (length e.value)) e.value
+    IsOctets-after (number e.typ ++ number (length e.value)) e.value
     (IsOctets-before (element e.typ e.value) rest split) in
     let value_size = length-append (number e.typ ++ number (length e.value)) e.value in
-    let step = bind_ok (with_component front e) (λ t. gather with_component Tlv t es fault) name h in
-    let inner = bind_ok (component_of e) (λ c. done (front ++ c ∷ [])) step.0 step.1 in
+    let step = bind_ok (with_component prefix e) (λ t. gather with_component Tlv t es fault) name h in
+    let inner = bind_ok (component_of e) (λ c. done (prefix ++ c ∷ [])) step.0 step.1 in
     let c = inner.0 in
     let taken = component_takes e c inner.1 are.3 (omega (arith, size, value_size)) value_octets in
-    let next : front ++ c ∷ [] ≡ step.0 = ok_is (front ++ c ∷ []) step.0 inner.2 in
-    let goes_on : gather with_component Tlv (front ++ c ∷ []) es fault ≡ Ok name = rw next step.2 in
+    let next : prefix ++ c ∷ [] ≡ step.0 = ok_is (prefix ++ c ∷ []) step.0 inner.2 in
+    let goes_on : gather with_component Tlv (prefix ++ c ∷ []) es fault ≡ Ok name = rw next step.2 in
     let others =
-    gather_encoded e.end rest es fault (front ++ c ∷ []) name (IsOctets-behind (element e.typ e.value) rest split)
+    gather_encoded e.end rest es fault (prefix ++ c ∷ []) name (IsOctets-after (element e.typ e.value) rest split)
     (omega (arith, size)) are.5 goes_on in
     let P : Component → Type 0 = λ x. IsComponent x in
     record {
       whole = c ∷ others.whole;
-      parts = whole_is front c others.whole name others.parts;
+      parts = whole_is prefix c others.whole name others.parts;
       valid = (subst P taken.0 taken.1, others.valid);
       spelled =
           are.1

@@ -1,4 +1,4 @@
--- The texts of octets: what is read at the front, and where a text leaves them.
+-- The texts of octets: what is read at the start, and where a text leaves them.
 use Rattle.std.proofs.Common.{◌≡◌, ℕ, ◌+◌, ◌*◌, ◌<◌, true, false, cond, ltb, eqb, List, [], ◌∷◌, ◌++◌, length}
 use Rattle.std.proofs.Common.{length-append, Result, Ok, Err, refl, sym, ap, subst, ◌∙◌, append_assoc, arith, ◌⊎◌, inl}
 use Rattle.std.proofs.Common.{inr}
@@ -13,7 +13,7 @@ use Rattle.ndn_name.specs.Uri.{is_unreserved, IsPair, IsOctetText, plain, escape
 use Rattle.ndn_name.specs.UriVerdict.{LeavesLanguage}
 use Rattle.ndn_name.specs.UriReading.{digit_at, pair_at, octet_at}
 use Rattle.ndn_name.proofs.Encodings.{done}
-use Rattle.ndn_name.proofs.LeavesLemmas.{Leaves-behind, Leaves-first, Leaves-end}
+use Rattle.ndn_name.proofs.LeavesLemmas.{Leaves-after, Leaves-first, Leaves-end}
 
 -- ---- steps that fail
 
@@ -152,7 +152,7 @@ pair-leaves L begins at text f e =
                   fault = none.0;
                   leaves =
                       subst P (sym high.split)
-                      (Leaves-behind (λ t. L (c ∷ t)) L (c ∷ []) a.0.1 0 (λ t m. m) (λ t m. m)
+                      (Leaves-after (λ t. L (c ∷ t)) L (c ∷ []) a.0.1 0 (λ t m. m) (λ t m. m)
                       (second_digit L begins c high.small a.0.1 none.1));
                 }
             | inr b ↦ absurd (let h = b.2 in cc)
@@ -172,7 +172,7 @@ not_percent o h e =
 pub pair-same : (o p h l h' l' : ℕ) → IsPair o h l → IsPair p h' l' → h ≡ h' → l ≡ l' → o ≡ p
 pair-same o p h l h' l' a b e g = omega (arith, a.2, b.2, ap digit_value e, ap digit_value g)
 
--- the text of an octet at the front is of one octet
+-- the text of an octet at the start is of one octet
 octet-alone : (o p : ℕ) (a b x y : List ℕ) → IsOctetText o a → IsOctetText p b → a ++ x ≡ b ++ y → (o ≡ p) × (x ≡ y)
 octet-alone o p a b x y (plain h e) (plain k g) same =
     let both : o ∷ x ≡ p ∷ y = ap (λ (t : List ℕ). t ++ x) (sym e) ∙ same ∙ ap (λ (t : List ℕ). t ++ y) g in
@@ -192,15 +192,15 @@ octet-alone o p a b x y (escape high low h e) (escape high' low' k g) same =
     let other : low ≡ low' = cc in
     (pair-same o p high low high' low' h k first other, cc)
 
-pub record Behind (octets : List ℕ) (front : List ℕ) (text : List ℕ) : Type 0 where
+pub record After (octets : List ℕ) (prefix : List ℕ) (text : List ℕ) : Type 0 where
   pub others : List ℕ
-  pub parts : octets ≡ front ++ others
+  pub parts : octets ≡ prefix ++ others
   pub read : IsEscaped others text
 
-octet-front : (o : ℕ) (first t octets : List ℕ) → IsOctetText o first → IsEscaped octets (first ++ t)
-    → Behind octets (o ∷ []) t
-octet-front o first t [] h e = absurd (omega (arith, ap length e, length-append first t, octet-some o first h))
-octet-front o first t (p ∷ octets) h e =
+octet-prefix : (o : ℕ) (first t octets : List ℕ) → IsOctetText o first → IsEscaped octets (first ++ t)
+    → After octets (o ∷ []) t
+octet-prefix o first t [] h e = absurd (omega (arith, ap length e, length-append first t, octet-some o first h))
+octet-prefix o first t (p ∷ octets) h e =
     let alone = octet-alone o p first e.0 t e.1 h e.3 e.2 in
     let P : List ℕ → Type 0 = λ x. IsEscaped octets x in
     record { others = octets; parts = ap (λ (n : ℕ). n ∷ octets) (sym alone.0); read = subst P (sym alone.1) e.4 }
@@ -213,15 +213,16 @@ escaped-append (o ∷ a) b x y h k =
 pub escaped-one : (o : ℕ) (text : List ℕ) → IsOctetText o text → IsEscaped (o ∷ []) text
 escaped-one o text h = (text, [], sym (append-nil text), h, refl)
 
-pub escaped-front : (a octets front t : List ℕ) → IsEscaped a front → IsEscaped octets (front ++ t) → Behind octets a t
-escaped-front [] octets front t h e =
+pub escaped-prefix : (a octets prefix t : List ℕ) → IsEscaped a prefix → IsEscaped octets (prefix ++ t)
+    → After octets a t
+escaped-prefix [] octets prefix t h e =
     let P : List ℕ → Type 0 = λ x. IsEscaped octets (x ++ t) in
     record { others = octets; parts = refl; read = subst P h e }
-escaped-front (o ∷ a) octets front t h e =
+escaped-prefix (o ∷ a) octets prefix t h e =
     let P : List ℕ → Type 0 = λ x. IsEscaped octets x in
     let whole = subst P (ap (λ (x : List ℕ). x ++ t) h.2 ∙ append_assoc h.0 h.1 t) e in
-    let one = octet-front o h.0 (h.1 ++ t) octets h.3 whole in
-    let others = escaped-front a one.others h.1 t h.4 one.read in
+    let one = octet-prefix o h.0 (h.1 ++ t) octets h.3 whole in
+    let others = escaped-prefix a one.others h.1 t h.4 one.read in
     record { others = others.others; parts = one.parts ∙ ap (λ (x : List ℕ). o ∷ x) others.parts; read = others.read }
 
 pub escaped-nothing : (octets : List ℕ) → IsEscaped octets [] → octets ≡ []
@@ -232,8 +233,8 @@ escaped-nothing (o ∷ octets) e = absurd (omega (arith, ap length e.2, length-a
 pub escaped-same : (a b text : List ℕ) → IsEscaped a text → IsEscaped b text → a ≡ b
 escaped-same a b text h k =
     let P : List ℕ → Type 0 = λ x. IsEscaped b x in
-    let front = escaped-front a b text [] h (subst P (sym (append-nil text)) k) in
-    sym (front.parts ∙ ap (λ (x : List ℕ). a ++ x) (escaped-nothing front.others front.read) ∙ append-nil a)
+    let prefix = escaped-prefix a b text [] h (subst P (sym (append-nil text)) k) in
+    sym (prefix.parts ∙ ap (λ (x : List ℕ). a ++ x) (escaped-nothing prefix.others prefix.read) ∙ append-nil a)
 
 -- ---- where texts of octets are left
 
@@ -261,7 +262,7 @@ begins_escape = record {
   digits t [] e = absurd cc
   digits t (o ∷ octets) e = of_first o e.0 e.1 t e.3 e.2
 
--- digits that are none are told at their place
+-- digits that are none are reported at their place
 pub pair-fails : (at : ℕ) (text : List ℕ) (f : NameFault) → pair_at at text ≡ Err f → (place : ℕ) × (BadUri place ≡ f)
 pair-fails at text f e =
     let p = pair-leaves (λ t. IsEscapedText (37 ∷ t)) begins_escape at text f e in
@@ -295,7 +296,7 @@ octet-leaves at c text f e =
             fault = ap BadUri there ∙ p.fault;
             leaves =
                 subst P (sym k)
-                (Leaves-behind (λ t. IsEscapedText (37 ∷ t)) IsEscapedText (37 ∷ []) text p.place (λ t m. m) (λ t m. m)
+                (Leaves-after (λ t. IsEscapedText (37 ∷ t)) IsEscapedText (37 ∷ []) text p.place (λ t m. m) (λ t m. m)
                 p.leaves);
           }
       | inr a ↦
@@ -351,11 +352,11 @@ octet-takes at (c ∷ text) x e =
           ]
     ]
 
--- behind what was read
-pub escaped-leaves : (a front rest text : List ℕ) (k : ℕ) → IsEscaped a front → front ++ rest ≡ text
-    → LeavesLanguage IsEscapedText rest k → LeavesLanguage IsEscapedText text (length front + k)
-escaped-leaves a front rest text k read split h =
-    let P : List ℕ → Type 0 = λ t. LeavesLanguage IsEscapedText t (length front + k) in
+-- after what was read
+pub escaped-leaves : (a prefix rest text : List ℕ) (k : ℕ) → IsEscaped a prefix → prefix ++ rest ≡ text
+    → LeavesLanguage IsEscapedText rest k → LeavesLanguage IsEscapedText text (length prefix + k)
+escaped-leaves a prefix rest text k read split h =
+    let P : List ℕ → Type 0 = λ t. LeavesLanguage IsEscapedText t (length prefix + k) in
     subst P split
-    (Leaves-behind IsEscapedText IsEscapedText front rest k (λ t m. (a ++ m.0, escaped-append a m.0 front t read m.1))
-    (λ t m. let b = escaped-front a m.0 front t read m.1 in (b.others, b.read)) h)
+    (Leaves-after IsEscapedText IsEscapedText prefix rest k (λ t m. (a ++ m.0, escaped-append a m.0 prefix t read m.1))
+    (λ t m. let b = escaped-prefix a m.0 prefix t read m.1 in (b.others, b.read)) h)

@@ -222,9 +222,9 @@ pub lacks_head : (text : List ℕ) → LacksOctet 61 text → HasNoHead text
 lacks_head text h form head tail is_head e =
     let P : List ℕ → Type 0 = λ t. LacksOctet 61 t in lacks-separator 61 head tail (subst P e h)
 
-pub other_head : (text front rest : List ℕ) → text ≡ front ++ 61 ∷ rest → LacksOctet 61 front
-    → ((form : Form) → IsHead form front → ⊥) → HasNoHead text
-other_head text front rest split lacks none form head tail is_head e =
-    let same = split-same 61 front head rest tail lacks (head-lacks 61 form head refl is_head) (sym split ∙ e) in
+pub other_head : (text prefix rest : List ℕ) → text ≡ prefix ++ 61 ∷ rest → LacksOctet 61 prefix
+    → ((form : Form) → IsHead form prefix → ⊥) → HasNoHead text
+other_head text prefix rest split lacks none form head tail is_head e =
+    let same = split-same 61 prefix head rest tail lacks (head-lacks 61 form head refl is_head) (sym split ∙ e) in
     let P : List ℕ → Type 0 = λ x. IsHead form x in
     none form (subst P (sym same.0) is_head)

@@ -1,4 +1,4 @@
--- Where a text leaves a language, and the same behind a front.
+-- Where a text leaves a language, and the same after a prefix.
 use Rattle.std.proofs.Common.{◌≡◌, ℕ, ◌+◌, List, [], ◌∷◌, ◌++◌, length, length-append, take, sym, ap, subst, ◌∙◌}
 use Rattle.std.proofs.Common.{append_assoc, arith}
 use Rattle.std.proofs.Math.Seq.{take-append-add, take-length}
@@ -18,27 +18,29 @@ Leaves-same L M text k there back h = record {
   ends = λ m. h.ends (back text m);
 }
 
--- what follows a front leaves what may follow it
-pub Leaves-behind : (L M : List ℕ → Type 0) (front text : List ℕ) (k : ℕ) → ((t : List ℕ) → L t → M (front ++ t))
-    → ((t : List ℕ) → M (front ++ t) → L t) → LeavesLanguage L text k
-    → LeavesLanguage M (front ++ text) (length front + k)
-Leaves-behind L M front text k there back h = record {
-  within = omega (arith, h.within, length-append front text);
+-- what follows a prefix leaves what may follow it
+pub Leaves-after : (L M : List ℕ → Type 0) (prefix text : List ℕ) (k : ℕ) → ((t : List ℕ) → L t → M (prefix ++ t))
+    → ((t : List ℕ) → M (prefix ++ t) → L t) → LeavesLanguage L text k
+    → LeavesLanguage M (prefix ++ text) (length prefix + k)
+Leaves-after L M prefix text k there back h = record {
+  within = omega (arith, h.within, length-append prefix text);
   goes_on = (h.goes_on.0, subst M (regroup k h.goes_on.0) (there (take k text ++ h.goes_on.0) h.goes_on.1));
   breaks =
-      λ lt more m. h.breaks (omega (arith, lt, length-append front text)) more
+      λ lt more m. h.breaks (omega (arith, lt, length-append prefix text)) more
       (back (take (k + 1) text ++ more) (subst M (sym (one_more more)) m));
   ends = λ m. h.ends (back text m);
 } where
-  regroup : (n : ℕ) (more : List ℕ) → front ++ (take n text ++ more) ≡ take (length front + n) (front ++ text) ++ more
+  regroup : (n : ℕ) (more : List ℕ) → prefix ++ (take n text ++ more) ≡ take (length prefix + n) (prefix ++ text)
+      ++ more
   regroup n more =
-      sym (append_assoc front (take n text) more) ∙ ap (λ (x : List ℕ). x ++ more) (sym (take-append-add front text n))
+      sym (append_assoc prefix (take n text) more) ∙ ap (λ (x : List ℕ). x ++ more)
+      (sym (take-append-add prefix text n))
 
   one_more : (more : List ℕ)
-      → front ++ (take (k + 1) text ++ more) ≡ take (length front + k + 1) (front ++ text) ++ more
+      → prefix ++ (take (k + 1) text ++ more) ≡ take (length prefix + k + 1) (prefix ++ text) ++ more
   one_more more =
-      let e : length front + (k + 1) ≡ length front + k + 1 = omega arith in
-      regroup (k + 1) more ∙ ap (λ (n : ℕ). take n (front ++ text) ++ more) e
+      let e : length prefix + (k + 1) ≡ length prefix + k + 1 = omega arith in
+      regroup (k + 1) more ∙ ap (λ (n : ℕ). take n (prefix ++ text) ++ more) e
 
 -- at the first octet
 pub Leaves-first : (L : List ℕ → Type 0) (c : ℕ) (text : List ℕ) → (more : List ℕ) × L more

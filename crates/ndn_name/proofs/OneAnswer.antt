@@ -92,10 +92,10 @@ path-same [] (q ∷ b) at text h k = let e = sym h ∙ k.2 in absurd cc
 path-same (p ∷ a) [] at text h k = let e = sym k ∙ h.2 in absurd cc
 path-same (p ∷ a) (q ∷ b) at text h k =
     let whole = sym h.2 ∙ k.2 in
-    let behind : h.0 ++ h.1 ≡ k.0 ++ k.1 = cc in
+    let following : h.0 ++ h.1 ≡ k.0 ++ k.1 = cc in
     let s =
     parts-same 47 h.0 k.0 h.1 k.1 (component-lacks p.1 h.0 h.4) (component-lacks q.1 k.0 k.4)
-    (path-bounded (at + 1 + length h.0) a h.1 h.5) (path-bounded (at + 1 + length k.0) b k.1 k.5) behind in
+    (path-bounded (at + 1 + length h.0) a h.1 h.5) (path-bounded (at + 1 + length k.0) b k.1 k.5) following in
     let P : List ℕ → Type 0 = λ t. IsComponentText q.1 t in
     let one = component-same p.1 q.1 h.0 h.4 (subst P (sym s.0) k.4) in
     let Q : ℕ → Type 0 = λ n. IsPath n b k.1 in
@@ -108,11 +108,11 @@ alone_or_path : (at : ℕ) (part : Part) (parts : List Part) (text : List ℕ) �
     → IsPath at (part ∷ parts) text → ⊥
 alone_or_path at part parts text h k =
     let whole = sym h ∙ k.2 in
-    let behind : [] ≡ k.0 ++ k.1 = cc in
-    component_some part.1 k.0 k.4 (no_front k.0 k.1 behind) where
-      no_front : (x y : List ℕ) → [] ≡ x ++ y → x ≡ []
-      no_front [] y e = refl
-      no_front (c ∷ x) y e = absurd cc
+    let following : [] ≡ k.0 ++ k.1 = cc in
+    component_some part.1 k.0 k.4 (no_prefix k.0 k.1 following) where
+      no_prefix : (x y : List ℕ) → [] ≡ x ++ y → x ≡ []
+      no_prefix [] y e = refl
+      no_prefix (c ∷ x) y e = absurd cc
 
 rooted-same : (a b : List Part) (at : ℕ) (text : List ℕ) → IsRooted at a text → IsRooted at b text → a ≡ b
 rooted-same [] [] at text h k = refl

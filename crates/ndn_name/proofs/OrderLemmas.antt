@@ -1,4 +1,4 @@
--- The canonical order of names is the lexicographic order of their octets, and a prefix is a front of the octets.
+-- The canonical order of names is the lexicographic order of their octets, and a prefix is a prefix of the octets.
 use Rattle.std.proofs.Common.{◌≡◌, ℕ, ◌+◌, ◌*◌, ◌^◌, ◌<◌, ◌≤◌, List, [], ◌∷◌, ◌++◌, length, length-append, refl, sym}
 use Rattle.std.proofs.Common.{ap, ◌∙◌, append_assoc, arith, inl, inr}
 use Rattle.std.specs.declared.cmp.Ordering.{Ordering}

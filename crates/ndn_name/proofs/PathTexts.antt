@@ -15,9 +15,9 @@ use Rattle.ndn_name.specs.UriVerdict.{LeavesLanguage}
 use Rattle.ndn_name.specs.UriReading.{BeginsWithAnother, BreaksOff, FailsIn, LacksOctet, ReadsText, Splits}
 use Rattle.ndn_name.proofs.Escapes.{escaped-one}
 use Rattle.ndn_name.proofs.Values.{value-other}
-use Rattle.ndn_name.proofs.Separators.{Bounded, lacks-front, parts-same, front-first}
+use Rattle.ndn_name.proofs.Separators.{Bounded, lacks-prefix, parts-same, prefix-first}
 use Rattle.ndn_name.proofs.ComponentTexts.{IsSomeComponent, component-lacks}
-use Rattle.ndn_name.proofs.LeavesLemmas.{Leaves-behind, Leaves-first, Leaves-end}
+use Rattle.ndn_name.proofs.LeavesLemmas.{Leaves-after, Leaves-first, Leaves-end}
 
 abbrev pub IsSomePath : ℕ → List ℕ → Type 0
 IsSomePath at text = (parts : List Part) × IsPath at parts text
@@ -71,13 +71,13 @@ path-opens at (part ∷ parts) text h =
     let e = h.2 in
     record { component = part.1; first = h.0; rest = h.1; split = cc; is = h.4; others = parts; path = h.5 }
 
--- what follows the front of a path is a path
-pub path-front : (a c : List Part) (at : ℕ) (x y : List ℕ) → IsPath at a x → IsPath at c (x ++ y) → Bounded 47 y
+-- what follows the prefix of a path is a path
+pub path-prefix : (a c : List Part) (at : ℕ) (x y : List ℕ) → IsPath at a x → IsPath at c (x ++ y) → Bounded 47 y
     → IsSomePath (at + length x) y
-path-front [] c at x y h e bounded =
+path-prefix [] c at x y h e bounded =
     let P : List ℕ → Type 0 = λ t. IsPath at c (t ++ y) in
     (c, at_place at (at + length x) c y (omega (arith, ap length h)) (subst P h e))
-path-front (part ∷ a) c at x y h e bounded =
+path-prefix (part ∷ a) c at x y h e bounded =
     let first = h.0 in
     let rest = h.1 in
     let whole : x ++ y ≡ 47 ∷ (first ++ (rest ++ y)) =
@@ -91,9 +91,9 @@ path-front (part ∷ a) c at x y h e bounded =
     (path-bounded (at + 1 + length o.first) o.others o.rest o.path) o.split in
     let Q : List ℕ → Type 0 = λ t. IsPath (at + 1 + length first) o.others t in
     let here : at + 1 + length o.first ≡ at + 1 + length first = omega (arith, ap length s.0) in
-    let behind =
+    let following =
     subst Q (sym s.1) (at_place (at + 1 + length o.first) (at + 1 + length first) o.others o.rest here o.path) in
-    let more = path-front a o.others (at + 1 + length first) rest y h.5 behind bounded in
+    let more = path-prefix a o.others (at + 1 + length first) rest y h.5 following bounded in
     let there : at + 1 + length first + length rest ≡ at + length x =
     omega (arith, ap length h.2, length-append first rest) in
     (more.0, at_place (at + 1 + length first + length rest) (at + length x) more.0 y there more.1)
@@ -131,26 +131,26 @@ first_leaves at first after k lacks bounded h = record {
 
   inside : (more : List ℕ) → Opens at (take (k + 1) (first ++ after) ++ more) → k < length first → ⊥
   inside more o lt =
-      let front = take (k + 1) first in
-      let front-is : take (k + 1) (first ++ after) ≡ front = take-append-le (k + 1) first after (omega arith) in
-      let split : front ++ more ≡ o.first ++ o.rest = ap (λ (t : List ℕ). t ++ more) (sym front-is) ∙ o.split in
+      let prefix = take (k + 1) first in
+      let prefix-is : take (k + 1) (first ++ after) ≡ prefix = take-append-le (k + 1) first after (omega arith) in
+      let split : prefix ++ more ≡ o.first ++ o.rest = ap (λ (t : List ℕ). t ++ more) (sym prefix-is) ∙ o.split in
       let P : List ℕ → Type 0 = λ t. LacksOctet 47 t in
       let f =
-      front-first 47 front more o.first o.rest
-      (lacks-front 47 front (drop (k + 1) first) (subst P (sym (take-append-drop (k + 1) first)) lacks))
+      prefix-first 47 prefix more o.first o.rest
+      (lacks-prefix 47 prefix (drop (k + 1) first) (subst P (sym (take-append-drop (k + 1) first)) lacks))
       (path-bounded (at + 1 + length o.first) o.others o.rest o.path) split in
       h.breaks lt f.0 (o.component, subst (IsComponentText o.component) f.1 o.is)
 
-  behind : (a : List ℕ) → after ≡ a → (more : List ℕ) → Opens at (take (k + 1) (first ++ after) ++ more)
+  following : (a : List ℕ) → after ≡ a → (more : List ℕ) → Opens at (take (k + 1) (first ++ after) ++ more)
       → k ≡ length first → 0 < length a → Bounded 47 a → ⊥
-  behind [] e more o here some b = absurd (omega arith)
-  behind (c ∷ a) e more o here some b =
-      let front-is : take (k + 1) (first ++ after) ≡ first ++ c ∷ [] =
+  following [] e more o here some b = absurd (omega arith)
+  following (c ∷ a) e more o here some b =
+      let prefix-is : take (k + 1) (first ++ after) ≡ first ++ c ∷ [] =
       ap (λ (n : ℕ). take (n + 1) (first ++ after)) here
       ∙ take-append-add first after 1
       ∙ ap (λ (t : List ℕ). first ++ take 1 t) e in
       let split : first ++ c ∷ more ≡ o.first ++ o.rest =
-      sym (append_assoc first (c ∷ []) more) ∙ ap (λ (t : List ℕ). t ++ more) (sym front-is) ∙ o.split in
+      sym (append_assoc first (c ∷ []) more) ∙ ap (λ (t : List ℕ). t ++ more) (sym prefix-is) ∙ o.split in
       let s =
       parts-same 47 first o.first (c ∷ more) o.rest lacks (component-lacks o.component o.first o.is) b
       (path-bounded (at + 1 + length o.first) o.others o.rest o.path) split in
@@ -161,73 +161,74 @@ first_leaves at first after k lacks bounded h = record {
       elim (cases_lt k (length first)) [
         | inl a ↦ inside more o a
         | inr a ↦
-            behind after refl more o (omega (arith, a, h.within)) (omega (arith, a, lt, length-append first after))
+            following after refl more o (omega (arith, a, h.within)) (omega (arith, a, lt, length-append first after))
             bounded
       ]
 
-pub component-path_leaves : (at : ℕ) (parts : List Part) (front first after path : List ℕ) (k : ℕ)
-    → IsPath at parts front → front ++ 47 ∷ (first ++ after) ≡ 47 ∷ path → LacksOctet 47 first → Bounded 47 after
+pub component-path_leaves : (at : ℕ) (parts : List Part) (prefix first after path : List ℕ) (k : ℕ)
+    → IsPath at parts prefix → prefix ++ 47 ∷ (first ++ after) ≡ 47 ∷ path → LacksOctet 47 first → Bounded 47 after
     → LeavesLanguage IsSomeComponent first k
-    → LeavesLanguage (IsSomePath at) (47 ∷ path) (length (front ++ 47 ∷ []) + k)
-component-path_leaves at parts front first after path k read split lacks bounded h =
-    let P : List ℕ → Type 0 = λ t. LeavesLanguage (IsSomePath at) t (length (front ++ 47 ∷ []) + k) in
+    → LeavesLanguage (IsSomePath at) (47 ∷ path) (length (prefix ++ 47 ∷ []) + k)
+component-path_leaves at parts prefix first after path k read split lacks bounded h =
+    let P : List ℕ → Type 0 = λ t. LeavesLanguage (IsSomePath at) t (length (prefix ++ 47 ∷ []) + k) in
     subst P (regroup (first ++ after) ∙ split)
-    (Leaves-behind (AfterSlash (at + length front)) (IsSomePath at) (front ++ 47 ∷ []) (first ++ after) k
+    (Leaves-after (AfterSlash (at + length prefix)) (IsSomePath at) (prefix ++ 47 ∷ []) (first ++ after) k
     (λ t m. (parts ++ m.0, there t m.0 m.1))
-    (λ t m. path-front parts m.0 at front (47 ∷ t) read (subst (IsPath at m.0) (regroup t) m.1) refl)
-    (first_leaves (at + length front) first after k lacks bounded h)) where
-      regroup : (t : List ℕ) → (front ++ 47 ∷ []) ++ t ≡ front ++ 47 ∷ t
-      regroup t = append_assoc front (47 ∷ []) t
+    (λ t m. path-prefix parts m.0 at prefix (47 ∷ t) read (subst (IsPath at m.0) (regroup t) m.1) refl)
+    (first_leaves (at + length prefix) first after k lacks bounded h)) where
+      regroup : (t : List ℕ) → (prefix ++ 47 ∷ []) ++ t ≡ prefix ++ 47 ∷ t
+      regroup t = append_assoc prefix (47 ∷ []) t
 
-      there : (t : List ℕ) (more : List Part) → IsPath (at + length front) more (47 ∷ t)
-          → IsPath at (parts ++ more) ((front ++ 47 ∷ []) ++ t)
+      there : (t : List ℕ) (more : List Part) → IsPath (at + length prefix) more (47 ∷ t)
+          → IsPath at (parts ++ more) ((prefix ++ 47 ∷ []) ++ t)
       there t more m =
-          subst (IsPath at (parts ++ more)) (sym (regroup t)) (path-append parts more at front (47 ∷ t) read m)
+          subst (IsPath at (parts ++ more)) (sym (regroup t)) (path-append parts more at prefix (47 ∷ t) read m)
 
-pub component-path_fails : (at place : ℕ) (parts : List Part) (front first after path : List ℕ) (f : NameFault)
-    → place ≡ at + length front + 1 → IsPath at parts front → front ++ 47 ∷ (first ++ after) ≡ 47 ∷ path
+pub component-path_fails : (at place : ℕ) (parts : List Part) (prefix first after path : List ℕ) (f : NameFault)
+    → place ≡ at + length prefix + 1 → IsPath at parts prefix → prefix ++ 47 ∷ (first ++ after) ≡ 47 ∷ path
     → LacksOctet 47 first → Bounded 47 after → FailsIn IsComponentText place first f
     → FailsIn (IsPath at) at (47 ∷ path) f
-component-path_fails at place parts front first after path (BadUri p) e read split lacks bounded h = (
-  length (front ++ 47 ∷ []) + h.0,
-  omega (arith, e, h.1, length-append front (47 ∷ [])),
-  component-path_leaves at parts front first after path h.0 read split lacks bounded h.2,
+component-path_fails at place parts prefix first after path (BadUri p) e read split lacks bounded h = (
+  length (prefix ++ 47 ∷ []) + h.0,
+  omega (arith, e, h.1, length-append prefix (47 ∷ [])),
+  component-path_leaves at parts prefix first after path h.0 read split lacks bounded h.2,
 )
-component-path_fails at place parts front first after path NoMemory e read split lacks bounded h = h
-component-path_fails at place parts front first after path NameTooLong e read split lacks bounded h = h
-component-path_fails at place parts front first after path (Tlv f) e read split lacks bounded h = h
-component-path_fails at place parts front first after path (BadComponent p) e read split lacks bounded h = h
-component-path_fails at place parts front first after path (BadDigestLength p) e read split lacks bounded h = h
+component-path_fails at place parts prefix first after path NoMemory e read split lacks bounded h = h
+component-path_fails at place parts prefix first after path NameTooLong e read split lacks bounded h = h
+component-path_fails at place parts prefix first after path (Tlv f) e read split lacks bounded h = h
+component-path_fails at place parts prefix first after path (BadComponent p) e read split lacks bounded h = h
+component-path_fails at place parts prefix first after path (BadDigestLength p) e read split lacks bounded h = h
 
 -- ---- what was read of a path, and what is left
 
 abbrev pub PathSoFar : ℕ → List Part → List ℕ → Option (List ℕ) → Type 0
 PathSoFar at parts path None = IsPath at parts (47 ∷ path)
-PathSoFar at parts path (Some text) = (front : List ℕ) × IsPath at parts front × (front ++ 47 ∷ text ≡ 47 ∷ path)
+PathSoFar at parts path (Some text) = (prefix : List ℕ) × IsPath at parts prefix × (prefix ++ 47 ∷ text ≡ 47 ∷ path)
 
-pub path-push : (at : ℕ) (parts : List Part) (front : List ℕ) (place : ℕ) (c : Component) (first : List ℕ)
-    → place ≡ at + length front + 1 → IsPath at parts front → IsComponentText c first
-    → IsPath at (parts ++ (place, c) ∷ []) (front ++ 47 ∷ first)
-path-push at parts front place c first e read h =
-    let P : ℕ → Type 0 = λ n. IsPath (at + length front) ((n, c) ∷ []) (47 ∷ first) in
-    path-append parts ((place, c) ∷ []) at front (47 ∷ first) read
-    (subst P (sym e) (one_part (at + length front) c first h))
+pub path-push : (at : ℕ) (parts : List Part) (prefix : List ℕ) (place : ℕ) (c : Component) (first : List ℕ)
+    → place ≡ at + length prefix + 1 → IsPath at parts prefix → IsComponentText c first
+    → IsPath at (parts ++ (place, c) ∷ []) (prefix ++ 47 ∷ first)
+path-push at parts prefix place c first e read h =
+    let P : ℕ → Type 0 = λ n. IsPath (at + length prefix) ((n, c) ∷ []) (47 ∷ first) in
+    path-append parts ((place, c) ∷ []) at prefix (47 ∷ first) read
+    (subst P (sym e) (one_part (at + length prefix) c first h))
 
-pub path-step : (at : ℕ) (parts : List Part) (path text front : List ℕ) (place : ℕ) (c : Component) (first : List ℕ)
-    (behind : Option (List ℕ))
-    → place ≡ at + length front + 1 → IsPath at parts front → front ++ 47 ∷ text ≡ 47 ∷ path → IsComponentText c first
-    → Splits 47 text first behind → PathSoFar at (parts ++ (place, c) ∷ []) path behind
-path-step at parts path text front place c first None e read split h s =
-    subst (IsPath at (parts ++ (place, c) ∷ [])) (ap (λ (t : List ℕ). front ++ 47 ∷ t) (sym s.0) ∙ split)
-    (path-push at parts front place c first e read h)
-path-step at parts path text front place c first (Some rest) e read split h s = (
-  front ++ 47 ∷ first,
-  path-push at parts front place c first e read h,
-  append_assoc front (47 ∷ first) (47 ∷ rest) ∙ ap (λ (t : List ℕ). front ++ 47 ∷ t) (sym s.0) ∙ split,
+pub path-step : (at : ℕ) (parts : List Part) (path text prefix : List ℕ) (place : ℕ) (c : Component) (first : List ℕ)
+    (following : Option (List ℕ))
+    → place ≡ at + length prefix + 1 → IsPath at parts prefix → prefix ++ 47 ∷ text ≡ 47 ∷ path
+    → IsComponentText c first
+    → Splits 47 text first following → PathSoFar at (parts ++ (place, c) ∷ []) path following
+path-step at parts path text prefix place c first None e read split h s =
+    subst (IsPath at (parts ++ (place, c) ∷ [])) (ap (λ (t : List ℕ). prefix ++ 47 ∷ t) (sym s.0) ∙ split)
+    (path-push at parts prefix place c first e read h)
+path-step at parts path text prefix place c first (Some rest) e read split h s = (
+  prefix ++ 47 ∷ first,
+  path-push at parts prefix place c first e read h,
+  append_assoc prefix (47 ∷ first) (47 ∷ rest) ∙ ap (λ (t : List ℕ). prefix ++ 47 ∷ t) (sym s.0) ∙ split,
 )
 
 -- what follows the first part of what is left
-pub after_first : (text first : List ℕ) (behind : Option (List ℕ)) → Splits 47 text first behind
+pub after_first : (text first : List ℕ) (following : Option (List ℕ)) → Splits 47 text first following
     → (after : List ℕ) × (text ≡ first ++ after) × Bounded 47 after × LacksOctet 47 first
 after_first text first None s = ([], s.0 ∙ sym (append-nil first), tt, s.1)
 after_first text first (Some rest) s = (47 ∷ rest, s.0, refl, s.1)
@@ -268,7 +269,7 @@ rooted-leaves at path k some h = record {
       → IsRooted at parts (take (k + 1) (47 ∷ path) ++ more) → ⊥
   breaks lt more (part ∷ parts) m = h.breaks lt more (part ∷ parts, m)
   breaks lt more [] m =
-      let front : ℕ = length (take (k + 1) (47 ∷ path)) in
+      let prefix : ℕ = length (take (k + 1) (47 ∷ path)) in
       let size : length (take (k + 1) (47 ∷ path)) ≡ k + 1 = length-take-le (k + 1) (47 ∷ path) (omega arith) in
       let none : k ≡ 0 = omega (arith, size, ap length m, length-append (take (k + 1) (47 ∷ path)) more) in
       let P : ℕ → Type 0 = λ n. IsSomePath at (take (n + 1) (47 ∷ path) ++ 97 ∷ []) in
@@ -287,7 +288,7 @@ rooted-fails at path (Tlv f) some h = h
 rooted-fails at path (BadComponent p) some h = h
 rooted-fails at path (BadDigestLength p) some h = h
 
--- no slash at the front
+-- no slash at the start
 pub no_slash : (at : ℕ) (text : List ℕ) → ((rest : List ℕ) → text ≡ 47 ∷ rest → ⊥)
     → LeavesLanguage (IsSomeRooted at) text 0
 no_slash at [] none =
@@ -304,56 +305,56 @@ no_slash at (c ∷ text) none =
 abbrev pub IsUriText : List ℕ → Type 0
 IsUriText text = (parts : List Part) × IsUri parts text
 
--- behind a front of the scheme the next octet of it comes
-scheme_next : (front : List ℕ) (next : ℕ) (others t : List ℕ) → codes "ndn:" ≡ 110 ∷ front ++ next ∷ others
-    → IsUriText (110 ∷ front ++ t) → (path : List ℕ) × (t ≡ next ∷ others ++ path)
-scheme_next front next others t e m =
+-- after a prefix of the scheme the next octet of it comes
+scheme_next : (prefix : List ℕ) (next : ℕ) (others t : List ℕ) → codes "ndn:" ≡ 110 ∷ prefix ++ next ∷ others
+    → IsUriText (110 ∷ prefix ++ t) → (path : List ℕ) × (t ≡ next ∷ others ++ path)
+scheme_next prefix next others t e m =
     elim m.1 [
-      | inl a ↦ let r = rooted_begins 0 m.0 (110 ∷ front ++ t) a in let g = r.1 in absurd cc
+      | inl a ↦ let r = rooted_begins 0 m.0 (110 ∷ prefix ++ t) a in let g = r.1 in absurd cc
       | inr a ↦
-          let whole : front ++ t ≡ front ++ (next ∷ others ++ a.0) =
-          let both : 110 ∷ (front ++ t) ≡ 110 ∷ (front ++ (next ∷ others ++ a.0)) =
+          let whole : prefix ++ t ≡ prefix ++ (next ∷ others ++ a.0) =
+          let both : 110 ∷ (prefix ++ t) ≡ 110 ∷ (prefix ++ (next ∷ others ++ a.0)) =
           a.1
           ∙ ap (λ (x : List ℕ). x ++ a.0) e
-          ∙ ap (λ (x : List ℕ). 110 ∷ x) (append_assoc front (next ∷ others) a.0) in
+          ∙ ap (λ (x : List ℕ). 110 ∷ x) (append_assoc prefix (next ∷ others) a.0) in
           cc in
-          (a.0, append_cancel_left front t (next ∷ others ++ a.0) whole)
+          (a.0, append_cancel_left prefix t (next ∷ others ++ a.0) whole)
     ]
 
-scheme_goes : (front : List ℕ) (next : ℕ) (others : List ℕ) → codes "ndn:" ≡ 110 ∷ front ++ next ∷ others
-    → (more : List ℕ) × IsUriText (110 ∷ front ++ more)
-scheme_goes front next others e = (
+scheme_goes : (prefix : List ℕ) (next : ℕ) (others : List ℕ) → codes "ndn:" ≡ 110 ∷ prefix ++ next ∷ others
+    → (more : List ℕ) × IsUriText (110 ∷ prefix ++ more)
+scheme_goes prefix next others e = (
   next ∷ others ++ 47 ∷ [],
   (
     [],
     inr (
       47 ∷ [],
-      ap (λ (x : List ℕ). 110 ∷ x) (sym (append_assoc front (next ∷ others) (47 ∷ [])))
+      ap (λ (x : List ℕ). 110 ∷ x) (sym (append_assoc prefix (next ∷ others) (47 ∷ [])))
           ∙ ap (λ (x : List ℕ). x ++ 47 ∷ []) (sym e),
       refl,
     ),
   ),
 )
 
-scheme_rest : (front : List ℕ) (next : ℕ) (others rest : List ℕ) → codes "ndn:" ≡ 110 ∷ front ++ next ∷ others
-    → BeginsWithAnother next rest → LeavesLanguage (λ t. IsUriText (110 ∷ front ++ t)) rest 0
-scheme_rest front next others [] e other =
-    Leaves-end (λ t. IsUriText (110 ∷ front ++ t)) (scheme_goes front next others e)
-    (λ m. let n = scheme_next front next others [] e m in let g = n.1 in absurd cc)
-scheme_rest front next others (c ∷ rest) e other =
-    Leaves-first (λ t. IsUriText (110 ∷ front ++ t)) c rest (scheme_goes front next others e) (λ more m.
-    let n = scheme_next front next others (c ∷ more) e m in let g = n.1 in let same : c ≡ next = cc in other same)
+scheme_rest : (prefix : List ℕ) (next : ℕ) (others rest : List ℕ) → codes "ndn:" ≡ 110 ∷ prefix ++ next ∷ others
+    → BeginsWithAnother next rest → LeavesLanguage (λ t. IsUriText (110 ∷ prefix ++ t)) rest 0
+scheme_rest prefix next others [] e other =
+    Leaves-end (λ t. IsUriText (110 ∷ prefix ++ t)) (scheme_goes prefix next others e)
+    (λ m. let n = scheme_next prefix next others [] e m in let g = n.1 in absurd cc)
+scheme_rest prefix next others (c ∷ rest) e other =
+    Leaves-first (λ t. IsUriText (110 ∷ prefix ++ t)) c rest (scheme_goes prefix next others e) (λ more m.
+    let n = scheme_next prefix next others (c ∷ more) e m in let g = n.1 in let same : c ≡ next = cc in other same)
 
-scheme_leaves : (front : List ℕ) (next : ℕ) (others rest text : List ℕ) → codes "ndn:" ≡ 110 ∷ front ++ next ∷ others
-    → BeginsWithAnother next rest → text ≡ 110 ∷ front ++ rest
-    → LeavesLanguage IsUriText text (length (110 ∷ front) + 0)
-scheme_leaves front next others rest text e other is =
-    let P : List ℕ → Type 0 = λ t. LeavesLanguage IsUriText t (length (110 ∷ front) + 0) in
+scheme_leaves : (prefix : List ℕ) (next : ℕ) (others rest text : List ℕ) → codes "ndn:" ≡ 110 ∷ prefix ++ next ∷ others
+    → BeginsWithAnother next rest → text ≡ 110 ∷ prefix ++ rest
+    → LeavesLanguage IsUriText text (length (110 ∷ prefix) + 0)
+scheme_leaves prefix next others rest text e other is =
+    let P : List ℕ → Type 0 = λ t. LeavesLanguage IsUriText t (length (110 ∷ prefix) + 0) in
     subst P (sym is)
-    (Leaves-behind (λ t. IsUriText (110 ∷ front ++ t)) IsUriText (110 ∷ front) rest 0 (λ t m. m) (λ t m. m)
-    (scheme_rest front next others rest e other))
+    (Leaves-after (λ t. IsUriText (110 ∷ prefix ++ t)) IsUriText (110 ∷ prefix) rest 0 (λ t m. m) (λ t m. m)
+    (scheme_rest prefix next others rest e other))
 
--- a front of the scheme that breaks off
+-- a prefix of the scheme that breaks off
 pub scheme-fails : (text : List ℕ) (place : ℕ) → 0 < place → BreaksOff (codes "ndn:") text place
     → LeavesLanguage IsUriText text place
 scheme-fails text zero some b = absurd (omega arith)
@@ -362,7 +363,7 @@ scheme-fails text (suc (suc zero)) some b = scheme_leaves (100 ∷ []) 110 (58 �
 scheme-fails text (suc (suc (suc zero))) some b = scheme_leaves (100 ∷ 110 ∷ []) 58 [] b.0 text refl b.3 b.1
 scheme-fails text (suc (suc (suc (suc n)))) some b = absurd (omega (arith, b.2))
 
--- a text behind the scheme
+-- a text after the scheme
 pub scheme-reads : {X : Type 0} (view : X → List Part) (path text : List ℕ) (r : Result X NameFault)
     → text ≡ codes "ndn:" ++ path → ReadsText view (IsRooted 4) 4 path r → ReadsText view IsUri 0 text r
 scheme-reads view path text (Ok x) e h = inr (path, e, h)
@@ -380,7 +381,7 @@ scheme-reads view path text (Err f) e h = fails f h where
         4 + k.0,
         omega (arith, k.1),
         subst P (sym e)
-            (Leaves-behind (IsSomeRooted 4) IsUriText (codes "ndn:") path k.0 (λ t m. (m.0, inr (t, refl, m.1))) path_of
+            (Leaves-after (IsSomeRooted 4) IsUriText (codes "ndn:") path k.0 (λ t m. (m.0, inr (t, refl, m.1))) path_of
             k.2),
       )
   fails NoMemory k = k
@@ -398,10 +399,10 @@ plain-reads view text (Err f) other h = fails f h where
   no_scheme [] path o e = absurd cc
   no_scheme (c ∷ t) path o e = let same : c ≡ 110 = cc in o same
 
-  front_other : (t more : List ℕ) (k : ℕ) → k < length t → BeginsWithAnother 110 t
+  prefix_other : (t more : List ℕ) (k : ℕ) → k < length t → BeginsWithAnother 110 t
       → BeginsWithAnother 110 (take (k + 1) t ++ more)
-  front_other [] more k lt o = absurd (omega arith)
-  front_other (c ∷ t) more k lt o = rw add-one o
+  prefix_other [] more k lt o = absurd (omega arith)
+  prefix_other (c ∷ t) more k lt o = rw add-one o
 
   leaves : (k : ℕ) → LeavesLanguage (IsSomeRooted 0) text k → LeavesLanguage IsUriText text k
   leaves k l = record {
@@ -409,7 +410,7 @@ plain-reads view text (Err f) other h = fails f h where
     goes_on = (l.goes_on.0, (l.goes_on.1.0, inl l.goes_on.1.1));
     breaks = λ lt more m. elim m.1 [
       | inl a ↦ l.breaks lt more (m.0, a)
-      | inr a ↦ no_scheme (take (k + 1) text ++ more) a.0 (front_other text more k lt other) a.1
+      | inr a ↦ no_scheme (take (k + 1) text ++ more) a.0 (prefix_other text more k lt other) a.1
     ];
     ends = λ m. elim m.1 [ inl a ↦ l.ends (m.0, a) | inr a ↦ no_scheme text a.0 other a.1 ];
   }

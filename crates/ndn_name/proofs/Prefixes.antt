@@ -1,4 +1,4 @@
--- Prefixes, as fronts of the octets and in the canonical order.
+-- Prefixes, as prefixes of the octets and in the canonical order.
 use Rattle.std.proofs.Common.{◌≡◌, ◌≢◌, ℕ, Bool, true, List, [], ◌∷◌, ◌++◌, length, take, drop, refl, sym, ap, ◌∙◌}
 use Rattle.std.proofs.Common.{append_assoc, arith}
 use Rattle.std.specs.declared.cmp.Ordering.{Ordering}
@@ -45,9 +45,9 @@ prefix-octets (c ∷ a) (d ∷ b) rest h k e =
     let parts =
     element_alone d.0 c.0 d.1 c.1 (encoding b) (encoding a ++ rest)
     (other.above, omega (arith, other.below), other.long) (first.above, omega (arith, first.below), first.long) same in
-    let behind = prefix-octets a b rest h.1 k.1 parts.2 in
+    let following = prefix-octets a b rest h.1 k.1 parts.2 in
     let one : d ≡ c = ap (λ (t : ℕ). (t, d.1)) parts.0 ∙ ap (λ (v : List ℕ). (c.0, v)) parts.1 in
-    ap (λ (x : List Component). d ∷ x) behind ∙ ap (λ (x : Component). x ∷ a) one
+    ap (λ (x : List Component). d ∷ x) following ∙ ap (λ (x : Component). x ∷ a) one
 
 -- ---- in the canonical order
 
@@ -67,9 +67,10 @@ prefix-first [] (d ∷ b) h k = refl
 prefix-first (c ∷ a) [] h k = absurd cc
 prefix-first (c ∷ a) (d ∷ b) h k =
     let one : d ≡ c = cc in
-    let behind : take (length a) b ≡ a = cc in
+    let following : take (length a) b ≡ a = cc in
     let less =
-    prefix-first a b behind (λ e. k (ap (λ (x : Component). x ∷ a) (sym one) ∙ ap (λ (x : List Component). d ∷ x) e)) in
+    prefix-first a b following (λ e. k (ap (λ (x : Component). x ∷ a) (sym one)
+    ∙ ap (λ (x : List Component). d ∷ x) e)) in
     let level : component_cmp c d ≡ Equal =
     ap (λ (x : Component). component_cmp x d) (sym one) ∙ tied_itself component_cmp_total d in
     ap (λ (o : Ordering). ordering_then o (canonical_cmp a b)) level ∙ less
@@ -79,10 +80,10 @@ prefix-first (c ∷ a) (d ∷ b) h k =
 pub values-prefix : (o p : List ℕ) (m n : ℕ) → IsValue o m → IsValue p n → (b : Bool) → b ≡ starts_with nat_eq p o
     → (b ≡ true) ↔ IsPrefix (components o) (components p)
 values-prefix o p m n h k b e =
-    let front = starts_is unsigned_Decides p o b e in (
+    let leading = starts_is unsigned_Decides p o b e in (
       λ yes. prefix-octets (components o) (components p) (drop (length o) p) h.name k.name
-          (sym k.spelled ∙ front.0 yes ∙ ap (λ (x : List ℕ). x ++ drop (length o) p) h.spelled),
-      λ prefix. front.1 (encoding (drop (length (components o)) (components p)))
+          (sym k.spelled ∙ leading.0 yes ∙ ap (λ (x : List ℕ). x ++ drop (length o) p) h.spelled),
+      λ prefix. leading.1 (encoding (drop (length (components o)) (components p)))
           (k.spelled ∙ prefix-encoding (components o) (components p) prefix
           ∙ ap (λ (x : List ℕ). x ++ encoding (drop (length (components o)) (components p))) (sym h.spelled)),
     )

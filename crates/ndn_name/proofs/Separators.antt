@@ -8,9 +8,9 @@ pub lacks-append : (s : ℕ) (a b : List ℕ) → LacksOctet s a → LacksOctet 
 lacks-append s [] b h k = k
 lacks-append s (c ∷ a) b h k = (h.0, lacks-append s a b h.1 k)
 
-pub lacks-front : (s : ℕ) (a b : List ℕ) → LacksOctet s (a ++ b) → LacksOctet s a
-lacks-front s [] b h = tt
-lacks-front s (c ∷ a) b h = (h.0, lacks-front s a b h.1)
+pub lacks-prefix : (s : ℕ) (a b : List ℕ) → LacksOctet s (a ++ b) → LacksOctet s a
+lacks-prefix s [] b h = tt
+lacks-prefix s (c ∷ a) b h = (h.0, lacks-prefix s a b h.1)
 
 pub lacks-separator : (s : ℕ) (a x : List ℕ) → LacksOctet s (a ++ s ∷ x) → ⊥
 lacks-separator s [] x h = h.0 refl
@@ -24,7 +24,7 @@ lacks-test s p (c ∷ text) none h =
       lacks-test s p text none both.1,
     )
 
--- the front and what follows, where the separator stands first
+-- the prefix and what follows, where the separator stands first
 pub split-same : (s : ℕ) (a b x y : List ℕ) → LacksOctet s a → LacksOctet s b → a ++ s ∷ x ≡ b ++ s ∷ y
     → (a ≡ b) × (x ≡ y)
 split-same s [] [] x y h k e = (refl, cc)
@@ -32,19 +32,19 @@ split-same s [] (d ∷ b) x y h k e = absurd (k.0 cc)
 split-same s (c ∷ a) [] x y h k e = absurd (h.0 cc)
 split-same s (c ∷ a) (d ∷ b) x y h k e =
     let first : c ≡ d = cc in
-    let behind : a ++ s ∷ x ≡ b ++ s ∷ y = cc in
-    let rest = split-same s a b x y h.1 k.1 behind in
+    let following : a ++ s ∷ x ≡ b ++ s ∷ y = cc in
+    let rest = split-same s a b x y h.1 k.1 following in
     (ap (λ (n : ℕ). n ∷ a) first ∙ ap (λ (t : List ℕ). d ∷ t) rest.0, rest.1)
 
--- where a front ends, before the separator or behind it
+-- where a prefix ends, before the separator or after it
 pub cut : (s : ℕ) (p more a x : List ℕ) → p ++ more ≡ a ++ s ∷ x
     → ((r : List ℕ) × (a ≡ p ++ r)) ⊎ ((r : List ℕ) × (p ≡ a ++ s ∷ r))
 cut s [] more a x e = inl (a, refl)
 cut s (c ∷ p) more [] x e = let first : c ≡ s = cc in inr (p, ap (λ (n : ℕ). n ∷ p) first)
 cut s (c ∷ p) more (d ∷ a) x e =
     let first : c ≡ d = cc in
-    let behind : p ++ more ≡ a ++ s ∷ x = cc in
-    elim (cut s p more a x behind) [
+    let following : p ++ more ≡ a ++ s ∷ x = cc in
+    elim (cut s p more a x following) [
       | inl h ↦ inl (h.0, ap (λ (n : ℕ). n ∷ a) (sym first) ∙ ap (λ (t : List ℕ). c ∷ t) h.1)
       | inr h ↦ inr (h.0, ap (λ (n : ℕ). n ∷ p) first ∙ ap (λ (t : List ℕ). d ∷ t) h.1)
     ]
@@ -63,18 +63,18 @@ parts-same s (c ∷ a) [] x [] h k p q e = absurd cc
 parts-same s (c ∷ a) [] x (d ∷ y) h k p q e = let first : c ≡ d = cc in absurd (h.0 (first ∙ q))
 parts-same s (c ∷ a) (d ∷ b) x y h k p q e =
     let first : c ≡ d = cc in
-    let behind : a ++ x ≡ b ++ y = cc in
-    let rest = parts-same s a b x y h.1 k.1 p q behind in
+    let following : a ++ x ≡ b ++ y = cc in
+    let rest = parts-same s a b x y h.1 k.1 p q following in
     (ap (λ (n : ℕ). n ∷ a) first ∙ ap (λ (t : List ℕ). d ∷ t) rest.0, rest.1)
 
--- a front without the separator is a front of the first part
-pub front-first : (s : ℕ) (p more a x : List ℕ) → LacksOctet s p → Bounded s x → p ++ more ≡ a ++ x
+-- a prefix without the separator is a prefix of the first part
+pub prefix-first : (s : ℕ) (p more a x : List ℕ) → LacksOctet s p → Bounded s x → p ++ more ≡ a ++ x
     → (r : List ℕ) × (a ≡ p ++ r)
-front-first s [] more a x h b e = (a, refl)
-front-first s (c ∷ p) more [] [] h b e = absurd cc
-front-first s (c ∷ p) more [] (d ∷ x) h b e = let first : c ≡ d = cc in absurd (h.0 (first ∙ b))
-front-first s (c ∷ p) more (d ∷ a) x h b e =
+prefix-first s [] more a x h b e = (a, refl)
+prefix-first s (c ∷ p) more [] [] h b e = absurd cc
+prefix-first s (c ∷ p) more [] (d ∷ x) h b e = let first : c ≡ d = cc in absurd (h.0 (first ∙ b))
+prefix-first s (c ∷ p) more (d ∷ a) x h b e =
     let first : c ≡ d = cc in
-    let behind : p ++ more ≡ a ++ x = cc in
-    let rest = front-first s p more a x h.1 b behind in
+    let following : p ++ more ≡ a ++ x = cc in
+    let rest = prefix-first s p more a x h.1 b following in
     (rest.0, ap (λ (n : ℕ). n ∷ a) (sym first) ∙ ap (λ (t : List ℕ). c ∷ t) rest.1)

@@ -23,66 +23,66 @@ use Rattle.ndn_name.specs.declared.uri_form.Form.TheVariants.{Digest, Number, Es
 use Rattle.ndn_name.specs.Names.{Component, encoding}
 use Rattle.ndn_name.specs.Uri.{are_periods, IsDecimal, IsDigestText}
 use Rattle.ndn_name.specs.UriReading.{BeginsWithAnother, BreaksOff, FailsIn, IsHead, Splits, octet_at, shape}
-use Rattle.ndn_name.specs.UriText.{onto, digest_of_text, unescaped, behind_three, value_of_text, decimal_of_text}
-use Rattle.ndn_name.specs.UriText.{number_of_text, typed, component_of_text, component_in_front, components_of_texts}
-use Rattle.ndn_name.specs.UriText.{name_of_path, behind_word, without_scheme, name_of_text, is_digest, plain_component}
+use Rattle.ndn_name.specs.UriText.{onto, digest_of_text, unescaped, after_three, value_of_text, decimal_of_text}
+use Rattle.ndn_name.specs.UriText.{number_of_text, typed, component_of_text, component_before, components_of_texts}
+use Rattle.ndn_name.specs.UriText.{name_of_path, after_word, without_scheme, name_of_text, is_digest, plain_component}
 use Rattle.ndn_name.specs.UriText.{plain_name}
 use Rattle.ndn_name.proofs.Digests.{length-digits}
 use Rattle.ndn_name.proofs.Escapes.{octet-takes, octet-leaves}
 use Rattle.ndn_name.proofs.ComputedValues.{none_from, unescaped-octet, is_unescaped, digest_is, is_digest_text}
 use Rattle.ndn_name.proofs.ComputedValues.{decimal_is, is_decimal_text}
-use Rattle.ndn_name.proofs.ComputedNames.{behind-append, is_slash, rooted_name, split-lacks, split-slash}
+use Rattle.ndn_name.proofs.ComputedNames.{rest-append, is_slash, rooted_name, split-lacks, split-slash}
 
 -- ---- values
 
-abbrev with_front : List ℕ → Option (List ℕ) → Option (List ℕ)
-with_front front octets = option_map (λ others. front ++ others) octets
+abbrev with_prefix : List ℕ → Option (List ℕ) → Option (List ℕ)
+with_prefix prefix octets = option_map (λ others. prefix ++ others) octets
 
 -- what is read of a value so far
 pub record IsSoFar (text rest : List ℕ) (len : ℕ) (periods : Bool) : Type 0 where
-  pub front : List ℕ
-  pub count : len ≡ length front
-  pub all_periods : periods ≡ are_periods front
-  pub read : unescaped text ≡ with_front front (unescaped rest)
+  pub prefix : List ℕ
+  pub count : len ≡ length prefix
+  pub all_periods : periods ≡ are_periods prefix
+  pub read : unescaped text ≡ with_prefix prefix (unescaped rest)
   pub short : len + length rest ≤ length text
 
 pub so_far-start : (text : List ℕ) → IsSoFar text text 0 true
 so_far-start text = record {
-  front = [];
+  prefix = [];
   count = refl;
   all_periods = refl;
   read = same (unescaped text);
   short = omega arith;
 } where
-  same : (o : Option (List ℕ)) → o ≡ with_front [] o
+  same : (o : Option (List ℕ)) → o ≡ with_prefix [] o
   same None = refl
   same (Some octets) = refl
 
-onto_front : (front : List ℕ) (octet : ℕ) (o : Option (List ℕ))
-    → with_front front (onto octet o) ≡ with_front (front ++ octet ∷ []) o
-onto_front front octet None = refl
-onto_front front octet (Some others) = ap some_octets (sym (append_assoc front (octet ∷ []) others)) where
+onto_prefix : (prefix : List ℕ) (octet : ℕ) (o : Option (List ℕ))
+    → with_prefix prefix (onto octet o) ≡ with_prefix (prefix ++ octet ∷ []) o
+onto_prefix prefix octet None = refl
+onto_prefix prefix octet (Some others) = ap some_octets (sym (append_assoc prefix (octet ∷ []) others)) where
   some_octets : List ℕ → Option (List ℕ)
   some_octets octets = Some octets
 
-pub so_far-step : (text rest behind : List ℕ) (len octet : ℕ) (periods : Bool) → IsSoFar text rest len periods
-    → octet_at 0 rest ≡ Ok (octet, behind) → IsSoFar text behind (len + 1) (periods && eqb octet 46)
+pub so_far-step : (text rest following : List ℕ) (len octet : ℕ) (periods : Bool) → IsSoFar text rest len periods
+    → octet_at 0 rest ≡ Ok (octet, following) → IsSoFar text following (len + 1) (periods && eqb octet 46)
 so_far-step text rest after len octet periods s e =
     let t = octet-takes 0 rest (octet, after) e in
     let step : unescaped rest ≡ onto octet (unescaped after) =
     ap unescaped t.split ∙ unescaped-octet octet t.first after t.is in
     record {
-      front = s.front ++ octet ∷ [];
-      count = omega (arith, s.count, length-append s.front (octet ∷ []));
+      prefix = s.prefix ++ octet ∷ [];
+      count = omega (arith, s.count, length-append s.prefix (octet ∷ []));
       all_periods = last s.all_periods;
-      read = s.read ∙ ap (with_front s.front) step ∙ onto_front s.front octet (unescaped after);
+      read = s.read ∙ ap (with_prefix s.prefix) step ∙ onto_prefix s.prefix octet (unescaped after);
       short = omega (arith, s.short, t.some, ap length t.split, length-append t.first after);
     } where
-      last : periods ≡ are_periods s.front → (periods && eqb octet 46) ≡ are_periods (s.front ++ octet ∷ [])
+      last : periods ≡ are_periods s.prefix → (periods && eqb octet 46) ≡ are_periods (s.prefix ++ octet ∷ [])
       last h =
           ap (λ (b : Bool). b && eqb octet 46) h
-          ∙ ap (λ (b : Bool). are_periods s.front && b) (sym (and-true (eqb octet 46)))
-          ∙ sym (list_all-append (λ (o : ℕ). eqb o 46) s.front (octet ∷ []))
+          ∙ ap (λ (b : Bool). are_periods s.prefix && b) (sym (and-true (eqb octet 46)))
+          ∙ sym (list_all-append (λ (o : ℕ). eqb o 46) s.prefix (octet ∷ []))
 
 pub so_far-shrinks : (rest after : List ℕ) (octet : ℕ) → octet_at 0 rest ≡ Ok (octet, after)
     → length after < length rest
@@ -103,25 +103,25 @@ so_far-none text rest len periods f s some e = rw (s.read, no_octet rest f some 
 abbrev some_size : ℕ → Option ℕ
 some_size n = Some n
 
-size_behind_three : (octets : List ℕ) (size : Option ℕ) → SomeIff size (3 ≤ length octets) (length octets - 3)
-    → size ≡ option_map length (behind_three octets)
-size_behind_three [] None h = refl
-size_behind_three [] (Some n) h = absurd (omega (arith, h.0))
-size_behind_three (a ∷ []) None h = refl
-size_behind_three (a ∷ []) (Some n) h = absurd (omega (arith, h.0))
-size_behind_three (a ∷ b ∷ []) None h = refl
-size_behind_three (a ∷ b ∷ []) (Some n) h = absurd (omega (arith, h.0))
-size_behind_three (a ∷ b ∷ c ∷ octets) None h = absurd (h (omega arith))
-size_behind_three (a ∷ b ∷ c ∷ octets) (Some n) h =
+size_after_three : (octets : List ℕ) (size : Option ℕ) → SomeIff size (3 ≤ length octets) (length octets - 3)
+    → size ≡ option_map length (after_three octets)
+size_after_three [] None h = refl
+size_after_three [] (Some n) h = absurd (omega (arith, h.0))
+size_after_three (a ∷ []) None h = refl
+size_after_three (a ∷ []) (Some n) h = absurd (omega (arith, h.0))
+size_after_three (a ∷ b ∷ []) None h = refl
+size_after_three (a ∷ b ∷ []) (Some n) h = absurd (omega (arith, h.0))
+size_after_three (a ∷ b ∷ c ∷ octets) None h = absurd (h (omega arith))
+size_after_three (a ∷ b ∷ c ∷ octets) (Some n) h =
     let same : n ≡ length octets = omega (arith, h.1) in
     ap (λ (k : ℕ). some_size k) same
 
 nothing_left : (text rest : List ℕ) (len : ℕ) (periods : Bool) (s : IsSoFar text rest len periods) → length rest ≡ 0
-    → unescaped text ≡ Some s.front
+    → unescaped text ≡ Some s.prefix
 unfolding unescaped
-nothing_left text [] len periods s e = s.read ∙ ap some_front (append-nil s.front) where
-  some_front : List ℕ → Option (List ℕ)
-  some_front octets = Some octets
+nothing_left text [] len periods s e = s.read ∙ ap some_prefix (append-nil s.prefix) where
+  some_prefix : List ℕ → Option (List ℕ)
+  some_prefix octets = Some octets
 nothing_left text (c ∷ rest) len periods s e = absurd (omega arith)
 
 -- at the end, where there are periods alone
@@ -130,7 +130,7 @@ pub so_far-periods : (text rest : List ℕ) (len : ℕ) (periods : Bool) (size :
     → size ≡ option_map length (value_of_text text)
 so_far-periods text rest len periods size s e all h =
     let P : ℕ → Type 0 = λ n. SomeIff size (3 ≤ n) (n - 3) in
-    size_behind_three s.front size (subst P s.count h)
+    size_after_three s.prefix size (subst P s.count h)
     ∙ sym (rw (nothing_left text rest len periods s e, sym s.all_periods ∙ all) refl)
 
 -- and where there are others
@@ -154,15 +154,15 @@ failed f = Err f
 
 pub number-fails : (text : List ℕ) (f : NameFault) → (failed {A = ℕ} f ≡ failed NoMemory → ⊥)
     → FailsIn (IsDecimal most_number) 0 text f → option_map length (number_of_text text) ≡ None
-number-fails text (BadUri place) told h =
+number-fails text (BadUri place) reported h =
     rw (none_from (decimal_of_text most_number text)
     (λ n e. h.2.ends (n, is_decimal_text most_number n text (omega arith) e)))
     refl
-number-fails text NoMemory told h = absurd (told refl)
-number-fails text NameTooLong told h = absurd h
-number-fails text (Tlv fault) told h = absurd h
-number-fails text (BadComponent at) told h = absurd h
-number-fails text (BadDigestLength at) told h = absurd h
+number-fails text NoMemory reported h = absurd (reported refl)
+number-fails text NameTooLong reported h = absurd h
+number-fails text (Tlv fault) reported h = absurd h
+number-fails text (BadComponent at) reported h = absurd h
+number-fails text (BadDigestLength at) reported h = absurd h
 
 pub width : (n : ℕ) → length (number_field n) ≤ 8
 width n =
@@ -213,13 +213,13 @@ digest-short digest text h = omega (arith, h.0, length-digits digest text h.1)
 pub digest-fails : (text : List ℕ) (f : NameFault) → (failed {A = List ℕ} f ≡ failed NoMemory → ⊥)
     → FailsIn IsDigestText 0 text f
     → option_map length (digest_of_text text) ≡ None
-digest-fails text (BadUri place) told h =
+digest-fails text (BadUri place) reported h =
     rw (none_from (digest_of_text text) (λ v e. h.2.ends (v, is_digest_text text v e))) refl
-digest-fails text NoMemory told h = absurd (told refl)
-digest-fails text NameTooLong told h = absurd h
-digest-fails text (Tlv fault) told h = absurd h
-digest-fails text (BadComponent at) told h = absurd h
-digest-fails text (BadDigestLength at) told h = absurd h
+digest-fails text NoMemory reported h = absurd (reported refl)
+digest-fails text NameTooLong reported h = absurd h
+digest-fails text (Tlv fault) reported h = absurd h
+digest-fails text (BadComponent at) reported h = absurd h
+digest-fails text (BadDigestLength at) reported h = absurd h
 
 -- ---- components
 
@@ -307,7 +307,7 @@ size-none text texts h = by_component (component_of_text text) refl where
     by_test true g = rw e (others (components_of_texts texts)) where
       others : (o : Option (List Component))
           → option_map (λ (name : List Component). length (encoding name))
-          (option_and_then plain_name (component_in_front c o))
+          (option_and_then plain_name (component_before c o))
           ≡ None
       others None = refl
       others (Some name) = rw g refl
@@ -329,7 +329,7 @@ size-some text texts n h = by_component (component_of_text text) refl where
 
       others : (o : Option (List Component))
           → option_map (λ (name : List Component). length (encoding name))
-          (option_and_then plain_name (component_in_front c o))
+          (option_and_then plain_name (component_before c o))
           ≡ plus n (option_map (λ (name : List Component). length (encoding name)) (option_and_then plain_name o))
       others None = refl
       others (Some name) = rw g (tested (list_any is_digest name)) where
@@ -349,8 +349,8 @@ size_left (Some text) = size_of_texts (slice_split is_slash text)
 abbrev pub room_left : Option (List ℕ) → ℕ
 room_left left = option_map_or (λ t. length t + 1) left 0
 
-pub size-split : (text first : List ℕ) (behind : Option (List ℕ)) (n : ℕ) → Splits 47 text first behind
-    → component_size first ≡ Some n → size_left (Some text) ≡ plus n (size_left behind)
+pub size-split : (text first : List ℕ) (following : Option (List ℕ)) (n : ℕ) → Splits 47 text first following
+    → component_size first ≡ Some n → size_left (Some text) ≡ plus n (size_left following)
 size-split text first None n s h =
     ap (λ (t : List ℕ). size_of_texts (slice_split is_slash t)) s.0 ∙ ap size_of_texts (split-lacks first s.1)
     ∙ size-some first [] n h ∙ ap (plus n) size-no_texts
@@ -358,7 +358,7 @@ size-split text first (Some rest) n s h =
     ap (λ (t : List ℕ). size_of_texts (slice_split is_slash t)) s.0 ∙ ap size_of_texts (split-slash first rest s.1)
     ∙ size-some first (slice_split is_slash rest) n h
 
-pub size-stuck : (text first : List ℕ) (behind : Option (List ℕ)) → Splits 47 text first behind
+pub size-stuck : (text first : List ℕ) (following : Option (List ℕ)) → Splits 47 text first following
     → component_size first ≡ None → size_left (Some text) ≡ None
 size-stuck text first None s h =
     ap (λ (t : List ℕ). size_of_texts (slice_split is_slash t)) s.0 ∙ ap size_of_texts (split-lacks first s.1)
@@ -367,8 +367,8 @@ size-stuck text first (Some rest) s h =
     ap (λ (t : List ℕ). size_of_texts (slice_split is_slash t)) s.0 ∙ ap size_of_texts (split-slash first rest s.1)
     ∙ size-none first (slice_split is_slash rest) h
 
-pub room-split : (text first : List ℕ) (behind : Option (List ℕ)) → Splits 47 text first behind
-    → room_left behind + (length first + 1) ≡ length text + 1
+pub room-split : (text first : List ℕ) (following : Option (List ℕ)) → Splits 47 text first following
+    → room_left following + (length first + 1) ≡ length text + 1
 room-split text first None s = omega (arith, ap length s.0)
 room-split text first (Some rest) s = omega (arith, ap length s.0, length-append first (47 ∷ rest))
 
@@ -378,11 +378,11 @@ plus-plus a b (Some n) = ap (λ (k : ℕ). some_size k) (omega arith)
 
 -- ---- the front of a text
 
-pub broken_off : (word text : List ℕ) (place : ℕ) → BreaksOff word text place → behind_word word text ≡ None
-unfolding behind_word
+pub broken_off : (word text : List ℕ) (place : ℕ) → BreaksOff word text place → after_word word text ≡ None
+unfolding after_word
 broken_off [] text place h = absurd (omega (arith, h.2))
 broken_off (c ∷ word) text zero h = rw h.1 (begins h.0 h.3) where
-  begins : (rest : List ℕ) → BeginsWithAnother c rest → behind_word (c ∷ word) rest ≡ None
+  begins : (rest : List ℕ) → BeginsWithAnother c rest → after_word (c ∷ word) rest ≡ None
   begins [] k = refl
   begins (d ∷ rest) k = rw (ne_eqb c d (λ e. k (sym e))) refl
 broken_off (c ∷ word) text (suc place) h =
@@ -393,7 +393,7 @@ pub scheme-is : (r : Result (Bor (List ℕ)) ℕ) (text : Bor (List ℕ))
     → (result_unwrap_or r text).now ≡ without_scheme text.now
 scheme-is (Ok path) text h =
     sym (ap without_scheme h
-    ∙ ap (λ (o : Option (List ℕ)). unwrap_or o (codes "ndn:" ++ path.now)) (behind-append (codes "ndn:") path.now))
+    ∙ ap (λ (o : Option (List ℕ)). unwrap_or o (codes "ndn:" ++ path.now)) (rest-append (codes "ndn:") path.now))
 scheme-is (Err place) text h =
     sym (ap (λ (o : Option (List ℕ)). unwrap_or o text.now) (broken_off (codes "ndn:") text.now place h))
 
@@ -408,13 +408,13 @@ unfolding name_of_text
 rooted-is text rooted e = ap rooted_name (sym e)
 
 unrooted : (rooted : List ℕ) → BeginsWithAnother 47 rooted → rooted_name rooted ≡ None
-unfolding behind_word
+unfolding after_word
 unrooted [] h = refl
 unrooted (c ∷ rooted) h = rw (ne_eqb 47 c (λ e. h (sym e))) refl
 
-behind_slash : (path : List ℕ) → rooted_name (47 ∷ path) ≡ name_of_path path
-unfolding behind_word
-behind_slash path = refl
+after_slash : (path : List ℕ) → rooted_name (47 ∷ path) ≡ name_of_path path
+unfolding after_word
+after_slash path = refl
 
 pub text_size-none : (text rooted : List ℕ) → rooted ≡ without_scheme text → BeginsWithAnother 47 rooted
     → text_size text ≡ None
@@ -422,7 +422,7 @@ text_size-none text rooted e h = ap size_of_name (rooted-is text rooted e ∙ un
 
 at_root : (text rooted path : List ℕ) → rooted ≡ without_scheme text → rooted ≡ 47 ∷ path
     → text_size text ≡ size_of_name (name_of_path path)
-at_root text rooted path e h = ap size_of_name (rooted-is text rooted e ∙ ap rooted_name h ∙ behind_slash path)
+at_root text rooted path e h = ap size_of_name (rooted-is text rooted e ∙ ap rooted_name h ∙ after_slash path)
 
 pub text_size-root : (text rooted path : List ℕ) → rooted ≡ without_scheme text → rooted ≡ 47 ∷ path
     → length path ≡ 0 → text_size text ≡ Some 0

@@ -34,9 +34,9 @@ periods-take (suc n) (x ∷ a) h =
     let p = and_parts (eqb x 46) (are_periods a) h in
     ap (λ (b : Bool). b && are_periods (take n a)) p.0 ∙ periods-take n a p.1
 
-pub letter_behind : (a : List ℕ) → are_periods (a ++ 97 ∷ []) ≡ false
-letter_behind [] = refl
-letter_behind (x ∷ a) = ap (λ (b : Bool). eqb x 46 && b) (letter_behind a) ∙ never (eqb x 46) where
+pub letter_after : (a : List ℕ) → are_periods (a ++ 97 ∷ []) ≡ false
+letter_after [] = refl
+letter_after (x ∷ a) = ap (λ (b : Bool). eqb x 46 && b) (letter_after a) ∙ never (eqb x 46) where
   never : (b : Bool) → (b && false) ≡ false
   never true = refl
   never false = refl
@@ -68,7 +68,7 @@ value-other octets text h other =
 with_letter : (octets text : List ℕ) → IsEscaped octets text → IsSomeValueText (text ++ 97 ∷ [])
 with_letter octets text h =
     let whole = escaped-append octets (97 ∷ []) text (97 ∷ []) h (escaped-one 97 (97 ∷ []) (plain refl refl)) in
-    (octets ++ 97 ∷ [], value-other (octets ++ 97 ∷ []) (text ++ 97 ∷ []) whole (letter_behind octets))
+    (octets ++ 97 ∷ [], value-other (octets ++ 97 ∷ []) (text ++ 97 ∷ []) whole (letter_after octets))
 
 -- one or two periods, or nothing
 pub value-short : (octets text : List ℕ) → IsEscaped octets text → are_periods octets ≡ true → length octets < 3

@@ -35,7 +35,7 @@ abbrev pub IsName : List Component → Type 0
 IsName [] = Unit {0}
 IsName (c ∷ cs) = IsComponent c × IsName cs
 
--- The full name of a packet: its name, and its implicit digest behind it.
+-- The full name of a packet: its name, and its implicit digest after it.
 abbrev pub full_name : List Component → List ℕ → List Component
 full_name name digest = name ++ (types.ImplicitSha256DigestComponent, digest) ∷ []
 

@@ -63,7 +63,7 @@ IsNumberText value text = (n : ℕ) × (value ≡ number_field n) × IsDecimal 1
 
 -- ---- components
 
--- What stands before an equals sign, and what behind it.
+-- What stands before an equals sign, and what after it.
 abbrev pub headed : List ℕ → List ℕ → List ℕ
 headed head tail = head ++ 61 ∷ tail
 

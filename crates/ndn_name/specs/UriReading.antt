@@ -19,7 +19,7 @@ use Rattle.ndn_name.specs.Uri.{Part, IsDecimal, IsDigestText, IsNumberText, IsVa
 use Rattle.ndn_name.specs.UriText.{digest_of_text, number_of_text, typed, value_of_text}
 use Rattle.ndn_name.specs.UriVerdict.{LeavesLanguage}
 
--- The text that begins at this place leaves the language of all values at the place that is told.
+-- The text that begins at this place leaves the language of all values at the place that is reported.
 abbrev pub FailsIn : {V : Type 0} → (V → List ℕ → Type 0) → ℕ → List ℕ → NameFault → Type 0
 FailsIn {V} L at text (BadUri place) =
     (k : ℕ) × (place ≡ at + k) × LeavesLanguage (λ t. (v : V) × L v t) text k
@@ -40,12 +40,12 @@ abbrev pub LacksOctet : ℕ → List ℕ → Type 0
 LacksOctet octet [] = Unit {0}
 LacksOctet octet (c ∷ text) = (c ≢ octet) × LacksOctet octet text
 
--- What stands before the first such octet, and what behind it, if there is one.
+-- What stands before the first such octet, and what after it, if there is one.
 abbrev pub Splits : ℕ → List ℕ → List ℕ → Option (List ℕ) → Type 0
-Splits octet text front None = (text ≡ front) × LacksOctet octet front
-Splits octet text front (Some rest) = (text ≡ front ++ octet ∷ rest) × LacksOctet octet front
+Splits octet text prefix None = (text ≡ prefix) × LacksOctet octet prefix
+Splits octet text prefix (Some rest) = (text ≡ prefix ++ octet ∷ rest) × LacksOctet octet prefix
 
--- The digit at the front of a text that begins at this place, and what follows it.
+-- The digit at the start of a text that begins at this place, and what follows it.
 unfoldable pub digit_at : ℕ → List ℕ → Result (ℕ × List ℕ) NameFault
 digit_at at [] = Err (BadUri at)
 digit_at at (c ∷ text) =
@@ -58,7 +58,7 @@ pair_at at text = do
   low ← digit_at (at + 1) high.1
   Ok (high.0 * 16 + low.0, low.1)
 
--- The octet whose text is at the front.
+-- The octet whose text is at the start.
 unfoldable pub octet_at : ℕ → List ℕ → Result (ℕ × List ℕ) NameFault
 octet_at at [] = Err (BadUri at)
 octet_at at (c ∷ text) =
@@ -75,7 +75,7 @@ with_digit most (Some n) c =
     then Some (n * 10 + digit_value c)
     else None
 
--- How a value is written behind a head, and of which type it is.
+-- How a value is written after a head, and of which type it is.
 abbrev pub IsHead : Form → List ℕ → Type 0
 IsHead (Digest typ) head =
     ((typ ≡ types.ImplicitSha256DigestComponent) × (head ≡ codes "sha256digest"))
@@ -124,7 +124,7 @@ abbrev pub BeginsWithAnother : ℕ → List ℕ → Type 0
 BeginsWithAnother octet [] = Unit {0}
 BeginsWithAnother octet (c ∷ text) = c ≢ octet
 
--- So many octets of the word are at the front of the text, and not the next.
+-- So many octets of the word are at the start of the text, and not the next.
 abbrev pub BreaksOff : List ℕ → List ℕ → ℕ → Type 0
 BreaksOff word text place =
     (rest : List ℕ) × (text ≡ take place word ++ rest) × (place < length word)

@@ -30,12 +30,12 @@ unescaped (c ∷ d ∷ e ∷ text) =
     else None
 
 -- A value of periods alone is written with three more.
-abbrev pub behind_three : List ℕ → Option (List ℕ)
-behind_three (a ∷ b ∷ c ∷ value) = Some value
-behind_three octets = None
+abbrev pub after_three : List ℕ → Option (List ℕ)
+after_three (a ∷ b ∷ c ∷ value) = Some value
+after_three octets = None
 
 abbrev pub unguarded : List ℕ → Option (List ℕ)
-unguarded octets = if are_periods octets then behind_three octets else Some octets
+unguarded octets = if are_periods octets then after_three octets else Some octets
 
 abbrev pub value_of_text : List ℕ → Option (List ℕ)
 value_of_text text = option_and_then unguarded (unescaped text)
@@ -77,7 +77,7 @@ abbrev pub typed_by : Option ℕ → List ℕ → Option Component
 typed_by None tail = None
 typed_by (Some typ) tail = if nat_lt 0 typ then typed typ (value_of_text tail) else None
 
--- The component of what stands before an equals sign and behind it.
+-- The component of what stands before an equals sign and after it.
 abbrev pub component_of_parts : List ℕ → List ℕ → Option Component
 component_of_parts head tail =
     if bytes_eq head (codes "sha256digest")
@@ -90,7 +90,7 @@ component_of_parts head tail =
     then typed types.SequenceNumNameComponent (number_of_text tail)
     else typed_by (decimal_of_text greatest_type head) tail
 
--- What stands before the first such octet and behind it, where there is one.
+-- What stands before the first such octet and after it, where there is one.
 unfoldable pub cut_at : ℕ → List ℕ → Option (List ℕ × List ℕ)
 cut_at octet [] = None
 cut_at octet (c ∷ text) =
@@ -106,32 +106,32 @@ component_of_text text = component_by text (cut_at 61 text)
 
 -- ---- names
 
-abbrev pub component_in_front : Component → Option (List Component) → Option (List Component)
-component_in_front c name = option_map (λ others. c ∷ others) name
+abbrev pub component_before : Component → Option (List Component) → Option (List Component)
+component_before c name = option_map (λ others. c ∷ others) name
 
 unfoldable pub components_of_texts : List (List ℕ) → Option (List Component)
 components_of_texts [] = Some []
 components_of_texts (text ∷ texts) =
-    option_and_then (λ c. component_in_front c (components_of_texts texts)) (component_of_text text)
+    option_and_then (λ c. component_before c (components_of_texts texts)) (component_of_text text)
 
--- What stands behind the first slash: nothing, or the texts of components and a slash between any
+-- What stands after the first slash: nothing, or the texts of components and a slash between any
 -- two.
 abbrev pub name_of_path : List ℕ → Option (List Component)
 name_of_path [] = Some []
 name_of_path (c ∷ path) = components_of_texts (slice_split (λ o. o == 47) (c ∷ path))
 
--- What follows a word at the front of a text, where the word is there.
-unfoldable pub behind_word : List ℕ → List ℕ → Option (List ℕ)
-behind_word [] text = Some text
-behind_word (c ∷ word) [] = None
-behind_word (c ∷ word) (d ∷ text) = if c == d then behind_word word text else None
+-- What follows a word at the start of a text, where the word is there.
+unfoldable pub after_word : List ℕ → List ℕ → Option (List ℕ)
+after_word [] text = Some text
+after_word (c ∷ word) [] = None
+after_word (c ∷ word) (d ∷ text) = if c == d then after_word word text else None
 
 abbrev pub without_scheme : List ℕ → List ℕ
-without_scheme text = unwrap_or (behind_word (codes "ndn:") text) text
+without_scheme text = unwrap_or (after_word (codes "ndn:") text) text
 
 -- The name whose URI the text is, where it is one.
 unfoldable pub name_of_text : List ℕ → Option (List Component)
-name_of_text text = option_and_then name_of_path (behind_word (codes "/") (without_scheme text))
+name_of_text text = option_and_then name_of_path (after_word (codes "/") (without_scheme text))
 
 -- A digest is a component of type 1 or 2.
 abbrev pub is_digest : Component → Bool

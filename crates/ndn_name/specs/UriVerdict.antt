@@ -34,7 +34,7 @@ first_bad_digest (part ∷ parts) =
     if is_bad_digest part.1 then Some part.0 else first_bad_digest parts
 
 -- What a text is. It leaves the language; or a digest has not 32 octets, and the first such is
--- told; or the name is too long; or it is this name.
+-- reported; or the name is too long; or it is this name.
 abbrev pub IsUriVerdict : List ℕ → Result (List Component) NameFault → Type 0
 IsUriVerdict text (Ok name) =
     (parts : List Part) × IsUri parts text × (first_bad_digest parts ≡ None)

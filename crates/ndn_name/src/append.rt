@@ -45,7 +45,7 @@ fn has_room(octets: usize, typ: u16, len: usize) -> bool
 fn append_parts(octets: &mut Vec<u8>, typ: u16, value: &[u8]) -> Result<(), AllocError>
     requires { length value.now ≤ NAME_LIMIT }
     ensures ok { OnOk result (octets.new.items ≡ octets.old.items ++ element typ value.now) }
-    ensures front { take (length octets.old.items) octets.new.items ≡ octets.old.items }
+    ensures prefix { take (length octets.old.items) octets.new.items ≡ octets.old.items }
 {
     append_number(octets, typ)?;
     append_number(octets, value.len() as u16)?;

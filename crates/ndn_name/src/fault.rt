@@ -1,6 +1,6 @@
 ghost use Rattle.std.specs.Prelude.{◌≡◌};
 
-use ndn_tlv::{FieldFault, TlvFault};
+use ndn_tlv::{FieldError, TlvFault};
 use std::alloc::AllocError;
 use thiserror::Error;
 
@@ -58,16 +58,16 @@ impl From<TlvFault> for PacketFault {
     }
 }
 
-impl From<FieldFault> for PacketFault {
+impl From<FieldError> for PacketFault {
     ghost use Rattle.std.specs.Prelude.{◌≡◌};
     ghost use Rattle.ndn_name.specs.Faults.{packet_fault};
 
     ghost from_gives = { λ fault e. e ≡ packet_fault fault };
 
-    fn from(fault: FieldFault) -> PacketFault {
+    fn from(fault: FieldError) -> PacketFault {
         match fault {
-            FieldFault::Tlv(fault) => PacketFault::Tlv(fault),
-            FieldFault::Critical { typ, at } => PacketFault::Critical { typ, at },
+            FieldError::Tlv(fault) => PacketFault::Tlv(fault),
+            FieldError::Critical { typ, at } => PacketFault::Critical { typ, at },
         }
     }
 }
@@ -83,7 +83,7 @@ pub enum PacketWriteFault {
 }
 
 impl PacketWriteFault {
-    /// Want of memory, which is all that a packet within its limit can meet.
+    /// Running out of memory, which is all that a packet within its limit can meet.
     pub fn only_memory(self) -> AllocError
         requires { self ≡ PacketWriteFault.NoMemory }
     {

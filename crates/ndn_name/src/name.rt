@@ -147,7 +147,7 @@ impl Clone for Name {
 }
 
 /// The full name of a Data packet: its name with its implicit digest, the SHA-256 of the packet,
-/// behind it.
+/// after it.
 pub fn full_name(alloc: Global, name: &Name, digest: &[u8; 32]) -> Result<Name, NameFault>
     ensures ok { IfOk result (λ full. full ≡ full_name name.now digest.now) }
     ensures fits { OnOk result (length (encoding (full_name name.now digest.now)) ≤ NAME_LIMIT) }

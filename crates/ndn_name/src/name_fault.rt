@@ -7,7 +7,7 @@ use thiserror::Error;
 /// Why octets or a text are no name (NDN Packet Format 0.3, "Name"), or why a name was not made.
 ///
 /// `at` is the offset of the component's element from the packet's beginning. For a text it is the
-/// first octet of the component's text, behind its slash.
+/// first octet of the component's text, after its slash.
 #[derive(Clone, Copy, Debug, PartialEq, Eq, Error)]
 pub enum NameFault {
     #[error("{0}")]
@@ -29,7 +29,7 @@ pub enum NameFault {
 }
 
 impl NameFault {
-    /// Want of memory, which is all that a name within its limit can meet.
+    /// Running out of memory, which is all that a name within its limit can meet.
     pub fn only_memory(self) -> AllocError
         requires { self ≡ NameFault.NoMemory }
     {

@@ -34,13 +34,13 @@ pub(crate) fn split_head(text: &[u8]) -> Option<(Form, &[u8], &[u8])>
     ensures some { IfSome result (λ x. IsHead x.0 x.1.now × (text.now ≡ headed x.1.now x.2.now)) }
     ensures none { IfNone result (HasNoHead text.now) }
 {
-    let (head, behind) = split_once(text, b'=');
-    let tail = behind?;
+    let (head, following) = split_once(text, b'=');
+    let tail = following?;
     let form = form_of(head)?;
     Some((form, head, tail))
 }
 
-// The component whose text this is behind a head of this form.
+// The component whose text this is after a head of this form.
 fn read_tail(
     alloc: Global,
     form: Form,
@@ -60,7 +60,7 @@ fn read_tail(
     }
 }
 
-// How the value behind this head is written, where it is a head.
+// How the value after this head is written, where it is a head.
 fn form_of(head: &[u8]) -> Option<Form>
     ensures some { IfSome result (λ form. IsHead form head.now) }
     ensures none { IfNone result ((form : Form) → IsHead form head.now → ⊥) }
@@ -96,7 +96,7 @@ fn keyword(head: &[u8]) -> Option<Form>
     }
 }
 
-// What stands before the first such octet, and what behind it, if there is one.
+// What stands before the first such octet, and what after it, if there is one.
 pub(crate) fn split_once(text: &[u8], octet: u8) -> (&[u8], Option<&[u8]>)
     ensures { Splits octet text.now result.0.now (option_copied result.1) }
 {

@@ -4,7 +4,7 @@ ghost use Rattle.ndn_name.specs.UriReading.{ReadsText, digit_at, pair_at, with_d
 
 use crate::name_fault::NameFault;
 
-// The hexadecimal digit at the front of a text that begins at place `at`, and what follows it.
+// The hexadecimal digit at the start of a text that begins at place `at`, and what follows it.
 #[tactic(auto, unfolding(crate::specs::UriReading::digit_at))]
 fn digit_at(text: &[u8], at: usize) -> Result<(u8, &[u8]), NameFault>
     ensures read { MatchResult result (λ x. digit_at at text.now ≡ Ok (x.0, x.1.now))
@@ -20,7 +20,7 @@ fn digit_at(text: &[u8], at: usize) -> Result<(u8, &[u8]), NameFault>
     }
 }
 
-// The octet that two hexadecimal digits at the front are, and what follows them.
+// The octet that two hexadecimal digits at the start are, and what follows them.
 #[tactic(auto, unfolding(crate::specs::UriReading::pair_at))]
 pub(crate) fn pair_at(text: &[u8], at: usize) -> Result<(u8, &[u8]), NameFault>
     requires { at + length text.now < 2 ^ 63 }
@@ -36,14 +36,14 @@ pub(crate) fn pair_at(text: &[u8], at: usize) -> Result<(u8, &[u8]), NameFault>
 pub(crate) fn read_digest(text: &[u8], at: usize) -> Result<[u8; 32], NameFault>
     requires { at + length text.now < 2 ^ 63 }
     ensures read { ReadsText (λ d. d) IsDigestText at text.now result }
-    ensures told { result ≢ Err NameFault.NoMemory }
+    ensures reported { result ≢ Err NameFault.NoMemory }
 {
     let mut digest = [0; 32];
     let mut rest = text;
     for octet in digest.iter_mut() {
-        let (value, behind) = pair_at(rest, at + (text.len() - rest.len()))?;
+        let (value, following) = pair_at(rest, at + (text.len() - rest.len()))?;
         *octet = value;
-        rest = behind;
+        rest = following;
     }
     if rest.is_empty() {
         Ok(digest)
@@ -57,7 +57,7 @@ pub(crate) fn read_decimal(text: &[u8], at: usize, most: u64) -> Result<u64, Nam
     requires place { at + length text.now < 2 ^ 63 }
     requires digit { 9 ≤ most }
     ensures read { ReadsText (λ n. n) (IsDecimal most) at text.now result }
-    ensures told { result ≢ Err NameFault.NoMemory }
+    ensures reported { result ≢ Err NameFault.NoMemory }
 {
     let mut number = None;
     for (i, octet) in text.iter().enumerate() {

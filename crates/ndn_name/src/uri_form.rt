@@ -1,4 +1,4 @@
-// How the value of a component is written behind an equals sign, and the component's type.
+// How the value of a component is written after an equals sign, and the component's type.
 #[derive(Clone, Copy, Debug)]
 pub(crate) enum Form {
     Digest(u16),

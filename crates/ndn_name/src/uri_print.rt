@@ -40,7 +40,7 @@ impl NameView<'_> {
     // Appends the parts of the URI, as far as memory goes.
     fn put_uri_parts(&self, out: &mut Vec<u8>) -> Result<(), AllocError>
         ensures ok { OnOk result (out.new.items ≡ out.old.items ++ uri self.now) }
-        ensures front { take (length out.old.items) out.new.items ≡ out.old.items }
+        ensures prefix { take (length out.old.items) out.new.items ≡ out.old.items }
     {
         if self.len() == 0 {
             return out.extend_from_slice(b"/");
@@ -59,7 +59,7 @@ impl NameView<'_> {
 // Appends the text of a component.
 fn put_component(out: &mut Vec<u8>, typ: u16, value: &[u8]) -> Result<(), AllocError>
     ensures ok { OnOk result (out.new.items ≡ out.old.items ++ component_text (typ, value.now)) }
-    ensures front { take (length out.old.items) out.new.items ≡ out.old.items }
+    ensures prefix { take (length out.old.items) out.new.items ≡ out.old.items }
 {
     match typ {
         types::IMPLICIT_SHA256_DIGEST_COMPONENT => put_digest(out, "sha256digest=", value),
@@ -75,7 +75,7 @@ fn put_component(out: &mut Vec<u8>, typ: u16, value: &[u8]) -> Result<(), AllocE
 fn put_digest(out: &mut Vec<u8>, word: &str, digest: &[u8]) -> Result<(), AllocError>
     ensures ok { OnOk result (out.new.items ≡ out.old.items
         ++ (word.now ++ digest_text digest.now)) }
-    ensures front { take (length out.old.items) out.new.items ≡ out.old.items }
+    ensures prefix { take (length out.old.items) out.new.items ≡ out.old.items }
 {
     out.extend_from_slice(word.as_bytes())?;
     put_digits(out, digest)
@@ -84,7 +84,7 @@ fn put_digest(out: &mut Vec<u8>, word: &str, digest: &[u8]) -> Result<(), AllocE
 // Appends two digits for each octet.
 fn put_digits(out: &mut Vec<u8>, octets: &[u8]) -> Result<(), AllocError>
     ensures ok { OnOk result (out.new.items ≡ out.old.items ++ digest_text octets.now) }
-    ensures front { take (length out.old.items) out.new.items ≡ out.old.items }
+    ensures prefix { take (length out.old.items) out.new.items ≡ out.old.items }
 {
     for octet in octets {
         out.extend_from_slice(&pair(*octet, false))?;
@@ -117,7 +117,7 @@ fn put_number(out: &mut Vec<u8>, word: &str, typ: u16, value: &[u8]) -> Result<(
     ensures ok { OnOk result (out.new.items ≡ out.old.items
         ++ number_text word.now (in_shortest_width value.now (number_of value.now))
         (typ, value.now)) }
-    ensures front { take (length out.old.items) out.new.items ≡ out.old.items }
+    ensures prefix { take (length out.old.items) out.new.items ≡ out.old.items }
 {
     let Some(n) = shortest_number(value) else {
         return put_plain(out, typ, value);
@@ -129,7 +129,7 @@ fn put_number(out: &mut Vec<u8>, word: &str, typ: u16, value: &[u8]) -> Result<(
 // Appends a number in decimal.
 fn put_decimal(out: &mut Vec<u8>, n: u64) -> Result<(), AllocError>
     ensures ok { OnOk result (out.new.items ≡ out.old.items ++ decimal n) }
-    ensures front { take (length out.old.items) out.new.items ≡ out.old.items }
+    ensures prefix { take (length out.old.items) out.new.items ≡ out.old.items }
 {
     out.extend_from_slice(Buffer::new().format(n).as_bytes())
 }
@@ -164,7 +164,7 @@ pub(crate) fn width_of(n: u64) -> usize
 // Appends the type, unless it is that of most components, and the escaped value.
 fn put_plain(out: &mut Vec<u8>, typ: u16, value: &[u8]) -> Result<(), AllocError>
     ensures ok { OnOk result (out.new.items ≡ out.old.items ++ plain_text (typ, value.now)) }
-    ensures front { take (length out.old.items) out.new.items ≡ out.old.items }
+    ensures prefix { take (length out.old.items) out.new.items ≡ out.old.items }
 {
     if typ != types::GENERIC_NAME_COMPONENT {
         put_decimal(out, u64::from(typ))?;
@@ -176,7 +176,7 @@ fn put_plain(out: &mut Vec<u8>, typ: u16, value: &[u8]) -> Result<(), AllocError
 // Appends an escaped value.
 fn put_value(out: &mut Vec<u8>, value: &[u8]) -> Result<(), AllocError>
     ensures ok { OnOk result (out.new.items ≡ out.old.items ++ value_text value.now) }
-    ensures front { take (length out.old.items) out.new.items ≡ out.old.items }
+    ensures prefix { take (length out.old.items) out.new.items ≡ out.old.items }
 {
     if !are_periods(value) {
         return put_octets(out, value);
@@ -188,7 +188,7 @@ fn put_value(out: &mut Vec<u8>, value: &[u8]) -> Result<(), AllocError>
 // Appends the escapes of octets.
 fn put_octets(out: &mut Vec<u8>, octets: &[u8]) -> Result<(), AllocError>
     ensures ok { OnOk result (out.new.items ≡ out.old.items ++ flat_map escape_of octets.now) }
-    ensures front { take (length out.old.items) out.new.items ≡ out.old.items }
+    ensures prefix { take (length out.old.items) out.new.items ≡ out.old.items }
 {
     for octet in octets {
         put_octet(out, *octet)?;
@@ -199,7 +199,7 @@ fn put_octets(out: &mut Vec<u8>, octets: &[u8]) -> Result<(), AllocError>
 // Appends an octet, or its escape.
 fn put_octet(out: &mut Vec<u8>, octet: u8) -> Result<(), AllocError>
     ensures ok { OnOk result (out.new.items ≡ out.old.items ++ escape_of octet) }
-    ensures front { take (length out.old.items) out.new.items ≡ out.old.items }
+    ensures prefix { take (length out.old.items) out.new.items ≡ out.old.items }
 {
     if is_unreserved(octet) {
         return out.extend_from_slice(&[octet]);

@@ -37,30 +37,30 @@ fn read_uri(alloc: Global, text: &[u8]) -> Result<Vec<UriPart>, NameFault>
     requires { length text.now < 2 ^ 63 }
     ensures { ReadsText (λ v. map uri_part v.items) IsUri 0 text.now result }
 {
-    match behind_scheme(text) {
+    match after_scheme(text) {
         Ok(path) => read_rooted(alloc, path, 4),
         Err(0) => read_rooted(alloc, text, 0),
         Err(place) => Err(NameFault::BadUri { place }),
     }
 }
 
-// What follows the scheme at the front, or how much of the scheme is there.
-pub(crate) fn behind_scheme(text: &[u8]) -> Result<&[u8], usize>
+// What follows the scheme at the start, or how much of the scheme is there.
+pub(crate) fn after_scheme(text: &[u8]) -> Result<&[u8], usize>
     ensures { MatchResult result
         (λ path. text.now ≡ codes "ndn:" ++ path.now) (BreaksOff (codes "ndn:") text.now) }
 {
     let mut rest = text;
     for (place, octet) in b"ndn:".iter().enumerate() {
-        let Some(behind) = behind_octet(rest, *octet) else {
+        let Some(following) = after_octet(rest, *octet) else {
             return Err(place);
         };
-        rest = behind;
+        rest = following;
     }
     Ok(rest)
 }
 
-// What follows an octet at the front, where it is there.
-pub(crate) fn behind_octet(text: &[u8], octet: u8) -> Option<&[u8]>
+// What follows an octet at the start, where it is there.
+pub(crate) fn after_octet(text: &[u8], octet: u8) -> Option<&[u8]>
     ensures { MatchOption result (BeginsWithAnother octet text.now)
         (λ rest. text.now ≡ octet ∷ rest.now) }
 {
@@ -75,7 +75,7 @@ fn read_rooted(alloc: Global, text: &[u8], at: usize) -> Result<Vec<UriPart>, Na
     requires { at + length text.now < 2 ^ 63 }
     ensures { ReadsText (λ v. map uri_part v.items) (IsRooted at) at text.now result }
 {
-    let Some(path) = behind_octet(text, b'/') else {
+    let Some(path) = after_octet(text, b'/') else {
         return Err(NameFault::BadUri { place: at });
     };
     if path.is_empty() {
@@ -93,10 +93,10 @@ fn read_path(alloc: Global, path: &[u8], at: usize) -> Result<Vec<UriPart>, Name
     let mut left = Some(path);
     while let Some(text) = left {
         let at = at + 1 + (path.len() - text.len());
-        let (first, behind) = split_once(text, b'/');
+        let (first, following) = split_once(text, b'/');
         let (typ, value) = read_component(alloc, first, at)?;
         parts.push(UriPart { at, typ, value })?;
-        left = behind;
+        left = following;
     }
     Ok(parts)
 }

@@ -11,7 +11,7 @@ use crate::uri_component::{split_head, split_once};
 use crate::uri_digits::{read_decimal, read_digest};
 use crate::uri_form::Form;
 use crate::uri_print::width_of;
-use crate::uri_read::{behind_octet, behind_scheme};
+use crate::uri_read::{after_octet, after_scheme};
 use crate::uri_value::octet_at;
 use ndn_tlv::{head_len, types};
 
@@ -24,14 +24,14 @@ pub fn plain_uri_len(text: &str) -> Option<usize>
     ensures { result ≡ option_map (λ name. length (encoding name)) (plain_name_of_text text.now) }
 {
     let text = text.as_bytes();
-    let path = behind_octet(behind_scheme(text).unwrap_or(text), b'/')?;
+    let path = after_octet(after_scheme(text).unwrap_or(text), b'/')?;
     if path.is_empty() {
         return Some(0);
     }
     path_len(path)
 }
 
-// The same for what stands behind the first slash, where that is something.
+// The same for what stands after the first slash, where that is something.
 fn path_len(path: &[u8]) -> Option<usize>
     requires { length path.now + 1 < 2 ^ 63 }
     ensures { result ≡ option_map (λ name. length (encoding name))
@@ -40,9 +40,9 @@ fn path_len(path: &[u8]) -> Option<usize>
     let mut len = 0;
     let mut left = Some(path);
     while let Some(text) = left {
-        let (first, behind) = split_once(text, b'/');
+        let (first, following) = split_once(text, b'/');
         len += component_len(first)?;
-        left = behind;
+        left = following;
     }
     Some(len)
 }
@@ -122,10 +122,10 @@ fn value_len(text: &[u8]) -> Option<usize>
     let mut rest = text;
     while !rest.is_empty() {
         match octet_at(rest, 0) {
-            Ok((octet, behind)) => {
+            Ok((octet, following)) => {
                 len += 1;
                 periods &= octet == b'.';
-                rest = behind;
+                rest = following;
             }
             Err(_) => return None,
         }

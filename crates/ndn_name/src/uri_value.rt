@@ -13,7 +13,7 @@ pub(crate) fn is_unreserved(octet: u8) -> bool
     octet.is_ascii_alphanumeric() || matches!(octet, b'-' | b'.' | b'_' | b'~')
 }
 
-// The octet whose text is at the front of a text that begins at place `at`, and what follows it.
+// The octet whose text is at the start of a text that begins at place `at`, and what follows it.
 #[tactic(auto, unfolding(crate::specs::UriReading::octet_at))]
 pub(crate) fn octet_at(text: &[u8], at: usize) -> Result<(u8, &[u8]), NameFault>
     requires { at + length text.now < 2 ^ 63 }
@@ -35,9 +35,9 @@ fn unescape(alloc: Global, text: &[u8], at: usize) -> Result<Vec<u8>, NameFault>
     let mut octets = Vec::new(alloc);
     let mut rest = text;
     while !rest.is_empty() {
-        let (octet, behind) = octet_at(rest, at + (text.len() - rest.len()))?;
+        let (octet, following) = octet_at(rest, at + (text.len() - rest.len()))?;
         octets.push(octet)?;
-        rest = behind;
+        rest = following;
     }
     Ok(octets)
 }

@@ -9,7 +9,7 @@ use Rattle.ndn_tlv.specs.OrderTable.{AreFields}
 use Rattle.ndn_tlv.specs.OrderTable.AreFields.{ended, broken, field, stranger, critical}
 use Rattle.ndn_tlv.specs.declared.tlv_fault.TlvFault.{TlvFault}
 use Rattle.ndn_tlv.specs.declared.order_table.Place.{Place}
-use Rattle.ndn_tlv.specs.declared.order_table.FieldFault.{FieldFault}
+use Rattle.ndn_tlv.specs.declared.order_table.FieldError.{FieldError}
 use Rattle.ndn_name.specs.declared.fault.PacketFault.{PacketFault}
 use Rattle.ndn_name.specs.Faults.{packet_fault}
 use Rattle.ndn_tlv.proofs.Steps.{bind_ok, ok_is}
@@ -20,8 +20,8 @@ Each P (e ∷ es) = P e × Each P es
 
 -- an element stands in octets where its offset says
 pub record Stands (whole : List ℕ) (e : Item) : Type 0 where
-  pub behind : List ℕ
-  pub parts : drop e.start whole ≡ element e.typ e.value ++ behind
+  pub after : List ℕ
+  pub parts : drop e.start whole ≡ element e.typ e.value ++ after
   pub ends : e.end ≡ e.start + length (element e.typ e.value)
 
 pub elements_stand : (whole : List ℕ) (offset : ℕ) (octets : List ℕ) (es : List Item) (fault : Option TlvFault)
@@ -33,13 +33,13 @@ elements_stand whole offset octets (e ∷ es) fault at are =
     let ends : e.end ≡ offset + length (element e.typ e.value) = ap (λ (x : Item). x.end) are.2 in
     let here : drop e.start whole ≡ element e.typ e.value ++ are.0 = ap (λ (n : ℕ). drop n whole) starts ∙ at ∙ are.1 in
     let long = length (element e.typ e.value) in
-    let behind : drop e.end whole ≡ are.0 =
+    let after : drop e.end whole ≡ are.0 =
     ap (λ (n : ℕ). drop n whole) ends
     ∙ sym (drop-drop long offset whole)
     ∙ ap (drop long) (at ∙ are.1)
     ∙ drop_at (element e.typ e.value) are.0 long refl in (
-      record { behind = are.0; parts = here; ends = omega arith },
-      elements_stand whole e.end are.0 es fault behind are.5,
+      record { after = are.0; parts = here; ends = omega arith },
+      elements_stand whole e.end are.0 es fault after are.5,
     )
 
 -- nothing has come that only comes at place `last`, where a field before that comes
@@ -61,7 +61,7 @@ module _ {F S : Type 0} (table : List (Place F)) (take : S → F × Item → Res
     pub within : low ≤ high
     pub holds : J from low t
 
-  pub keeps : (from : ℕ) (es : List Item) (fault : Option TlvFault) (read : Listing (F × Item) FieldFault)
+  pub keeps : (from : ℕ) (es : List Item) (fault : Option TlvFault) (read : Listing (F × Item) FieldError)
       → AreFields table from es fault read
       → (low : ℕ) (s t : S) → J from low s → AreWithin low high es → Each P es
       → gathered take packet_fault s read ≡ Ok t → Kept t

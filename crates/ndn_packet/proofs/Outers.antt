@@ -38,12 +38,12 @@ first_stands absent offset octets e fits h =
     first_in absent offset octets (elements offset octets).items (elements offset octets).fault e
     (elements_are offset octets fits) h
 
-pub record IsAlone (typ : ℕ) (octets : List ℕ) (e : Item) : Type 0 where
+pub record IsMemberState (typ : ℕ) (octets : List ℕ) (e : Item) : Type 0 where
   pub whole : octets ≡ element typ e.value
   pub is_placed : e ≡ placed 0 typ e.value
 
 pub first_alone : (absent : PacketFault) (typ : ℕ) (octets : List ℕ) (e : Item) → IsOctets octets
-    → first_of absent 0 octets ≡ Ok e → e.typ ≡ typ → length octets ≤ e.end → IsAlone typ octets e
+    → first_of absent 0 octets ≡ Ok e → e.typ ≡ typ → length octets ≤ e.end → IsMemberState typ octets e
 first_alone absent typ octets e fits h same long =
     let first = first_stands absent 0 octets e fits h in
     let ends : e.end ≡ 0 + length (element e.typ e.value) = ap (λ (x : Item). x.end) first.is_placed in

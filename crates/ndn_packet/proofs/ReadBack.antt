@@ -43,12 +43,12 @@ followed o typ value rest read above below fits h =
     elements-element o typ value rest above below fits ∙ ap (λ (l : Listing Item TlvFault). placed o typ value then l) h
 
 -- octets between others
-pub portion_is : (front portion tail : List ℕ) (from to : ℕ) → from ≡ length front → to ≡ from + length portion
-    → slice_range (front ++ (portion ++ tail)) from to ≡ portion
-portion_is front portion tail from to f t =
+pub portion_is : (prefix portion tail : List ℕ) (from to : ℕ) → from ≡ length prefix → to ≡ from + length portion
+    → slice_range (prefix ++ (portion ++ tail)) from to ≡ portion
+portion_is prefix portion tail from to f t =
     let long : to - from ≡ length portion = omega arith in
-    ap (λ (n : ℕ). take n (drop from (front ++ (portion ++ tail)))) long
-    ∙ ap (λ (l : List ℕ). take (length portion) l) (drop_at front (portion ++ tail) from (sym f))
+    ap (λ (n : ℕ). take n (drop from (prefix ++ (portion ++ tail)))) long
+    ∙ ap (λ (l : List ℕ). take (length portion) l) (drop_at prefix (portion ++ tail) from (sym f))
     ∙ take_at portion tail (length portion) refl
 
 -- the packet's element

@@ -14,7 +14,7 @@ use Rattle.ndn_packet.specs.Contents.{ok_or, first_of, number_in, name_in}
 use Rattle.ndn_packet.specs.declared.signature_info.InfoField.{InfoField}
 use Rattle.ndn_packet.specs.declared.signature_info.InfoField.TheVariants.{SignatureType, KeyLocator}
 use Rattle.ndn_packet.specs.declared.signature_info.SignatureInfo as declared_info
-use Rattle.ndn_packet.specs.declared.signature_info.Gathered.{Gathered}
+use Rattle.ndn_packet.specs.declared.signature_info.InfoFields.{InfoFields}
 
 -- The signature type of HMAC with SHA-256, under the name that the standard gives it.
 abbrev pub SignatureHmacWithSha256 : ℕ
@@ -76,5 +76,5 @@ info_in e = info_fields e >>= info_from
 abbrev pub info : declared_info.SignatureInfo → Info
 info i = record { signature_type = i.signature_type; locator = i.locator }
 
-abbrev pub info_so_far : Gathered → InfoSoFar
+abbrev pub info_so_far : InfoFields → InfoSoFar
 info_so_far g = record { signature_type = g.signature_type; locator = g.locator }

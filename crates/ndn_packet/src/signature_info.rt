@@ -39,7 +39,7 @@ const SIGNATURE_INFO: [Place<InfoField>; 2] = [
 
 // The fields as far as they have come.
 #[derive(Drop)]
-struct Gathered<'p> {
+struct InfoFields<'p> {
     signature_type: Option<u64>,
     locator: Option<NameView<'p>>,
 }
@@ -52,13 +52,13 @@ impl<'p> SignatureInfo<'p> {
             (λ i. info_in (item element.entry) ≡ Ok (info i))
             (λ fault. info_in (item element.entry) ≡ Err fault) }
     {
-        let gathered = Gathered::of_fields(element)?;
+        let gathered = InfoFields::of_fields(element)?;
         gathered.into_info()
     }
 }
 
-impl<'p> Gathered<'p> {
-    fn of_fields(element: Element<'p>) -> Result<Gathered<'p>, PacketFault>
+impl<'p> InfoFields<'p> {
+    fn of_fields(element: Element<'p>) -> Result<InfoFields<'p>, PacketFault>
         requires { element.value_start + length element.value.now < 2 ^ 64 }
         ensures { MatchResult result
             (λ g. info_fields (item element.entry) ≡ Ok (info_so_far g))
@@ -66,7 +66,7 @@ impl<'p> Gathered<'p> {
     {
         let elements = Reader::new(element.value, element.value_start);
         let mut fields = FieldReader::new(elements, &SIGNATURE_INFO);
-        let mut gathered = Gathered {
+        let mut gathered = InfoFields {
             signature_type: None,
             locator: None,
         };

@@ -64,7 +64,7 @@ pub fn put_signature_info(writer: &mut Writer, typ: u32, key_name: &Name) -> Res
 fn put_info_parts(writer: &mut Writer, typ: u32, key_name: &Name) -> Result<(), AllocError>
     requires { 0 < typ }
     ensures ok { OnOk result (writer.new ≡ writer.old ++ element typ (written_info key_name.now)) }
-    ensures front { take (length writer.old) writer.new ≡ writer.old }
+    ensures prefix { take (length writer.old) writer.new ≡ writer.old }
 {
     let name = key_name.octets();
     writer.put_head(typ, signature_info_len(key_name))?;

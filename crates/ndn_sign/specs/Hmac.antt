@@ -16,7 +16,7 @@ outer_pad = 0x5c
 abbrev pub short_key : List ℕ → List ℕ
 short_key key = if nat_lt block_octets (length key) then sha256 key else key
 
--- The key with zeros behind it, up to a block.
+-- The key with zeros after it, up to a block.
 abbrev pub block_key : List ℕ → List ℕ
 block_key key = short_key key ++ replicate (block_octets - length (short_key key)) 0
 

@@ -53,7 +53,7 @@ pub(crate) fn finish(mut inner: Sha256, mut outer: Sha256, first: &[u8], second:
     outer.finalize()
 }
 
-// The key as a block: itself or, where it is longer than that, its digest, and zeros behind it.
+// The key as a block: itself or, where it is longer than that, its digest, and zeros after it.
 fn block_key(key: &[u8]) -> [u8; BLOCK]
     ensures { result ≡ block_key key.now }
 {
@@ -64,7 +64,7 @@ fn block_key(key: &[u8]) -> [u8; BLOCK]
     }
 }
 
-// The key with zeros behind it.
+// The key with zeros after it.
 fn padded(key: &[u8]) -> [u8; BLOCK]
     requires { length key.now ≤ BLOCK }
     ensures { result ≡ key.now ++ replicate (BLOCK - length key.now) 0 }

@@ -76,6 +76,6 @@ IsOctets-number_field n = elim (cases_lt n (2 ^ 8)) [
 
 pub IsOctets-element : (typ : ℕ) (value : List ℕ) → IsOctets value → IsOctets (element typ value)
 IsOctets-element typ value h =
-    let front = IsOctets-append (number typ) (number (length value)) (IsOctets-number typ)
+    let prefix = IsOctets-append (number typ) (number (length value)) (IsOctets-number typ)
     (IsOctets-number (length value)) in
-    IsOctets-append (head typ (length value)) value front h
+    IsOctets-append (head typ (length value)) value prefix h

@@ -7,7 +7,7 @@ use Rattle.std.proofs.lemmas.Slice.{between_to_end}
 use Rattle.std.specs.List.{between}
 use Rattle.ndn_tlv.specs.Elements.{Item, number_at, type_at, element_at}
 
--- the two octets at the front, and what follows them
+-- the two octets at the start, and what follows them
 pub two_and_rest : (octets : List ℕ) → 2 ≤ length octets
     → octets ≡ slice_index_or octets 0 0 ∷ slice_index_or octets 1 0 ∷ between 2 (length octets) octets
 two_and_rest octets long =

@@ -1,5 +1,5 @@
-//! The program `ndnlab`: a script on standard input is looked at line by line, or under many seeds, or before anything is
-//! carried out, and what is found is written on standard output. `docs/LAB.md` has the words of each form.
+//! The program `ndnlab`: a script on standard input is looked at line by line, or under many seeds, or before anything
+//! is carried out, and what is found is written on standard output. `docs/LAB.md` has the words of each form.
 //!
 //! What is promised of its call `run_lab`: `docs/promises/lab_top.md`.
 #![tactic(auto)]

@@ -30,7 +30,7 @@ use std::thread::Threads;
 // The group and its members, before other lines.
 const PRE: &str = "group /g\nmember alice /alice 6b31\nmember bob /bob 6b32\n";
 
-// What is printed stands so behind the line that prints it.
+// What is printed stands so after the line that prints it.
 const PRINTED: &str = "> ";
 
 // An insertion is begun, filled and deleted.

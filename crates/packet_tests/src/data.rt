@@ -132,7 +132,7 @@ const STRANGERS: [(&[u8], usize, usize, bool); 5] = [
         47,
         false,
     ),
-    // Behind the signature.
+    // After the signature.
     (
         &[
             0x06, 0x4f, 0x07, 0x08, 0x08, 0x03, 0x64, 0x6f, 0x63, 0x32, 0x01, 0x00, 0x14, 0x05,

@@ -172,7 +172,7 @@ const UNSIGNED: [&[u8]; 5] = [
         0x06, 0x07, 0x08, 0x09, 0x0a, 0x0b, 0x0c, 0x0d, 0x0e, 0x0f, 0x10, 0x11, 0x12, 0x13, 0x14,
         0x15, 0x16, 0x17, 0x18, 0x19, 0x1a, 0x1b, 0x1c, 0x1d, 0x1e, 0x1f, 0x24, 0x00,
     ],
-    // A signature info behind the signature is a stranger.
+    // A signature info after the signature is a stranger.
     &[
         0x05, 0x31, 0x07, 0x25, 0x08, 0x01, 0x61, 0x02, 0x20, 0x00, 0x01, 0x02, 0x03, 0x04, 0x05,
         0x06, 0x07, 0x08, 0x09, 0x0a, 0x0b, 0x0c, 0x0d, 0x0e, 0x0f, 0x10, 0x11, 0x12, 0x13, 0x14,
@@ -202,7 +202,7 @@ const STRANGERS: [(&[u8], usize, usize); 5] = [
         46,
         53,
     ),
-    // Behind them.
+    // After them.
     (
         &[
             0x05, 0x36, 0x07, 0x28, 0x08, 0x01, 0x67, 0x36, 0x01, 0x02, 0x02, 0x20, 0x00, 0x01,
@@ -224,7 +224,7 @@ const STRANGERS: [(&[u8], usize, usize); 5] = [
         44,
         53,
     ),
-    // Behind it.
+    // After it.
     (
         &[
             0x05, 0x36, 0x07, 0x28, 0x08, 0x01, 0x67, 0x36, 0x01, 0x02, 0x02, 0x20, 0x00, 0x01,
@@ -287,24 +287,24 @@ fn signers_of_interests(rt: HostRuntime) {
         &rt,
         &changed,
         &ring_of_alice,
-        Err(SignatureRefusal::ParamsDigest),
+        Err(SignatureError::ParamsDigest),
     );
-    is_signed_by(&rt, &PLAIN, &ring_of_alice, Err(SignatureRefusal::Unsigned));
+    is_signed_by(&rt, &PLAIN, &ring_of_alice, Err(SignatureError::Unsigned));
     others_do_not_know_the_signer(&rt);
 }
 
 fn others_do_not_know_the_signer(rt: &(impl Abort + AllocGlobal)) {
     let other = ring(rt, b"k2");
-    is_signed_by(rt, &SYNC, &other, Err(SignatureRefusal::BadSignature));
+    is_signed_by(rt, &SYNC, &other, Err(SignatureError::BadSignature));
     let empty = KeyRing::new(rt.alloc());
-    is_signed_by(rt, &SYNC, &empty, Err(SignatureRefusal::UnknownKey));
+    is_signed_by(rt, &SYNC, &empty, Err(SignatureError::UnknownKey));
 }
 
 fn is_signed_by(
     rt: &impl Abort,
     octets: &[u8],
     ring: &KeyRing,
-    signer: Result<u32, SignatureRefusal>,
+    signer: Result<u32, SignatureError>,
 ) {
     let interest = InterestView::read(octets).expect(rt, "an Interest");
     let found = signer_of(&interest, ring);

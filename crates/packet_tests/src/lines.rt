@@ -17,7 +17,7 @@ fn lines_are_read(rt: HostRuntime) {
     }
 }
 
-// A line is read as what is told of it.
+// A line is read as what is reported of it.
 fn tells(rt: &(impl Abort + AllocGlobal), line: &[u8], answer: &str) {
     let mut told = String::new(rt.alloc());
     put_told(rt.alloc(), &mut told, &read_line(rt.alloc(), line)).expect(rt, "memory");
@@ -79,10 +79,10 @@ const LENGTHS_OF_WORDS: [(&str, usize, usize, u8, &str); 17] = [
 
 #[test]
 fn long_words_are_read_within_their_ranges(rt: HostRuntime) {
-    for (front, last, next, octet, end) in &LENGTHS_OF_WORDS {
-        let line = padded(rt.alloc(), front, *last, *octet, end).expect(&rt, "memory");
+    for (prefix, last, next, octet, end) in &LENGTHS_OF_WORDS {
+        let line = padded(rt.alloc(), prefix, *last, *octet, end).expect(&rt, "memory");
         is_line(&rt, &line);
-        let line = padded(rt.alloc(), front, *next, *octet, end).expect(&rt, "memory");
+        let line = padded(rt.alloc(), prefix, *next, *octet, end).expect(&rt, "memory");
         tells(&rt, &line, "!Limit");
     }
 }
@@ -98,20 +98,20 @@ fn lines_end_and_are_short(rt: HostRuntime) {
     for (line, answer) in &ENDS {
         tells(&rt, line.as_bytes(), answer);
     }
-    for (front, count, octet, end, answer) in &LENGTHS {
-        let line = padded(rt.alloc(), front, *count, *octet, end).expect(&rt, "memory");
+    for (prefix, count, octet, end, answer) in &LENGTHS {
+        let line = padded(rt.alloc(), prefix, *count, *octet, end).expect(&rt, "memory");
         tells(&rt, &line, answer);
     }
 }
 
 fn padded(
     alloc: Global,
-    front: &str,
+    prefix: &str,
     count: usize,
     octet: u8,
     end: &str,
 ) -> Result<Vec<u8>, AllocError> {
-    let mut line = Vec::from_slice(alloc, front.as_bytes())?;
+    let mut line = Vec::from_slice(alloc, prefix.as_bytes())?;
     line.extend_from_slice(vec![in alloc; octet; count]?.as_slice())?;
     line.extend_from_slice(end.as_bytes())?;
     Ok(line)
@@ -214,7 +214,7 @@ fn checked(answer: Result<(), CheckFault>) -> &'static str {
     }
 }
 
-// Lines behind a group, a member and a client, each so often, and what comes of the last: totals that are reached are
+// Lines after a group, a member and a client, each so often, and what comes of the last: totals that are reached are
 // not passed.
 const TOTALS: [(&str, u32, &str, &str, &str); 5] = [
     ("settle 1", 1_000, "summary", "settle 1", "TooLarge"),
@@ -250,7 +250,7 @@ const TOTALS: [(&str, u32, &str, &str, &str); 5] = [
 
 #[test]
 fn totals_are_passed_by_one(rt: HostRuntime) {
-    for (line, count, reaches, behind, answer) in &TOTALS {
+    for (line, count, reaches, after, answer) in &TOTALS {
         let mut words = Words::new(rt.alloc());
         comes_to(
             &rt,
@@ -262,7 +262,7 @@ fn totals_are_passed_by_one(rt: HostRuntime) {
             comes_to(&rt, &mut words, line, "taken");
         }
         comes_to(&rt, &mut words, reaches, "taken");
-        comes_to(&rt, &mut words, behind, answer);
+        comes_to(&rt, &mut words, after, answer);
     }
 }
 

@@ -267,7 +267,7 @@ const SIZES: [(&str, Option<usize>); 22] = [
     ("/2=%00/b", None),
 ];
 
-// What stands behind a component of 70,000 letters, and the size of the whole.
+// What stands after a component of 70,000 letters, and the size of the whole.
 const ENDS: [(&str, Option<usize>); 3] = [
     ("/b", Some(70_009)),
     ("/params-sha256=00", None),

@@ -209,7 +209,7 @@ fn put_lists(out: &mut Vec<u8>, labels: &[String], entries: &[Entry]) -> Result<
     put_traffic(out, 3, 2, 0, 2, 197)
 }
 
-// What watchers and mirrors are told.
+// What watchers and mirrors are given.
 fn put_followers(out: &mut Vec<u8>, labels: &[String], entries: &[Entry]) -> Result<(), AllocError>
     requires { length labels.now ≡ length entries.now }
 {

@@ -118,10 +118,10 @@ fn checks_macs(rt: &impl Abort, ring: &KeyRing)
         !ring.check_mac(0, b"what do ya want ", b"for nothing?", &mac),
         "another key",
     );
-    let front = mac.get(..31).expect(rt, "a front");
+    let prefix = mac.get(..31).expect(rt, "a front");
     is(
         rt,
-        !ring.check_mac(1, b"what do ya want ", b"for nothing?", front),
+        !ring.check_mac(1, b"what do ya want ", b"for nothing?", prefix),
         "31 octets",
     );
 }

@@ -9,7 +9,7 @@ use std::test::*;
 use svs_sync::*;
 use svs_vector::Vector;
 
-// Draws, and when a Steady member is due that was reset at moment 5 with each.
+// Draws, and when a Steady member is due that was reset at time 5 with each.
 const PERIODIC: [(u32, u64); 4] = [
     (0, 27_005),
     (6_000, 33_005),
@@ -32,7 +32,7 @@ fn is_steady(rt: &impl Abort, machine: &Machine, due: u64, next_draw: u64) {
     same(rt, machine.next_draw(), next_draw, "steady");
 }
 
-// What a member of two knows, or is told, of publications of the first.
+// What a member of two knows, or is reported, of publications of the first.
 fn vector(rt: &(impl Abort + AllocGlobal), seq: u16) -> Vector
     ensures { length result ≡ 2 }
 {
@@ -41,17 +41,17 @@ fn vector(rt: &(impl Abort + AllocGlobal), seq: u16) -> Vector
     vector
 }
 
-// A member that knows of one publication is told of none at moment 10, with draw 302.
+// A member that knows of one publication is reported of none at time 10, with draw 302.
 #[test]
 fn a_member_that_others_do_not_tell_for_sends(rt: HostRuntime) {
     let known = vector(&rt, 1);
     let mut machine = Machine::new(rt.alloc(), 2, 0, 0).expect(&rt, "memory");
-    is_told_of_none(&rt, &mut machine, &known);
+    is_reported_of_none(&rt, &mut machine, &known);
     sends(&rt, &mut machine, &known);
     is_steady(&rt, &machine, 27_111, 3);
 }
 
-fn is_told_of_none(rt: &(impl Abort + AllocGlobal), machine: &mut Machine, known: &Vector)
+fn is_reported_of_none(rt: &(impl Abort + AllocGlobal), machine: &mut Machine, known: &Vector)
     requires few { machine.old.draws < 2 ^ 61 }
     requires known { length known.now ≡ machine.old.members }
     requires two { machine.old.members ≡ 2 }
@@ -72,18 +72,18 @@ fn sends(rt: &impl Abort, machine: &mut Machine, known: &Vector)
     same(rt, machine.fired(111, known, 0), Fired::Send, "at 111");
 }
 
-// A member that knows of two publications is told of one at moment 0, and then of both. Each draw
+// A member that knows of two publications is reported of one at time 0, and then of both. Each draw
 // is 100.
 #[test]
 fn a_member_that_others_tell_for_is_quiet(rt: HostRuntime) {
     let known = vector(&rt, 2);
     let mut machine = Machine::new(rt.alloc(), 2, 0, 100).expect(&rt, "memory");
-    is_told_of_both(&rt, &mut machine, &known);
+    is_reported_of_both(&rt, &mut machine, &known);
     is_quiet(&rt, &mut machine, &known);
     is_steady(&rt, &machine, 27_200, 3);
 }
 
-fn is_told_of_both(rt: &(impl Abort + AllocGlobal), machine: &mut Machine, known: &Vector)
+fn is_reported_of_both(rt: &(impl Abort + AllocGlobal), machine: &mut Machine, known: &Vector)
     requires few { machine.old.draws < 2 ^ 61 }
     requires known { length known.now ≡ machine.old.members }
     requires two { machine.old.members ≡ 2 }

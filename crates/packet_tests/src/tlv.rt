@@ -124,7 +124,7 @@ fn comes_next(rt: &impl Abort, fields: &mut FieldReader<'_, Field>, field: Field
 }
 
 fn is_critical_at(rt: &impl Abort, fields: &mut FieldReader<'_, Field>, typ: u32, at: usize) {
-    let fault = Some(FieldFault::Critical { typ, at });
+    let fault = Some(FieldError::Critical { typ, at });
     same(rt, fields.next().err(), fault, "a fault");
 }
 

@@ -114,7 +114,7 @@ const BROKEN: [(&[u8], usize); 12] = [
     // A number of three octets, and a name whose second component is cut off.
     (&[0xc9, 9, 0xca, 7, 7, 0, 0xcc, 3, 0, 0, 1], 6),
     (&[0xc9, 8, 0xca, 6, 7, 4, 8, 0, 8, 1], 4),
-    // A stranger that is passed over, and an element behind it that is cut off.
+    // A stranger that is passed over, and an element after it that is cut off.
     (&[0xc9, 5, 0xca, 3, 240, 0, 7], 6),
 ];
 
@@ -143,7 +143,7 @@ const TOO_LARGE: [u8; 30] = [
     0xcc, 4, 0, 1, 0, 0,
 ];
 
-// The same, but a critical stranger stands behind bob's number in his entry.
+// The same, but a critical stranger stands after bob's number in his entry.
 const TOO_LARGE_AND_BROKEN: [u8; 32] = [
     0xc9, 30, 0xca, 11, 7, 3, 8, 1, 99, 0xcc, 4, 0, 1, 0, 0, 0xca, 15, 7, 5, 8, 3, 98, 111, 98,
     0xcc, 4, 0, 1, 0, 0, 0xcb, 0,

@@ -34,8 +34,8 @@ entry_before k (e ∷ es) zero d b l = b.0
 entry_before k (e ∷ es) (suc i) d b l = entry_before k es i d b.1 (omega arith)
 
 -- what comes before a key that ties with another comes before that too
-behind_front : (k x y : Pair) → pair_cmp x y ≡ Less → pair_cmp y k ≡ Equal → pair_cmp k x ≡ Greater
-behind_front k x y before equal = sym (order.congr y k x equal) ∙ less_back order x y before
+after_prefix : (k x y : Pair) → pair_cmp x y ≡ Less → pair_cmp y k ≡ Equal → pair_cmp k x ≡ Greater
+after_prefix k x y before equal = sym (order.congr y k x equal) ∙ less_back order x y before
 
 module _ (k : Pair) where
   abbrev IsAt : Entry → Type 0
@@ -58,7 +58,7 @@ module _ (k : Pair) where
   entry_found (e ∷ es) zero d r l h = ap (looked e es) (equal_back order (publication_of e) k (h e))
   entry_found (e ∷ es) (suc i) d r l h =
       ap (looked e es)
-      (behind_front k (publication_of e) (publication_of (get_or es i e))
+      (after_prefix k (publication_of e) (publication_of (get_or es i e))
       (entry_before (publication_of e) es i e r.0 (omega arith)) (h e))
       ∙ entry_found es i d r.1 (omega arith) h
 
@@ -85,21 +85,21 @@ module _ (k : Pair) where
   abbrev sifted : Entry → List Entry → Ordering → List Entry
   sifted e es c = cond (not (is_eq c)) (e ∷ without k es) (without k es)
 
-  pub without_behind : (x : Pair) (es : List Entry) → IsBefore pair_cmp x (map publication_of es) → pair_cmp x k ≡ Equal
+  pub without_after : (x : Pair) (es : List Entry) → IsBefore pair_cmp x (map publication_of es) → pair_cmp x k ≡ Equal
       → without k es ≡ es
-  without_behind x [] b equal = refl
-  without_behind x (e ∷ es) b equal =
+  without_after x [] b equal = refl
+  without_after x (e ∷ es) b equal =
       ap (sifted e es) (sym (order.congr x k (publication_of e) equal) ∙ b.0)
-      ∙ ap (λ (rest : List Entry). e ∷ rest) (without_behind x es b.1 equal)
+      ∙ ap (λ (rest : List Entry). e ∷ rest) (without_after x es b.1 equal)
 
   without_found : (es : List Entry) (i : ℕ) → IsCatalogue es → i < length es → HoldsAt IsAt es i
       → without k es ≡ remove es i
   without_found [] i r l h = absurd (omega arith)
   without_found (e ∷ es) zero r l h =
-      ap (sifted e es) (equal_back order (publication_of e) k (h e)) ∙ without_behind (publication_of e) es r.0 (h e)
+      ap (sifted e es) (equal_back order (publication_of e) k (h e)) ∙ without_after (publication_of e) es r.0 (h e)
   without_found (e ∷ es) (suc i) r l h =
       ap (sifted e es)
-      (behind_front k (publication_of e) (publication_of (get_or es i e))
+      (after_prefix k (publication_of e) (publication_of (get_or es i e))
       (entry_before (publication_of e) es i e r.0 (omega arith)) (h e))
       ∙ ap (λ (rest : List Entry). e ∷ rest) (without_found es i r.1 (omega arith) h)
 
@@ -156,7 +156,7 @@ module _ (new : Entry) where
   with_found (e ∷ es) zero r l h = ap (placed e es) (equal_back order (publication_of e) (publication_of new) (h e))
   with_found (e ∷ es) (suc i) r l h =
       ap (placed e es)
-      (behind_front (publication_of new) (publication_of e) (publication_of (get_or es i e))
+      (after_prefix (publication_of new) (publication_of e) (publication_of (get_or es i e))
       (entry_before (publication_of e) es i e r.0 (omega arith)) (h e))
       ∙ ap (λ (rest : List Entry). e ∷ rest) (with_found es i r.1 (omega arith) h)
 

@@ -54,9 +54,10 @@ first_gone k x q ks same before false e =
 -- the first of the keys stays
 first_kept : (k x q : Key) (c : Bool) → key_cmp k x ≡ Greater → (b : Bool) → eq_by_cmp key_cmp q k ≡ b
     → (eq_by_cmp key_cmp q x || (not b && c)) ≡ (not b && (eq_by_cmp key_cmp q x || c))
-first_kept k x q c behind true e =
-    ap (λ (z : Bool). z || false) (ap (λ (z : Key). eq_by_cmp key_cmp z x) (eq_same exact_keys q k e) ∙ ap is_eq behind)
-first_kept k x q c behind false e = refl
+first_kept k x q c following true e =
+    ap (λ (z : Bool). z || false) (ap (λ (z : Key). eq_by_cmp key_cmp z x) (eq_same exact_keys q k e)
+    ∙ ap is_eq following)
+first_kept k x q c following false e = refl
 
 not_less : (o : Ordering) → o ≢ Less → (p : Ordering) → p ≡ o → p ≢ Less
 not_less o n p e h = n (sym e ∙ h)
@@ -106,9 +107,9 @@ module _ {V : Type 0} where
   -- the head of a map is the first from a key that it isn't before
   head_first : (k : Key) (x : Key × V) (xs : List (Key × V)) → Rises key_cmp (keys (x ∷ xs)) → key_cmp x.0 k ≢ Less
       → IsFirstFrom k (keys (x ∷ xs)) x.0
-  head_first k x xs r behind = record {
+  head_first k x xs r following = record {
     there = or_left (eq_by_cmp key_cmp x.0 x.0) (contains key_cmp (keys xs) x.0) (eq_itself exact_keys x.0);
-    behind = behind;
+    following = following;
     least = λ q there less. elim (or_cases (eq_by_cmp key_cmp q x.0) (contains key_cmp (keys xs) q) there) [
       | inl a ↦
           let tied : key_cmp q x.0 ≡ Equal =
@@ -142,7 +143,7 @@ module _ {V : Type 0} where
     go i Equal p g = at_head (not_less Equal equal_not (key_cmp x.0 k) (equal_back exact_keys.total k x.0 p)) g
     go i Greater p g = let later = i g in record {
       there = or_right (eq_by_cmp key_cmp f.0 x.0) (contains key_cmp (keys xs) f.0) later.there;
-      behind = later.behind;
+      following = later.following;
       least = λ q there less. elim (or_cases (eq_by_cmp key_cmp q x.0) (contains key_cmp (keys xs) q) there) [
         | inl a ↦
             ap (λ (z : Key). key_cmp z k) (eq_same exact_keys q x.0 a) ∙ greater_back exact_keys.total k x.0 p

@@ -51,12 +51,12 @@ module _ (e : Entry) (k : Pair) where
   and_true false rest = refl
 
   -- the entry stands before all others
-  in_front : (es : List Entry) → IsBefore pair_cmp p (map publication_of es) → (b : Bool) → is_of k e ≡ b
+  in_prefix : (es : List Entry) → IsBefore pair_cmp p (map publication_of es) → (b : Bool) → is_of k e ≡ b
       → cond b (Some e) (entry_of k es) ≡ cond (b && not (lists k es)) (Some e) (entry_of k es)
-  in_front es before true h =
+  in_prefix es before true h =
       let none : entry_of k es ≡ None = ap (λ (q : Pair). entry_of q es) (of_same k e h) ∙ none_before p es before in
       sym (ap (λ (o : Option Entry). cond (not (is_some o)) (Some e) (entry_of k es)) none)
-  in_front es before false h = refl
+  in_prefix es before false h = refl
 
   -- there is one of its publication
   in_place : (x : Entry) (es : List Entry) → p ≡ publication_of x → (b : Bool) → is_of k e ≡ b
@@ -67,14 +67,14 @@ module _ (e : Entry) (k : Pair) where
       sym (ap (λ (c : Bool). cond (not c) (Some e) (entry_of k (x ∷ es))) there)
   in_place x es same false h = refl
 
-  -- it stands behind another
-  behind : (x : Entry) (es : List Entry) (b c : Bool)
+  -- it stands after another
+  following : (x : Entry) (es : List Entry) (b c : Bool)
       → cond c (Some x) (cond (b && not (lists k es)) (Some e) (entry_of k es))
       ≡ cond (b && not (is_some (cond c (Some x) (entry_of k es)))) (Some e) (cond c (Some x) (entry_of k es))
-  behind x es true true = refl
-  behind x es true false = refl
-  behind x es false true = refl
-  behind x es false false = refl
+  following x es true true = refl
+  following x es true false = refl
+  following x es false true = refl
+  following x es false false = refl
 
   adds : (es : List Entry) → IsCatalogue es
       → entry_of k (with_entry e es) ≡ cond (is_of k e && not (lists k es)) (Some e) (entry_of k es)
@@ -85,11 +85,11 @@ module _ (e : Entry) (k : Pair) where
         → entry_of k (by_order o (e ∷ x ∷ xs) (x ∷ xs) (x ∷ with_entry e xs))
         ≡ cond (is_of k e && not (lists k (x ∷ xs))) (Some e) (entry_of k (x ∷ xs))
     go h Less o =
-        in_front (x ∷ xs) (o, before_more exact_pairs.total p (publication_of x) (map publication_of xs) o r.0)
+        in_prefix (x ∷ xs) (o, before_more exact_pairs.total p (publication_of x) (map publication_of xs) o r.0)
         (is_of k e) refl
     go h Equal o = in_place x xs (exact_pairs.same p (publication_of x) o) (is_of k e) refl
     go h Greater o =
-        ap (λ (rest : Option Entry). cond (is_of k x) (Some x) rest) h ∙ behind x xs (is_of k e) (is_of k x)
+        ap (λ (rest : Option Entry). cond (is_of k x) (Some x) rest) h ∙ following x xs (is_of k e) (is_of k x)
 
 pub adds_one : AddsOne
 adds_one e es k = adds e k es
@@ -201,17 +201,17 @@ has_named name e same =
     ap (λ (n : List Component). eq_by_cmp canonical_cmp e.name n) (sym same)
     ∙ ap is_eq (tied_itself canonical_cmp_total e.name)
 
--- what is listed behind an entry is of a later publication
-listed_behind : (k q : Pair) (es : List Entry) (f : Entry) → IsBefore pair_cmp k (map publication_of es)
+-- what is listed after an entry is of a later publication
+listed_after : (k q : Pair) (es : List Entry) (f : Entry) → IsBefore pair_cmp k (map publication_of es)
     → entry_of q es ≡ Some f → pair_cmp k (publication_of f) ≡ Less
-listed_behind k q [] f b h = absurd cc
-listed_behind k q (x ∷ xs) f b h = go (listed_behind k q xs f b.1) (is_of q x) h where
+listed_after k q [] f b h = absurd cc
+listed_after k q (x ∷ xs) f b h = go (listed_after k q xs f b.1) (is_of q x) h where
   go : (entry_of q xs ≡ Some f → pair_cmp k (publication_of f) ≡ Less) → (c : Bool)
       → cond c (Some x) (entry_of q xs) ≡ Some f → pair_cmp k (publication_of f) ≡ Less
   go r true e = let same : x ≡ f = cc in subst (λ (g : Entry). pair_cmp k (publication_of g) ≡ Less) same b.0
   go r false e = r e
 
--- an entry of a list is its first or is listed behind it
+-- an entry of a list is its first or is listed after it
 pub data IsIn (x : Entry) (xs : List Entry) (f : Entry) : Type 0 where
   first : x ≡ f → IsIn x xs f
   later : IsListed xs f → IsIn x xs f
@@ -226,7 +226,7 @@ listed_later : (x e : Entry) (xs : List Entry) → IsBefore pair_cmp (publicatio
     → IsListed xs e → IsListed (x ∷ xs) e
 listed_later x e xs b h =
     let other : is_of (publication_of e) x ≡ false =
-    not_of_back (publication_of e) x (listed_behind (publication_of x) (publication_of e) xs e b h) in
+    not_of_back (publication_of e) x (listed_after (publication_of x) (publication_of e) xs e b h) in
     ap (λ (c : Bool). cond c (Some x) (entry_of (publication_of e) xs)) other ∙ h
 
 not_less : (x f : Entry) → pair_cmp (publication_of x) (publication_of f) ≡ Less
@@ -248,7 +248,7 @@ module _ (name : List Component) where
           ap (λ (g : Entry). pair_cmp (publication_of f) (publication_of g)) same
           ∙ exact_pairs.itself (publication_of f) in
           absurd cc
-      | later behind ↦ not_less x f (listed_behind (publication_of x) (publication_of f) xs f r.0 behind)
+      | later following ↦ not_less x f (listed_after (publication_of x) (publication_of f) xs f r.0 following)
     ];
   }
 
@@ -258,13 +258,13 @@ module _ (name : List Component) where
   later_on : (x : Entry) (xs : List Entry) → IsCatalogue (x ∷ xs) → entry_has_name name x ≡ false → (o : Option Entry)
       → IsAnswer xs o → IsAnswer (x ∷ xs) o
   later_on x xs r h None none =
-      λ f l. elim (is_in x xs f l) [ first same ↦ differs x f h same | later behind ↦ none f behind ]
+      λ f l. elim (is_in x xs f l) [ first same ↦ differs x f h same | later following ↦ none f following ]
   later_on x xs r h (Some e) least = record {
     listed = listed_later x e xs r.0 least.listed;
     named = least.named;
     least = λ f l n. elim (is_in x xs f l) [
       | first same ↦ absurd (differs x f h same n)
-      | later behind ↦ least.least f behind n
+      | later following ↦ least.least f following n
     ];
   }
 

@@ -308,7 +308,7 @@ none_of k (x ∷ xs) h = go (none_of k xs) (is_of k x) h where
   go r true g = absurd cc
   go r false g = r g
 
--- one more behind them, of a publication that has none yet
+-- one more after them, of a publication that has none yet
 pub apart_more : (xs : List Entry) (e : Entry) → AreApart xs → lists (publication_of e) xs ≡ false
     → AreApart (xs ++ e ∷ [])
 apart_more xs e apart new = λ k.

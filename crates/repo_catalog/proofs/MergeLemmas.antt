@@ -26,13 +26,13 @@ pub rest_rises : (fs es : List Entry) → IsCatalogue (fs ++ es) → IsCatalogue
 rest_rises [] es r = r
 rest_rises (f ∷ fs) es r = rest_rises fs es r.1
 
-ahead_front : (x : Entry) (es more : List Entry) → IsAhead x (es ++ more) → IsAhead x es
-ahead_front x [] more b = tt
-ahead_front x (e ∷ es) more b = (b.0, ahead_front x es more b.1)
+ahead_prefix : (x : Entry) (es more : List Entry) → IsAhead x (es ++ more) → IsAhead x es
+ahead_prefix x [] more b = tt
+ahead_prefix x (e ∷ es) more b = (b.0, ahead_prefix x es more b.1)
 
-pub front_rises : (es more : List Entry) → IsCatalogue (es ++ more) → IsCatalogue es
-front_rises [] more r = tt
-front_rises (e ∷ es) more r = (ahead_front e es more r.0, front_rises es more r.1)
+pub prefix_rises : (es more : List Entry) → IsCatalogue (es ++ more) → IsCatalogue es
+prefix_rises [] more r = tt
+prefix_rises (e ∷ es) more r = (ahead_prefix e es more r.0, prefix_rises es more r.1)
 
 ahead_dropped : (f x : Entry) (fs es : List Entry) → IsAhead f (fs ++ x ∷ es) → IsAhead f (fs ++ es)
 ahead_dropped f x [] es b = b.1
@@ -66,10 +66,10 @@ none_ahead (f ∷ fs) es x r =
     (less_back exact_pairs.total (publication_of f) (publication_of x) before)
     ∙ none_ahead fs es x r.1
 
-pub none_behind : (x : Entry) (es : List Entry) → IsAhead x es → entry_of (publication_of x) es ≡ None
-none_behind x [] b = refl
-none_behind x (e ∷ es) b =
-    ap (λ (o : Ordering). cond (is_eq o) (Some e) (entry_of (publication_of x) es)) b.0 ∙ none_behind x es b.1
+pub none_after : (x : Entry) (es : List Entry) → IsAhead x es → entry_of (publication_of x) es ≡ None
+none_after x [] b = refl
+none_after x (e ∷ es) b =
+    ap (λ (o : Ordering). cond (is_eq o) (Some e) (entry_of (publication_of x) es)) b.0 ∙ none_after x es b.1
 
 -- ---- an entry's place in front of what was set aside
 

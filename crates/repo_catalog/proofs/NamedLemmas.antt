@@ -27,7 +27,7 @@ use Rattle.repo_catalog.proofs.MergeLemmas.{IsAhead}
 
 -- ---- order
 
--- the pair behind an entry's
+-- the pair after an entry's
 abbrev pub after : Entry → Pair
 after e = (e.publisher, e.seq + 1)
 
@@ -43,8 +43,8 @@ next_pair Less m n = refl
 next_pair Equal m n = next_number m n
 next_pair Greater m n = refl
 
-behind : (e : Entry) (q : Pair) → is_le (pair_cmp (after e) q) ≡ is_lt (pair_cmp (publication_of e) q)
-behind e q = next_pair (nat_cmp e.publisher q.0) e.seq q.1
+following : (e : Entry) (q : Pair) → is_le (pair_cmp (after e) q) ≡ is_lt (pair_cmp (publication_of e) q)
+following e q = next_pair (nat_cmp e.publisher q.0) e.seq q.1
 
 zero_pair : (o : Ordering) (n : ℕ) → is_le o ≡ true → is_le (ordering_then o (nat_cmp 0 n)) ≡ true
 zero_pair Less n h = refl
@@ -169,13 +169,13 @@ module _ (name : List Component) (from : Pair) where
   not_itself : (e : Entry) → is_named_from name (after e) e ≡ false
   not_itself e =
       ap (λ (b : Bool). b && entry_has_name name e)
-      (behind e (publication_of e) ∙ ap is_lt (exact_pairs.itself (publication_of e)))
+      (following e (publication_of e) ∙ ap is_lt (exact_pairs.itself (publication_of e)))
 
   not_before : (e x : Entry) → pair_cmp (publication_of x) (publication_of e) ≡ Less
       → is_named_from name (after e) x ≡ false
   not_before e x l =
       ap (λ (b : Bool). b && entry_has_name name x)
-      (behind e (publication_of x)
+      (following e (publication_of x)
       ∙ ap is_lt (less_back exact_pairs.total (publication_of x) (publication_of e) l))
 
   first_kept : (x : Entry) (xs : List Entry) → IsAhead x xs → is_named_from name from x ≡ true
@@ -188,7 +188,7 @@ module _ (name : List Component) (from : Pair) where
       (entry_has_name name f)
       (λ n.
       le_less from (publication_of x) (publication_of f) (and_parts (is_le (pair_cmp from (publication_of x))) _ t).0 l
-      ∙ sym (behind x (publication_of f) ∙ ap is_lt l)))
+      ∙ sym (following x (publication_of f) ∙ ap is_lt l)))
 
   pub filter_first : (es : List Entry) (e : Entry) → IsCatalogue es → find (is_named_from name from) es ≡ Some e
       → filter (is_named_from name from) es ≡ e ∷ filter (is_named_from name (after e)) es
@@ -264,7 +264,7 @@ module _ (name : List Component) (from : Pair) (es : List Entry) (r : IsCatalogu
   -- the index's first key from there on
   pub record IsNext (first : Key) : Type 0 where
     pub there : is_key es first ≡ true
-    pub behind : key_cmp first (hash_of name, from) ≢ Less
+    pub following : key_cmp first (hash_of name, from) ≢ Less
     pub least : (q : Key) → is_key es q ≡ true → key_cmp q first ≡ Less → key_cmp q (hash_of name, from) ≡ Less
 
   abbrev HasKeys : List Key → Type 0
@@ -274,7 +274,7 @@ module _ (name : List Component) (from : Pair) (es : List Entry) (r : IsCatalogu
       → IsFirstFrom (h, from) ks first → IsNext first
   next_key ks h first same indexed next = record {
     there = sym (indexed first) ∙ next.there;
-    behind = λ l. next.behind (subst (λ (n : ℕ). key_cmp first (n, from) ≡ Less) (sym same) l);
+    following = λ l. next.following (subst (λ (n : ℕ). key_cmp first (n, from) ≡ Less) (sym same) l);
     least = λ q t l.
         subst (λ (n : ℕ). key_cmp q (n, from) ≡ Less) same (next.least q (indexed q ∙ t) l);
   }
@@ -298,14 +298,14 @@ module _ (name : List Component) (from : Pair) (es : List Entry) (r : IsCatalogu
           go Less e = first_less (nat_cmp (hash_of name) first.0) (pair_cmp p first.1) e
           go Equal e = absurd (other (sym (nat_same (hash_of name) first.0 e)))
           go Greater e =
-              absurd (next.behind (first_less (nat_cmp first.0 (hash_of name)) (pair_cmp first.1 from)
+              absurd (next.following (first_less (nat_cmp first.0 (hash_of name)) (pair_cmp first.1 from)
               (greater_back nat_cmp_total (hash_of name) first.0 e)))
 
   module _ (x : Entry) (next : IsNext (hash_of name, publication_of x)) (there : In x es) where
     from_x : is_le (pair_cmp from (publication_of x)) ≡ true
     from_x =
         not_less_le (publication_of x) from
-        (λ l. next.behind (same_hash (hash_of name) (publication_of x) from ∙ l))
+        (λ l. next.following (same_hash (hash_of name) (publication_of x) from ∙ l))
 
     before_x : (e : Entry) → In e es → pair_cmp (publication_of e) (publication_of x) ≡ Less
         → entry_has_name name e ≡ true → pair_cmp (publication_of e) from ≡ Less
@@ -335,13 +335,14 @@ module _ (name : List Component) (from : Pair) (es : List Entry) (r : IsCatalogu
       go : (o : Ordering) → pair_cmp (publication_of x) (publication_of e) ≡ o
           → is_le (pair_cmp from (publication_of e)) ≡ is_le (pair_cmp (after x) (publication_of e))
       go Less o =
-          le_less from (publication_of x) (publication_of e) from_x o ∙ sym (behind x (publication_of e) ∙ ap is_lt o)
+          le_less from (publication_of x) (publication_of e) from_x o
+          ∙ sym (following x (publication_of e) ∙ ap is_lt o)
       go Equal o =
           absurd (true≢false (sym (subst (λ (z : Entry). entry_has_name name z ≡ true) (sym (same_entry e i o)) n) ∙ f))
       go Greater o =
           less_not_le (publication_of e) from
           (before_x e i (greater_back exact_pairs.total (publication_of x) (publication_of e) o) n)
-          ∙ sym (behind x (publication_of e) ∙ ap is_lt o)
+          ∙ sym (following x (publication_of e) ∙ ap is_lt o)
 
     pub next_passed : entry_has_name name x ≡ false
         → find (is_named_from name (after x)) es ≡ find (is_named_from name from) es
@@ -356,8 +357,9 @@ module _ (name : List Component) (from : Pair) (es : List Entry) (r : IsCatalogu
     fewer_left =
         fewer (λ e. is_le (pair_cmp from (publication_of e))) (λ e. is_le (pair_cmp (after x) (publication_of e))) es x
         (λ e t. le_less from (publication_of x) (publication_of e) from_x
-        (lt_less (pair_cmp (publication_of x) (publication_of e)) (sym (behind x (publication_of e)) ∙ t))) there from_x
-        (behind x (publication_of x) ∙ ap is_lt (exact_pairs.itself (publication_of x))) where
+        (lt_less (pair_cmp (publication_of x) (publication_of e)) (sym (following x (publication_of e)) ∙ t))) there
+        from_x
+        (following x (publication_of x) ∙ ap is_lt (exact_pairs.itself (publication_of x))) where
           lt_less : (o : Ordering) → is_lt o ≡ true → o ≡ Less
           lt_less Less t = refl
           lt_less Equal t = absurd (true≢false (sym t))

@@ -12,8 +12,8 @@ use Rattle.sorted_lists.specs.SortedList.{by_order, contains, IsBefore, Rises}
 use Rattle.sorted_lists.proofs.Orders.{equal_from_is_eq, equal_back, less_back}
 use Rattle.repo_catalog.specs.declared.entry.Entry.{Entry}
 use Rattle.repo_catalog.specs.Entries.{publication_of, is_of, entry_of, with_entry, without, without_all, IsCatalogue}
-use Rattle.repo_catalog.specs.Sums.{sums_of}
-use Rattle.repo_catalog.proofs.EntryLemmas.{without_behind}
+use Rattle.repo_catalog.specs.EntryTotals.{totals_of}
+use Rattle.repo_catalog.proofs.EntryLemmas.{without_after}
 use Rattle.repo_catalog.proofs.ManyLemmas.{removes_all, without_all_rises, without_one_more}
 
 -- ---- the sum of a field
@@ -46,7 +46,7 @@ module _ (f : Entry → ℕ) where
             let same : y ≡ x = cc in
             let equal : pair_cmp (publication_of y) k ≡ Equal =
             equal_back exact_pairs.total k (publication_of y) (equal_from_is_eq (pair_cmp k (publication_of y)) e) in
-            let rest : without k ys ≡ ys = without_behind k (publication_of y) ys r.0 equal in
+            let rest : without k ys ≡ ys = without_after k (publication_of y) ys r.0 equal in
             ap (λ (z : Entry). f z + sum_by f (without k ys)) (sym same)
             ∙ ap (λ (zs : List Entry). f y + sum_by f zs) rest
         go h false e t = omega (arith, sum_by-cons f y (without k ys), h t)
@@ -54,14 +54,14 @@ module _ (f : Entry → ℕ) where
 -- ---- the sums of a catalogue
 
 pub sums_with : (x : Entry) (es : List Entry) → entry_of (publication_of x) es ≡ None
-    → sums_of (x ∷ es) ≡ sums_of (with_entry x es)
+    → totals_of (x ∷ es) ≡ totals_of (with_entry x es)
 sums_with x es none =
     let segments = sum_by-cons (λ (e : Entry). e.segments) x es ∙ sym (sum_with (λ e. e.segments) x es none) in
     let octets = sum_by-cons (λ (e : Entry). e.octets) x es ∙ sym (sum_with (λ e. e.octets) x es none) in
     λ i. record { segments = segments i % 2 ^ 64; octets = octets i % 2 ^ 64 }
 
 pub sums_without : (k : Pair) (x : Entry) (es : List Entry) → IsCatalogue es → entry_of k es ≡ Some x
-    → sums_of es ≡ sums_of (x ∷ without k es)
+    → totals_of es ≡ totals_of (x ∷ without k es)
 sums_without k x es r there =
     let segments =
     sym (sum_by-cons (λ (e : Entry). e.segments) x (without k es) ∙ sum_without (λ e. e.segments) k x es r there) in
@@ -71,23 +71,23 @@ sums_without k x es r there =
 
 -- ---- the sums without one publication after another
 
--- a publication behind others is none of them
-pub is_behind : (gone : List Pair) (p : Pair) → Rises pair_cmp (gone ++ p ∷ []) → contains pair_cmp gone p ≡ false
-is_behind [] p r = refl
-is_behind (g ∷ gs) p r =
+-- a publication after others is none of them
+pub is_past : (gone : List Pair) (p : Pair) → Rises pair_cmp (gone ++ p ∷ []) → contains pair_cmp gone p ≡ false
+is_past [] p r = refl
+is_past (g ∷ gs) p r =
     ap (λ (o : Ordering). is_eq o || contains pair_cmp gs p) (less_back exact_pairs.total g p (before gs r.0))
-    ∙ is_behind gs p r.1 where
+    ∙ is_past gs p r.1 where
       before : (ps : List Pair) → IsBefore pair_cmp g (ps ++ p ∷ []) → pair_cmp g p ≡ Less
       before [] b = b.0
       before (q ∷ qs) b = before qs b.1
 
 pub sums_with_one_gone : (gone : List Pair) (k : Pair) (x : Entry) (es : List Entry) → IsCatalogue es
     → entry_of k es ≡ Some x → contains pair_cmp gone k ≡ false
-    → sums_of (without_all gone es) ≡ sums_of (x ∷ without_all (gone ++ k ∷ []) es)
+    → totals_of (without_all gone es) ≡ totals_of (x ∷ without_all (gone ++ k ∷ []) es)
 sums_with_one_gone gone k x es r there stays =
     sums_without k x (without_all gone es) (without_all_rises gone es r)
     (removes_all gone es k ∙ ap (λ (b : Bool). cond b None (entry_of k es)) stays ∙ there)
-    ∙ ap (λ (rest : List Entry). sums_of (x ∷ rest)) (without_one_more gone k es)
+    ∙ ap (λ (rest : List Entry). totals_of (x ∷ rest)) (without_one_more gone k es)
 
 without_missing : (k : Pair) (es : List Entry) → entry_of k es ≡ None → without k es ≡ es
 without_missing k [] none = refl
@@ -98,9 +98,9 @@ without_missing k (y ∷ ys) none = go (without_missing k ys) (is_of k y) none w
   go h false n = ap (λ (rest : List Entry). y ∷ rest) (h n)
 
 pub sums_with_none_gone : (gone : List Pair) (k : Pair) (es : List Entry) → entry_of k es ≡ None
-    → sums_of (without_all gone es) ≡ sums_of (without_all (gone ++ k ∷ []) es)
+    → totals_of (without_all gone es) ≡ totals_of (without_all (gone ++ k ∷ []) es)
 sums_with_none_gone gone k es none =
-    ap sums_of
+    ap totals_of
     (sym (without_missing k (without_all gone es)
     (removes_all gone es k
     ∙ ap (λ (o : Option Entry). cond (contains pair_cmp gone k) None o) none

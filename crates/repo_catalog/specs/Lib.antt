@@ -3,7 +3,7 @@ pub use Rattle.ndn_name.specs.CanonicalOrder
 pub use Rattle.sorted_lists.specs.SortedList
 pub use Rattle.repo_plan.specs.Parts
 pub mod Entries
-pub mod Sums
+pub mod EntryTotals
 pub mod EntryFields
 pub mod EntryRows
 pub mod NameKeys

@@ -26,7 +26,7 @@ pub record KeyList : Type 0 where
   pub waiting : List Pair
   pub spare : ℕ
 
--- The front of the SHA-256 of a name's octets: its first eight octets, as a number.
+-- The fingerprint of the SHA-256 of a name's octets: its first eight octets, as a number.
 unfoldable pub hash_of : List Component → ℕ
 hash_of name = from_be_bytes w64 (take 8 (sha256 (encoding name)))
 
@@ -65,5 +65,5 @@ IsSoughtKey name from entries ks pair =
 -- The key is there, and is the first that isn't before another.
 pub record IsFirstFrom (from : Key) (ks : List Key) (first : Key) : Type 0 where
   pub there : contains key_cmp ks first ≡ true
-  pub behind : key_cmp first from ≢ Less
+  pub following : key_cmp first from ≢ Less
   pub least : (q : Key) → contains key_cmp ks q ≡ true → key_cmp q first ≡ Less → key_cmp q from ≡ Less

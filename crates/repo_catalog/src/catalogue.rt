@@ -13,10 +13,10 @@ ghost use Rattle.repo_catalog.specs.NameKeys.{hash_of};
 use crate::by_name::{first_indexed, first_waiting, lesser};
 use crate::entry::Entry;
 use crate::entry_row::EntryRow;
+use crate::entry_totals::EntryTotals;
 use crate::merge::forget;
 use crate::name_index::{NameIndex, key_of, name_hash};
 use crate::search::place_of;
-use crate::sums::Sums;
 use ndn_name::NameView;
 use std::alloc::{AllocError, Global};
 use std::marker::Model;
@@ -33,7 +33,7 @@ pub struct Catalogue {
     // Empty. Entries are set aside here while others take their places.
     aside: Vec<Entry>,
     names: NameIndex,
-    sums: Sums,
+    entry_totals: EntryTotals,
     spare: usize,
 }
 
@@ -44,7 +44,7 @@ impl Drop for Catalogue {
             entries: _,
             aside: _,
             names: _,
-            sums: _,
+            entry_totals: _,
             spare: _,
         } = self;
     }
@@ -72,7 +72,7 @@ impl Catalogue {
             entries: EntryRow::new(alloc),
             aside: Vec::new(alloc),
             names: NameIndex::new(alloc),
-            sums: Sums::new(),
+            entry_totals: EntryTotals::new(),
             spare: 0,
         }
     }
@@ -118,7 +118,7 @@ impl Catalogue {
             return false;
         };
         self.names.wait((entry.publisher, entry.seq));
-        self.sums.add(&entry);
+        self.entry_totals.add(&entry);
         self.entries.insert(place, entry);
         true
     }
@@ -166,8 +166,12 @@ impl Catalogue {
     {
         fresh.sort_unstable_by_key(|entry| (entry.publisher, entry.seq));
         self.spare -= fresh.len();
-        self.entries
-            .merge(fresh, &mut self.aside, &mut self.names, &mut self.sums);
+        self.entries.merge(
+            fresh,
+            &mut self.aside,
+            &mut self.names,
+            &mut self.entry_totals,
+        );
     }
 
     /// Removes the entry of a publisher and number, and tells whether there was one.
@@ -189,7 +193,7 @@ impl Catalogue {
         };
         let entry = &self.entries.as_slice()[place];
         self.names.remove(key_of(entry));
-        self.sums.subtract(entry);
+        self.entry_totals.subtract(entry);
         self.entries.remove(place);
         true
     }
@@ -225,7 +229,7 @@ impl Catalogue {
     {
         forget(
             &mut self.names,
-            &mut self.sums,
+            &mut self.entry_totals,
             self.entries.as_slice(),
             publications,
         );
@@ -312,8 +316,8 @@ impl Catalogue {
     {
         (
             self.entries.as_slice().len() as u32,
-            self.sums.segments,
-            self.sums.octets,
+            self.entry_totals.segments,
+            self.entry_totals.octets,
         )
     }
 

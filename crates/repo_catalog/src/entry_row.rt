@@ -5,17 +5,17 @@ ghost use Rattle.sorted_lists.specs.SortedList.{Rises};
 ghost use Rattle.repo_plan.specs.Parts.{pair_cmp};
 ghost use Rattle.repo_catalog.specs.Entries.{with_entries, without_all, IsCatalogue};
 ghost use Rattle.repo_catalog.specs.NameKeys.{IsIndexOf};
-ghost use Rattle.repo_catalog.specs.Sums.{sums_of};
+ghost use Rattle.repo_catalog.specs.EntryTotals.{totals_of};
 
 use crate::entry::Entry;
+use crate::entry_totals::EntryTotals;
 use crate::merge::merge;
 use crate::name_index::NameIndex;
 use crate::search::is_among;
-use crate::sums::Sums;
 use std::alloc::{AllocError, Global};
 use std::marker::Model;
 
-// Entries, and room for more. Those that were removed from the front, one after the other, stay in front of the others,
+// Entries, and room for more. Those that were removed from the start, one after the other, stay in front of the others,
 // until they are more than these: so no other is moved where the first one goes.
 #[derive(Debug, Drop)]
 pub(crate) struct EntryRow {
@@ -109,13 +109,13 @@ impl EntryRow {
         fresh: &mut Vec<Entry>,
         aside: &mut Vec<Entry>,
         names: &mut NameIndex,
-        sums: &mut Sums,
+        entry_totals: &mut EntryTotals,
     )
         requires in_order { IsCatalogue self.old.items }
         requires fresh_in_order { IsCatalogue fresh.old.items }
         requires none_aside { aside.old.items ≡ [] }
         requires indexed { IsIndexOf self.old.items names.old.keys names.old.waiting }
-        requires summed { sums.old ≡ sums_of self.old.items }
+        requires summed { entry_totals.old ≡ totals_of self.old.items }
         requires room { length self.old.items + length fresh.old.items ≤ self.old.capacity }
         requires room_aside { length self.old.items + length fresh.old.items ≤ vec_capacity aside.old }
         requires room_for_names { length fresh.old.items ≤ names.old.spare }
@@ -124,7 +124,7 @@ impl EntryRow {
         ensures moved { fresh.new.items ≡ [] }
         ensures none_aside { aside.new.items ≡ [] }
         ensures indexed { IsIndexOf self.new.items names.new.keys names.new.waiting }
-        ensures summed { sums.new ≡ sums_of self.new.items }
+        ensures summed { entry_totals.new ≡ totals_of self.new.items }
         ensures len { length self.new.items ≤ length self.old.items + length fresh.old.items }
         ensures room { self.old.capacity ≤ self.new.capacity }
         ensures room_aside { vec_capacity aside.old ≤ vec_capacity aside.new }
@@ -132,11 +132,11 @@ impl EntryRow {
         ensures room_for_names { names.old.spare ≤ names.new.spare + length fresh.old.items }
     {
         close(&mut self.all, &mut self.gone);
-        merge(&mut self.all, fresh, aside, names, sums);
+        merge(&mut self.all, fresh, aside, names, entry_totals);
     }
 }
 
-// Removes the entry in this place behind those that are gone.
+// Removes the entry in this place after those that are gone.
 fn take_out(all: &mut Vec<Entry>, gone: &mut usize, place: usize)
     requires gone { gone.old ≤ length all.old.items }
     requires place { place < length (drop gone.old all.old.items) }

@@ -8,11 +8,11 @@ mod by_name;
 mod catalogue;
 mod entry;
 mod entry_row;
+mod entry_totals;
 mod laws;
 mod merge;
 mod name_index;
 mod search;
-mod sums;
 
 pub use catalogue::Catalogue;
 pub use entry::Entry;

@@ -15,7 +15,7 @@ use sorted_lists::SortedMap;
 use std::alloc::{AllocError, Global};
 use std::marker::Model;
 
-// The hash of an object's name, then the publication. A number has 32 bits here, so that there is always one behind it.
+// The hash of an object's name, then the publication. A number has 32 bits here, so that there is always one after it.
 pub(crate) type Key = (u64, (u32, u32));
 
 // Keys in order, and publications that wait for theirs. What is added waits, and no name is hashed, until an entry is
@@ -143,8 +143,8 @@ fn put_in_place(map: &mut SortedMap<Key, ()>, waiting: &mut Vec<(u32, u16)>, ent
     }
 }
 
-// The front of the SHA-256 of a name's octets. Others can choose names, but hardly many whose fronts are the same.
-// Octets decide in the end.
+// The fingerprint of the SHA-256 of a name's octets. Others can choose names, but hardly many whose fingerprints are
+// the same. Octets decide in the end.
 #[tactic(auto, unfolding(crate::specs::NameKeys::hash_of))]
 pub(crate) fn name_hash(name: &NameView<'_>) -> u64
     ensures { result ≡ hash_of name.now }

@@ -21,22 +21,23 @@ use Rattle.repo_command.specs.declared.answer_fields.AnswerField.{AnswerField}
 use Rattle.repo_command.specs.declared.answer_fields.AnswerField.TheVariants.{ProcessId, StatusCode, InsertNum}
 use Rattle.repo_command.specs.declared.answer_fields.AnswerField.TheVariants.{DeleteNum}
 use Rattle.repo_command.specs.OrderTables.{repo_command_response}
-use Rattle.repo_command.specs.Answers.{IsSmall, IsAnswer, NoAnswer, none, written_field, response_value, written_answer}
+use Rattle.repo_command.specs.Answers.{IsSmall, IsAnswer, AnswerError, none, written_field, response_value}
+use Rattle.repo_command.specs.Answers.{written_answer}
 use Rattle.repo_command.specs.Answers.{AnswerSoFar, no_number, with_number, with_answer_field, bad_answer_field}
 use Rattle.repo_command.specs.Answers.{answer_fields, whole_answer, response_among, answer_in, answer_of}
 use Rattle.repo_command.proofs.LengthLemmas.{number_element-size, written-size}
 use Rattle.repo_command.proofs.FieldLemmas.{field_again, fields_end}
 
-abbrev behind_process : List (Place AnswerField)
-behind_process = once 208 StatusCode ∷ once 209 InsertNum ∷ once 210 DeleteNum ∷ []
+abbrev after_process : List (Place AnswerField)
+after_process = once 208 StatusCode ∷ once 209 InsertNum ∷ once 210 DeleteNum ∷ []
 
-abbrev behind_code : List (Place AnswerField)
-behind_code = once 209 InsertNum ∷ once 210 DeleteNum ∷ []
+abbrev after_code : List (Place AnswerField)
+after_code = once 209 InsertNum ∷ once 210 DeleteNum ∷ []
 
-abbrev behind_inserted : List (Place AnswerField)
-behind_inserted = once 210 DeleteNum ∷ []
+abbrev after_inserted : List (Place AnswerField)
+after_inserted = once 210 DeleteNum ∷ []
 
-abbrev gather_answer : AnswerSoFar → List (Place AnswerField) → ℕ → List ℕ → Result AnswerSoFar NoAnswer
+abbrev gather_answer : AnswerSoFar → List (Place AnswerField) → ℕ → List ℕ → Result AnswerSoFar AnswerError
 gather_answer s places o octets = gathered with_answer_field bad_answer_field s (fields places (elements o octets))
 
 -- with a number that may be there
@@ -50,12 +51,12 @@ number_taken s field o typ n small =
     ap (λ (r : Option ℕ). ok_or r none >>= λ m. Ok (with_number s field m)) (number_of-number_field n small)
 
 next_number :
-    (places behind : List (Place AnswerField)) (field : AnswerField) (o typ n : ℕ) (rest : List ℕ) (s : AnswerSoFar)
-    → place_of typ places ≡ Some (field, behind) → 0 < typ → typ < 2 ^ 32 → n < 2 ^ 64
+    (places after : List (Place AnswerField)) (field : AnswerField) (o typ n : ℕ) (rest : List ℕ) (s : AnswerSoFar)
+    → place_of typ places ≡ Some (field, after) → 0 < typ → typ < 2 ^ 32 → n < 2 ^ 64
     → gather_answer s places o (element typ (number_field n) ++ rest)
-    ≡ gather_answer (with_number s field n) behind (o + length (element typ (number_field n))) rest
-next_number places behind field o typ n rest s place above below small =
-    field_again with_answer_field bad_answer_field places behind field o typ (number_field n) rest s
+    ≡ gather_answer (with_number s field n) after (o + length (element typ (number_field n))) rest
+next_number places after field o typ n rest s place above below small =
+    field_again with_answer_field bad_answer_field places after field o typ (number_field n) rest s
     (with_number s field n) place above below (omega (arith, width n)) (number_taken s field o typ n small)
 
 -- ---- field by field, from the last
@@ -69,28 +70,28 @@ deleted_again places o s (Some n) place small =
     ∙ fields_end with_answer_field bad_answer_field [] (o + length (element 210 (number_field n)))
     (with_number s DeleteNum n)
 
-last_place : place_of 210 behind_inserted ≡ Some (DeleteNum, [])
+last_place : place_of 210 after_inserted ≡ Some (DeleteNum, [])
 unfolding place_of
 last_place = refl
 
 inserted_again : (o : ℕ) (s : AnswerSoFar) (i d : Option ℕ) → IsSmall i → IsSmall d
-    → gather_answer s behind_code o (written_field 209 i ++ (written_field 210 d ++ []))
+    → gather_answer s after_code o (written_field 209 i ++ (written_field 210 d ++ []))
     ≡ Ok (with_some (with_some s InsertNum i) DeleteNum d)
 unfolding place_of
-inserted_again o s None d small_i small_d = deleted_again behind_code o s d refl small_d
+inserted_again o s None d small_i small_d = deleted_again after_code o s d refl small_d
 inserted_again o s (Some n) d small_i small_d =
-    next_number behind_code behind_inserted InsertNum o 209 n (written_field 210 d ++ []) s refl (omega arith)
+    next_number after_code after_inserted InsertNum o 209 n (written_field 210 d ++ []) s refl (omega arith)
     (omega arith) small_i
-    ∙ deleted_again behind_inserted (o + length (element 209 (number_field n))) (with_number s InsertNum n) d last_place
+    ∙ deleted_again after_inserted (o + length (element 209 (number_field n))) (with_number s InsertNum n) d last_place
     small_d
 
 code_again : (places : List (Place AnswerField)) (o : ℕ) (s : AnswerSoFar) (code : ℕ) (i d : Option ℕ)
-    → place_of 208 places ≡ Some (StatusCode, behind_code)
+    → place_of 208 places ≡ Some (StatusCode, after_code)
     → code < 2 ^ 16 → IsSmall i → IsSmall d
     → gather_answer s places o (element 208 (number_field code) ++ (written_field 209 i ++ (written_field 210 d ++ [])))
     ≡ Ok (with_some (with_some (with_number s StatusCode code) InsertNum i) DeleteNum d)
 code_again places o s code i d place small small_i small_d =
-    next_number places behind_code StatusCode o 208 code (written_field 209 i ++ (written_field 210 d ++ [])) s place
+    next_number places after_code StatusCode o 208 code (written_field 209 i ++ (written_field 210 d ++ [])) s place
     (omega arith) (omega arith) (omega arith)
     ∙ inserted_again (o + length (element 208 (number_field code))) (with_number s StatusCode code) i d small_i small_d
 
@@ -106,10 +107,10 @@ unfolding place_of
 value_again o code None i d small_p small small_i small_d =
     code_again repo_command_response o no_number code i d refl small small_i small_d
 value_again o code (Some n) i d small_p small small_i small_d =
-    next_number repo_command_response behind_process ProcessId o 206 n
+    next_number repo_command_response after_process ProcessId o 206 n
     (element 208 (number_field code) ++ (written_field 209 i ++ (written_field 210 d ++ []))) no_number refl
     (omega arith) (omega arith) small_p
-    ∙ code_again behind_process (o + length (element 206 (number_field n))) (with_number no_number ProcessId n) code i d
+    ∙ code_again after_process (o + length (element 206 (number_field n))) (with_number no_number ProcessId n) code i d
     refl small small_i small_d
 
 -- ---- the whole
@@ -154,5 +155,5 @@ answer_again a is =
     ap (gather_answer no_number repo_command_response e.value_start) (regroup p c i d)
     ∙ value_again e.value_start a.code a.process a.inserted a.deleted is.process is.code is.inserted is.deleted in
     ap (λ (l : Listing Item TlvFault). option_and_then answer_in (response_among l.items l.fault)) read
-    ∙ ap (λ (r : Result AnswerSoFar NoAnswer). option_and_then whole_answer (result_ok r)) all
+    ∙ ap (λ (r : Result AnswerSoFar AnswerError). option_and_then whole_answer (result_ok r)) all
     ∙ whole_again a.process a.inserted a.deleted a.code is.code

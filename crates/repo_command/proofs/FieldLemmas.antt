@@ -1,7 +1,7 @@
 -- Fields that were written one after another, read by an order table.
 use Rattle.std.proofs.Common.{◌≡◌, ℕ, ◌+◌, ◌^◌, ◌<◌, List, [], ◌++◌, length, Some, Result, Ok, refl, sym, ap, ◌∙◌}
 use Rattle.std.proofs.lemmas.List.{append-nil}
-use Rattle.ndn_tlv.specs.declared.order_table.FieldFault.{FieldFault}
+use Rattle.ndn_tlv.specs.declared.order_table.FieldError.{FieldError}
 use Rattle.ndn_tlv.specs.declared.order_table.Place.{Place}
 use Rattle.ndn_tlv.specs.declared.tlv_fault.TlvFault.{TlvFault}
 use Rattle.ndn_tlv.specs.Spelling.{element}
@@ -12,19 +12,19 @@ use Rattle.ndn_tlv.proofs.Listings.{elements-element, elements-nil}
 use Rattle.ndn_tlv.proofs.Fields.{fields-field, fields-nothing}
 use Rattle.ndn_packet.proofs.ReadBack.{gathers, gathered-nothing}
 
-module _ {F S E : Type 0} (take : S → F × Item → Result S E) (named : FieldFault → E) where
+module _ {F S E : Type 0} (take : S → F × Item → Result S E) (named : FieldError → E) where
   -- a field, and what follows it
-  pub field_again : (places behind : List (Place F)) (field : F) (o typ : ℕ) (value rest : List ℕ) (s t : S)
-      → place_of typ places ≡ Some (field, behind) → 0 < typ → typ < 2 ^ 32 → length value < 2 ^ 64
+  pub field_again : (places after : List (Place F)) (field : F) (o typ : ℕ) (value rest : List ℕ) (s t : S)
+      → place_of typ places ≡ Some (field, after) → 0 < typ → typ < 2 ^ 32 → length value < 2 ^ 64
       → take s (field, placed o typ value) ≡ Ok t
       → gathered take named s (fields places (elements o (element typ value ++ rest)))
-      ≡ gathered take named t (fields behind (elements (o + length (element typ value)) rest))
-  field_again places behind field o typ value rest s t place above below fits step =
+      ≡ gathered take named t (fields after (elements (o + length (element typ value)) rest))
+  field_again places after field o typ value rest s t place above below fits step =
       let others = elements (o + length (element typ value)) rest in
       ap (λ (l : Listing Item TlvFault). gathered take named s (fields places l))
       (elements-element o typ value rest above below fits)
-      ∙ ap (gathered take named s) (fields-field places (placed o typ value) others field behind place)
-      ∙ gathers take named s t (field, placed o typ value) (fields behind others) step
+      ∙ ap (gathered take named s) (fields-field places (placed o typ value) others field after place)
+      ∙ gathers take named s t (field, placed o typ value) (fields after others) step
 
   -- the end
   pub fields_end : (places : List (Place F)) (o : ℕ) (s : S)
@@ -35,11 +35,11 @@ module _ {F S E : Type 0} (take : S → F × Item → Result S E) (named : Field
       ∙ gathered-nothing take named s
 
   -- a field that nothing follows
-  pub last_field : (places behind : List (Place F)) (field : F) (o typ : ℕ) (value : List ℕ) (s t : S)
-      → place_of typ places ≡ Some (field, behind) → 0 < typ → typ < 2 ^ 32 → length value < 2 ^ 64
+  pub last_field : (places after : List (Place F)) (field : F) (o typ : ℕ) (value : List ℕ) (s t : S)
+      → place_of typ places ≡ Some (field, after) → 0 < typ → typ < 2 ^ 32 → length value < 2 ^ 64
       → take s (field, placed o typ value) ≡ Ok t
       → gathered take named s (fields places (elements o (element typ value))) ≡ Ok t
-  last_field places behind field o typ value s t place above below fits step =
+  last_field places after field o typ value s t place above below fits step =
       ap (λ (x : List ℕ). gathered take named s (fields places (elements o x))) (sym (append-nil (element typ value)))
-      ∙ field_again places behind field o typ value [] s t place above below fits step
-      ∙ fields_end behind (o + length (element typ value)) t
+      ∙ field_again places after field o typ value [] s t place above below fits step
+      ∙ fields_end after (o + length (element typ value)) t

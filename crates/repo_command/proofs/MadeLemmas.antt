@@ -44,14 +44,14 @@ use Rattle.repo_command.proofs.VerdictLemmas.{from_client}
 
 -- ---- the parameters
 
-abbrev behind_name : List (Place ParameterField)
-behind_name = once 204 StartBlockId ∷ once 205 EndBlockId ∷ once 206 ProcessId ∷ []
+abbrev after_name : List (Place ParameterField)
+after_name = once 204 StartBlockId ∷ once 205 EndBlockId ∷ once 206 ProcessId ∷ []
 
-abbrev behind_first : List (Place ParameterField)
-behind_first = once 205 EndBlockId ∷ once 206 ProcessId ∷ []
+abbrev after_first : List (Place ParameterField)
+after_first = once 205 EndBlockId ∷ once 206 ProcessId ∷ []
 
-abbrev behind_last : List (Place ParameterField)
-behind_last = once 206 ProcessId ∷ []
+abbrev after_last : List (Place ParameterField)
+after_last = once 206 ProcessId ∷ []
 
 -- what the parameters of a command say
 abbrev given : Command → Parameters
@@ -85,12 +85,12 @@ value_again (Insert name first last) o is short =
     let begun = record named { first = Some first } in
     let p = o + length a in
     let q = p + length b in
-    field_again with_parameter bad_parameter_field repo_command_parameter behind_name Name o 7 (encoding name) (b ++ d)
+    field_again with_parameter bad_parameter_field repo_command_parameter after_name Name o 7 (encoding name) (b ++ d)
     no_parameters named refl (omega arith) (omega arith) (omega (arith, short)) (name_taken o 7 name is.0)
-    ∙ field_again with_parameter bad_parameter_field behind_name behind_first StartBlockId p 204 (number_field first) d
+    ∙ field_again with_parameter bad_parameter_field after_name after_first StartBlockId p 204 (number_field first) d
     named begun refl (omega arith) (omega arith) (omega (arith, width first))
     (number_taken first (λ m. record named { first = Some m }) is.1)
-    ∙ last_field with_parameter bad_parameter_field behind_first behind_last EndBlockId q 205 (number_field last) begun
+    ∙ last_field with_parameter bad_parameter_field after_first after_last EndBlockId q 205 (number_field last) begun
     (given (Insert name first last)) refl (omega arith) (omega arith) (omega (arith, width last))
     (number_taken last (λ m. record begun { last = Some m }) is.2)
 value_again (Check process) o is short =
@@ -98,7 +98,7 @@ value_again (Check process) o is short =
     no_parameters (given (Check process)) refl (omega arith) (omega arith) (omega (arith, width process))
     (number_taken process (λ m. record no_parameters { process = Some m }) is)
 value_again (Delete name) o is short =
-    last_field with_parameter bad_parameter_field repo_command_parameter behind_name Name o 7 (encoding name)
+    last_field with_parameter bad_parameter_field repo_command_parameter after_name Name o 7 (encoding name)
     no_parameters (given (Delete name)) refl (omega arith) (omega arith) (omega (arith, short)) (name_taken o 7 name is)
 
 parameters_again : (c : Command) → CommandIsSpelled c → named_length c ≤ 400

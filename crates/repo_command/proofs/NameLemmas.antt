@@ -75,12 +75,12 @@ IsName-command node verb valid = IsName-append node (verb_component verb ∷ [])
 pub is_command_name-made : (node : List Component) (verb : Verb) (digest : List ℕ)
     → is_command_name node verb (command_name node verb ++ (2, digest) ∷ []) ≡ true
 is_command_name-made node verb digest =
-    let front = command_name node verb in
+    let prefix = command_name node verb in
     let last : Component = (2, digest) in
-    and_from (bytes_eq (encoding (without_last (front ++ last ∷ []))) (encoding front))
-    (ends_in_digest (front ++ last ∷ []))
-    (rw (without-push front last) ((bytes_eq-Decides (encoding front) (encoding front)).1 refl))
-    (ends-push front digest)
+    and_from (bytes_eq (encoding (without_last (prefix ++ last ∷ []))) (encoding prefix))
+    (ends_in_digest (prefix ++ last ∷ []))
+    (rw (without-push prefix last) ((bytes_eq-Decides (encoding prefix) (encoding prefix)).1 refl))
+    (ends-push prefix digest)
 
 -- ---- names of the same octets are the same, as far as their components can be elements
 
@@ -116,8 +116,8 @@ same_octets (c ∷ a) [] h k e = absurd (omega (arith, ap length e, some_octets 
 same_octets (c ∷ a) (d ∷ b) h k e =
     let parts = element_alone c.0 d.0 c.1 d.1 (encoding a) (encoding b) h.0 k.0 e in
     let one : c ≡ d = ap (λ (t : ℕ). (t, c.1)) parts.0 ∙ ap (λ (v : List ℕ). (d.0, v)) parts.1 in
-    let behind = same_octets a b h.1 k.1 parts.2 in
-    ap (λ (x : Component). x ∷ a) one ∙ ap (λ (x : List Component). d ∷ x) behind
+    let after = same_octets a b h.1 k.1 parts.2 in
+    ap (λ (x : Component). x ∷ a) one ∙ ap (λ (x : List Component). d ∷ x) after
 
 -- ---- the test of the octets
 
@@ -125,10 +125,10 @@ pub named : (node : List Component) (verb : Verb) (name : List Component) (diges
     → encoding name ≡ encoding node ++ (between verb ++ digest) → length digest ≡ 32
     → name ≡ command_name node verb ++ (2, digest) ∷ []
 named node verb name digest valid_node valid same long =
-    let front = command_name node verb in
+    let prefix = command_name node verb in
     let last : Component = (2, digest) in
-    same_octets name (front ++ last ∷ []) (AreElements-name name valid)
-    (AreElements-push front last (AreElements-name front (IsName-command node verb valid_node))
+    same_octets name (prefix ++ last ∷ []) (AreElements-name name valid)
+    (AreElements-push prefix last (AreElements-name prefix (IsName-command node verb valid_node))
     (omega arith, omega arith, omega (arith, long))) (same ∙ sym (spelled node verb digest long))
 
 pub is_of_node : (node : List Component) (verb : Verb) (name : List Component) (digest : List ℕ) → IsName node
@@ -146,18 +146,18 @@ pub record HasDigest (node : List Component) (verb : Verb) (name : List Componen
 pub has_digest : (node : List Component) (verb : Verb) (name : List Component) → IsName name
     → is_command_name node verb name ≡ true → HasDigest node verb name
 has_digest node verb name valid h =
-    let front = command_name node verb in
-    let tests = and_parts (bytes_eq (encoding (without_last name)) (encoding front)) (ends_in_digest name) h in
+    let prefix = command_name node verb in
+    let tests = and_parts (bytes_eq (encoding (without_last name)) (encoding prefix)) (ends_in_digest name) h in
     let ends = digest_ends name valid tests.1 in
-    let same : encoding (without_last name) ≡ encoding front =
-    (bytes_eq-Decides (encoding (without_last name)) (encoding front)).0 tests.0 in
+    let same : encoding (without_last name) ≡ encoding prefix =
+    (bytes_eq-Decides (encoding (without_last name)) (encoding prefix)).0 tests.0 in
     record {
       digest = ends.digest;
       long = ends.long;
       octets =
           ends.spelled
           ∙ ap (λ (o : List ℕ). o ++ element 2 ends.digest) same
-          ∙ sym (encoding-push front (2, ends.digest))
+          ∙ sym (encoding-push prefix (2, ends.digest))
           ∙ spelled node verb ends.digest ends.long;
     }
 
@@ -186,13 +186,13 @@ component_differs Delete Delete e = refl
 only_verb : (node : List Component) (v w : Verb) (digest : List ℕ)
     → is_command_name node v (command_name node w ++ (2, digest) ∷ []) ≡ true → v ≡ w
 only_verb node v w digest h =
-    let front = command_name node w in
-    let name = front ++ (2, digest) ∷ [] in
+    let prefix = command_name node w in
+    let name = prefix ++ (2, digest) ∷ [] in
     let tests =
     and_parts (bytes_eq (encoding (without_last name)) (encoding (command_name node v))) (ends_in_digest name) h in
     let same = (bytes_eq-Decides (encoding (without_last name)) (encoding (command_name node v))).0 tests.0 in
-    let octets : encoding front ≡ encoding (command_name node v) =
-    ap encoding (sym (without-push front (2, digest))) ∙ same in
+    let octets : encoding prefix ≡ encoding (command_name node v) =
+    ap encoding (sym (without-push prefix (2, digest))) ∙ same in
     component_differs v w
     (append_cancel_left (encoding node) (element 8 (verb_text w)) (element 8 (verb_text v))
     (sym (encoding-push node (verb_component w)) ∙ octets ∙ encoding-push node (verb_component v)))

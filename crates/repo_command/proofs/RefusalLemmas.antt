@@ -1,4 +1,4 @@
--- A refusal that octets get as a command is never want of memory.
+-- A refusal that octets get as a command is never out of memory.
 use Rattle.std.proofs.Common.{◌≡◌, ℕ, ◌-◌, Bool, true, false, cond, ◌&&◌, leb, ltb, List, [], ◌∷◌, Option, Some, None}
 use Rattle.std.proofs.Common.{Result, Ok, Err}
 use Rattle.std.specs.Prelude.{IfErr, ◌≢◌, unwrap_or, ok_or, nat_le, nat_lt, ◌==◌}
@@ -9,8 +9,8 @@ use Rattle.ndn_name.specs.declared.fault.PacketFault.{PacketFault}
 use Rattle.ndn_name.specs.declared.name_fault.NameFault.{NameFault}
 use Rattle.ndn_name.specs.Names.{Component, name_of}
 use Rattle.ndn_sign.specs.Ring.{NamedKey}
-use Rattle.ndn_interest.specs.declared.signature_refusal.SignatureRefusal.{SignatureRefusal}
-use Rattle.ndn_interest.specs.declared.signature_refusal.SignatureRefusal.TheVariants as signature
+use Rattle.ndn_interest.specs.declared.signature_error.SignatureError.{SignatureError}
+use Rattle.ndn_interest.specs.declared.signature_error.SignatureError.TheVariants as signature
 use Rattle.ndn_interest.specs.Interest.{Interest, interest_of}
 use Rattle.ndn_interest.specs.Signer.{signer_of}
 use Rattle.repo_object.specs.Objects.{is_object_name}
@@ -105,7 +105,7 @@ verb_err : (o : Option Verb) → IfErr (ok_or o OtherName) IsNoWant
 verb_err (Some verb) = tt
 verb_err None = λ e. absurd cc
 
-signed_err : (r : Result ℕ SignatureRefusal) → IfErr (signed_or r) IsNoWant
+signed_err : (r : Result ℕ SignatureError) → IfErr (signed_or r) IsNoWant
 signed_err (Ok n) = tt
 signed_err (Err signature.Unsigned) = λ e. absurd cc
 signed_err (Err signature.ParamsDigest) = λ e. absurd cc

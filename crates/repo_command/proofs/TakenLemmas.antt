@@ -7,7 +7,7 @@ use Rattle.ndn_tlv.specs.Listing.{◌>>=◌}
 use Rattle.ndn_tlv.proofs.Steps.{bind_ok, ok_is}
 use Rattle.ndn_name.specs.Names.{Component}
 use Rattle.ndn_sign.specs.Ring.{NamedKey}
-use Rattle.ndn_interest.specs.declared.signature_refusal.SignatureRefusal.{SignatureRefusal}
+use Rattle.ndn_interest.specs.declared.signature_error.SignatureError.{SignatureError}
 use Rattle.ndn_interest.specs.Interest.{interest_of}
 use Rattle.ndn_interest.specs.Signer.{signer_of}
 use Rattle.ndn_interest.proofs.SignerLemmas.{signer_there}
@@ -71,7 +71,7 @@ command_taken Delete p c e =
 
 -- ---- the client
 
-signed_is : (r : Result ℕ SignatureRefusal) (client : ℕ) → signed_or r ≡ Ok client → r ≡ Ok client
+signed_is : (r : Result ℕ SignatureError) (client : ℕ) → signed_or r ≡ Ok client → r ≡ Ok client
 signed_is (Ok n) client e = ap (λ (m : ℕ). Ok m) (ok_is n client e)
 signed_is (Err refusal) client e = absurd cc
 

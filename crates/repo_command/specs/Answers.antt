@@ -4,15 +4,15 @@ use Rattle.std.specs.Prelude.{if◌then◌else◌}
 use Rattle.std.specs.Option.{option_and_then}
 use Rattle.std.specs.Result.{result_ok}
 use Rattle.ndn_tlv.specs.declared.tlv_fault.TlvFault.{TlvFault}
-use Rattle.ndn_tlv.specs.declared.order_table.FieldFault.{FieldFault}
+use Rattle.ndn_tlv.specs.declared.order_table.FieldError.{FieldError}
 use Rattle.ndn_tlv.specs.Spelling.{element}
 use Rattle.ndn_tlv.specs.NumberField.{number_field, number_of}
 use Rattle.ndn_tlv.specs.Listing.{gathered, ◌>>=◌}
 use Rattle.ndn_tlv.specs.Elements.{Item, elements}
 use Rattle.ndn_tlv.specs.OrderTable.{fields}
 use Rattle.repo_command.specs.declared.answer.Answer.{Answer}
-use Rattle.repo_command.specs.declared.answer_fields.NoAnswer as no_answer
-use Rattle.repo_command.specs.declared.answer_fields.Gathered as declared_gathered
+use Rattle.repo_command.specs.declared.answer_fields.AnswerError as no_answer
+use Rattle.repo_command.specs.declared.answer_fields.AnswerFields as declared_gathered
 use Rattle.repo_command.specs.declared.answer_fields.AnswerField.{AnswerField}
 use Rattle.repo_command.specs.declared.answer_fields.AnswerField.TheVariants.{ProcessId, StatusCode, InsertNum}
 use Rattle.repo_command.specs.declared.answer_fields.AnswerField.TheVariants.{DeleteNum}
@@ -20,8 +20,8 @@ use Rattle.repo_command.specs.ElementTypes as types
 use Rattle.repo_command.specs.OrderTables.{repo_command_response}
 
 -- An answer that has a code alone.
-abbrev pub code_alone : ℕ → Answer
-code_alone code = record { code = code; process = None; inserted = None; deleted = None }
+abbrev pub code_only : ℕ → Answer
+code_only code = record { code = code; process = None; inserted = None; deleted = None }
 
 -- What an answer may be: a code of 16 bits, and numbers of 64.
 abbrev pub IsSmall : Option ℕ → Type 0
@@ -50,10 +50,10 @@ written_answer a = element types.RepoCommandResponse (response_value a)
 
 -- ---- reading
 
-abbrev pub NoAnswer : Type 0
-NoAnswer = no_answer.NoAnswer
+abbrev pub AnswerError : Type 0
+AnswerError = no_answer.AnswerError
 
-abbrev pub none : NoAnswer
+abbrev pub none : AnswerError
 none = record {}
 
 -- The numbers of a RepoCommandResponse's fields, as far as they have come.
@@ -72,13 +72,13 @@ with_number s StatusCode n = record s { code = Some n }
 with_number s InsertNum n = record s { inserted = Some n }
 with_number s DeleteNum n = record s { deleted = Some n }
 
-abbrev pub with_answer_field : AnswerSoFar → AnswerField × Item → Result AnswerSoFar NoAnswer
+abbrev pub with_answer_field : AnswerSoFar → AnswerField × Item → Result AnswerSoFar AnswerError
 with_answer_field s field = ok_or (number_of field.1.value) none >>= λ n. Ok (with_number s field.0 n)
 
-abbrev pub bad_answer_field : FieldFault → NoAnswer
+abbrev pub bad_answer_field : FieldError → AnswerError
 bad_answer_field fault = none
 
-abbrev pub answer_fields : Item → Result AnswerSoFar NoAnswer
+abbrev pub answer_fields : Item → Result AnswerSoFar AnswerError
 answer_fields e =
     gathered with_answer_field bad_answer_field no_number
     (fields repo_command_response (elements e.value_start e.value))
@@ -107,5 +107,5 @@ answer_of octets = option_and_then answer_in (response_among (elements 0 octets)
 
 -- ---- the numbers without where they lie in memory
 
-abbrev pub answer_so_far : declared_gathered.Gathered → AnswerSoFar
+abbrev pub answer_so_far : declared_gathered.AnswerFields → AnswerSoFar
 answer_so_far g = record { process = g.process; code = g.code; inserted = g.inserted; deleted = g.deleted }

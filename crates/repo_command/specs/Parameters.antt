@@ -1,7 +1,7 @@
 -- What octets are as the parameters of a command, or that they are none.
 use Rattle.std.specs.Prelude.{ℕ, ◌-◌, ◌&&◌, List, [], ◌∷◌, Option, Some, None, ok_or, Result, Ok, Err, nat_le, nat_lt}
 use Rattle.std.specs.Prelude.{◌==◌, if◌then◌else◌}
-use Rattle.ndn_tlv.specs.declared.order_table.FieldFault.{FieldFault}
+use Rattle.ndn_tlv.specs.declared.order_table.FieldError.{FieldError}
 use Rattle.ndn_tlv.specs.Listing.{gathered, ◌>>=◌}
 use Rattle.ndn_tlv.specs.Elements.{Item, elements}
 use Rattle.ndn_tlv.specs.NumberField.{number_of}
@@ -33,7 +33,7 @@ no_parameters = record { name = None; first = None; last = None; process = None 
 
 -- ---- what the fields hold
 
-abbrev pub bad_parameter_field : FieldFault → CommandRefusal
+abbrev pub bad_parameter_field : FieldError → CommandRefusal
 bad_parameter_field fault = BadParameter
 
 abbrev pub good_name : Result (List Component) NameFault → Result (List Component) CommandRefusal

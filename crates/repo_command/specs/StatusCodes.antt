@@ -23,8 +23,8 @@ Malformed = 403
 abbrev pub NotFound : ℕ
 NotFound = 404
 
--- What is answered to a command that is refused. Want of memory is no refusal of a command and has no code, which 0
--- says: no answer has it.
+-- What is answered to a command that is refused. Running out of memory is no refusal of a command and has no code,
+-- which 0 says: no answer has it.
 abbrev pub refusal_code : CommandRefusal → ℕ
 refusal_code ParamsDigest = NotValidated
 refusal_code UnknownKey = NotValidated

@@ -27,7 +27,7 @@ verb_component verb = (types.GenericNameComponent, verb_text verb)
 abbrev pub command_name : List Component → Verb → List Component
 command_name node verb = node ++ verb_component verb ∷ []
 
--- The name is that of a command of the verb for the node, with a parameters digest behind it. Names are the same
+-- The name is that of a command of the verb for the node, with a parameters digest after it. Names are the same
 -- exactly where their octets are.
 abbrev pub is_command_name : List Component → Verb → List Component → Bool
 is_command_name node verb name =

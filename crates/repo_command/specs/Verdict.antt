@@ -4,7 +4,7 @@ use Rattle.ndn_tlv.specs.Listing.{◌>>=◌}
 use Rattle.ndn_name.specs.declared.fault.PacketFault.{PacketFault}
 use Rattle.ndn_name.specs.Names.{Component}
 use Rattle.ndn_sign.specs.Ring.{NamedKey}
-use Rattle.ndn_interest.specs.declared.signature_refusal.SignatureRefusal.{SignatureRefusal}
+use Rattle.ndn_interest.specs.declared.signature_error.SignatureError.{SignatureError}
 use Rattle.ndn_interest.specs.Interest.{Interest, interest_of}
 use Rattle.ndn_interest.specs.Signer.{signer_of}
 use Rattle.repo_command.specs.declared.command.Command.{Command}
@@ -18,7 +18,7 @@ abbrev pub packet_or : Result Interest PacketFault → Result Interest CommandRe
 packet_or (Ok interest) = Ok interest
 packet_or (Err fault) = Err (Packet fault)
 
-abbrev pub signed_or : Result ℕ SignatureRefusal → Result ℕ CommandRefusal
+abbrev pub signed_or : Result ℕ SignatureError → Result ℕ CommandRefusal
 signed_or (Ok signer) = Ok signer
 signed_or (Err refusal) = Err (unsigned_as refusal)
 

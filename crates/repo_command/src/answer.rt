@@ -1,7 +1,7 @@
 ghost use Rattle.std.specs.Prelude.{◌≡◌, ◌++◌, ◌<◌, IfOk, OnOk};
-ghost use Rattle.repo_command.specs.Answers.{code_alone, written_field, written_answer, answer_of};
+ghost use Rattle.repo_command.specs.Answers.{code_only, written_field, written_answer, answer_of};
 
-use crate::answer_fields::Gathered;
+use crate::answer_fields::AnswerFields;
 use crate::element_types::{
     DELETE_NUM, INSERT_NUM, PROCESS_ID, REPO_COMMAND_RESPONSE, STATUS_CODE,
 };
@@ -23,7 +23,7 @@ pub struct Answer {
 impl Answer {
     /// An answer that has a code alone.
     pub fn only(code: u16) -> Answer
-        ensures { result ≡ code_alone code }
+        ensures { result ≡ code_only code }
     {
         Answer {
             code,
@@ -73,6 +73,6 @@ pub fn read_answer(octets: &[u8]) -> Option<Answer>
     if element.typ != REPO_COMMAND_RESPONSE {
         return None;
     }
-    let gathered = Gathered::of_fields(element).ok()?;
+    let gathered = AnswerFields::of_fields(element).ok()?;
     gathered.into_answer()
 }

@@ -39,19 +39,19 @@ pub(crate) const RESPONSE: [Place<AnswerField>; 4] = [
 
 /// The fields are not those of an answer.
 #[derive(Clone, Copy, Debug)]
-pub(crate) struct NoAnswer;
+pub(crate) struct AnswerError;
 
 // The fields of a RepoCommandResponse as far as they have come.
 #[derive(Clone, Copy)]
-pub(crate) struct Gathered {
+pub(crate) struct AnswerFields {
     process: Option<u64>,
     code: Option<u64>,
     inserted: Option<u64>,
     deleted: Option<u64>,
 }
 
-impl Gathered {
-    pub(crate) fn of_fields(element: Element<'_>) -> Result<Gathered, NoAnswer>
+impl AnswerFields {
+    pub(crate) fn of_fields(element: Element<'_>) -> Result<AnswerFields, AnswerError>
         requires { element.value_start + length element.value.now < 2 ^ 64 }
         ensures { MatchResult result
             (λ g. answer_fields (item element.entry) ≡ Ok (answer_so_far g))
@@ -59,7 +59,7 @@ impl Gathered {
     {
         let elements = Reader::new(element.value, element.value_start);
         let mut fields = FieldReader::new(elements, &RESPONSE);
-        let mut gathered = Gathered {
+        let mut gathered = AnswerFields {
             process: None,
             code: None,
             inserted: None,
@@ -69,19 +69,19 @@ impl Gathered {
             match fields.next() {
                 Ok(Some(next)) => gathered.take(next.0, next.1)?,
                 Ok(None) => return Ok(gathered),
-                Err(_) => return Err(NoAnswer),
+                Err(_) => return Err(AnswerError),
             }
         }
     }
 
-    fn take(&mut self, field: AnswerField, element: Element<'_>) -> Result<(), NoAnswer>
+    fn take(&mut self, field: AnswerField, element: Element<'_>) -> Result<(), AnswerError>
         ensures { MatchResult result
             (λ _. with_answer_field (answer_so_far self.old) (field, item element.entry)
             ≡ Ok (answer_so_far self.new))
             (λ refusal. with_answer_field (answer_so_far self.old) (field, item element.entry)
             ≡ Err refusal) }
     {
-        let number = read_number(element.value).ok_or(NoAnswer)?;
+        let number = read_number(element.value).ok_or(AnswerError)?;
         match field {
             AnswerField::ProcessId => self.process = Some(number),
             AnswerField::StatusCode => self.code = Some(number),

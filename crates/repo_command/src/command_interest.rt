@@ -17,7 +17,7 @@ use ndn_tlv::{Writer, types};
 use repo_object::{NODE_NAME_LIMIT, OBJECT_NAME_LIMIT};
 use std::alloc::{AllocError, Global};
 
-/// How many octets of value the name of a key may have: a node's name, with the component `KEY` behind it.
+/// How many octets of value the name of a key may have: a node's name, with the component `KEY` after it.
 pub const KEY_NAME_LIMIT: usize = 205;
 
 /// Makes the Interest of a command for the repository of a node, signed with a client's key (NDN Packet Format 0.3,

@@ -2,7 +2,7 @@ ghost use Rattle.std.specs.Prelude.{◌≡◌, ◌≢◌};
 ghost use Rattle.repo_command.specs.StatusCodes.{refusal_code};
 
 use crate::status_codes::{MALFORMED, NOT_VALIDATED};
-use ndn_interest::SignatureRefusal;
+use ndn_interest::SignatureError;
 use ndn_name::PacketFault;
 use std::alloc::AllocError;
 use thiserror::Error;
@@ -33,7 +33,7 @@ pub enum CommandRefusal {
 }
 
 impl CommandRefusal {
-    /// The status code that a repository answers to a command that it refuses. Want of memory is no refusal of a
+    /// The status code that a repository answers to a command that it refuses. Running out of memory is no refusal of a
     /// command, and is answered by none.
     pub fn status_code(self) -> u16
         requires { self ≢ CommandRefusal.NoMemory }
@@ -63,18 +63,18 @@ impl From<PacketFault> for CommandRefusal {
     }
 }
 
-impl From<SignatureRefusal> for CommandRefusal {
+impl From<SignatureError> for CommandRefusal {
     ghost use Rattle.std.specs.Prelude.{◌≡◌};
     ghost use Rattle.repo_command.specs.Refusals.{unsigned_as};
 
     ghost from_gives = { λ refusal as_command. as_command ≡ unsigned_as refusal };
 
-    fn from(refusal: SignatureRefusal) -> CommandRefusal {
+    fn from(refusal: SignatureError) -> CommandRefusal {
         match refusal {
-            SignatureRefusal::Unsigned => CommandRefusal::Unsigned,
-            SignatureRefusal::ParamsDigest => CommandRefusal::ParamsDigest,
-            SignatureRefusal::UnknownKey => CommandRefusal::UnknownKey,
-            SignatureRefusal::BadSignature => CommandRefusal::BadSignature,
+            SignatureError::Unsigned => CommandRefusal::Unsigned,
+            SignatureError::ParamsDigest => CommandRefusal::ParamsDigest,
+            SignatureError::UnknownKey => CommandRefusal::UnknownKey,
+            SignatureError::BadSignature => CommandRefusal::BadSignature,
         }
     }
 }

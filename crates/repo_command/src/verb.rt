@@ -66,14 +66,14 @@ pub(crate) fn verb_in(name: &NameView<'_>, node: &Name) -> Option<Verb>
     }
 }
 
-// Whether the name is that of a command of this verb for the node, with a parameters digest behind it.
+// Whether the name is that of a command of this verb for the node, with a parameters digest after it.
 fn is_command_name(name: &NameView<'_>, node: &Name, verb: Verb) -> bool
     ensures { result ≡ is_command_name node.now verb name.now }
 {
-    let Some(behind) = name.octets().strip_prefix(node.octets()) else {
+    let Some(after) = name.octets().strip_prefix(node.octets()) else {
         return false;
     };
-    match behind.strip_prefix(verb.between()) {
+    match after.strip_prefix(verb.between()) {
         Some(digest) => digest.len() == 32,
         None => false,
     }

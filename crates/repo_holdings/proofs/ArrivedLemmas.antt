@@ -12,17 +12,17 @@ use Rattle.sorted_lists.specs.SortedList.{keys, contains, value_of, with_value}
 use Rattle.sorted_lists.proofs.Sets.{eq_turned, value_of-with_value}
 use Rattle.repo_plan.specs.declared.part.Part.{Part}
 use Rattle.repo_plan.specs.declared.shape.Shape.{Shape}
-use Rattle.repo_plan.specs.Parts.{Pair, part_cmp, part_of, parts_behind}
+use Rattle.repo_plan.specs.Parts.{Pair, part_cmp, part_of, parts_after}
 use Rattle.repo_plan.specs.Plan.{PlanState, shape_of}
 use Rattle.repo_plan.proofs.Orders.{exact_parts}
-use Rattle.repo_object.specs.Publication.{RecordSays, shape_said}
+use Rattle.repo_object.specs.Publication.{RecordSays, shape_stated}
 use Rattle.repo_object.specs.Publication.RecordSays.{Lists, WithdrawsNumber}
 use Rattle.repo_object.specs.declared.job.Job.{Job}
-use Rattle.repo_object.specs.Verdict.{CheckedPart, said_in}
+use Rattle.repo_object.specs.Verdict.{CheckedPart, stated_in}
 use Rattle.repo_store.specs.StoreList.{with_packet}
 use Rattle.repo_catalog.specs.declared.entry.Entry.{Entry}
 use Rattle.repo_holdings.specs.Records.{Packet}
-use Rattle.repo_holdings.specs.Listed.{object_said, listing_in, listed_shape, stored_at, said_at, are_stored}
+use Rattle.repo_holdings.specs.Listed.{object_stated, listing_in, listed_shape, stored_at, stated_at, are_stored}
 use Rattle.repo_holdings.specs.Listed.{contents_joined, entry_listed, entry_of_listing, whole_at}
 use Rattle.repo_holdings.specs.declared.contents.ContentsDigest.{ContentsDigest}
 use Rattle.repo_holdings.specs.Contents.{IsOver, IsToldBy, IsDigestIn}
@@ -96,11 +96,12 @@ pub joined_next : (pieces : List (Bor (List ℕ))) (i : ℕ) (d : Bor (List ℕ)
 joined_next pieces i d low =
     ap joined (take_more pieces i d low) ∙ joined-push (take i pieces) (get_or pieces i d)
 
--- a digest over the contents of a publication is told truly
-pub told_truly : (packets : List Packet) (w : Whole) (d : ContentsDigest) → d.publisher ≡ w.publisher → d.seq ≡ w.seq
+-- a digest over the contents of a publication is reported truly
+pub reported_consistently : (packets : List Packet) (w : Whole) (d : ContentsDigest) → d.publisher ≡ w.publisher → d.seq
+    ≡ w.seq
     → d.octets ≡ length (joined w.contents.items) → d.digest ≡ sha256 (joined w.contents.items) → IsWholeIn packets w
     → IsDigestIn packets d
-told_truly packets w d publisher seq octets digest whole =
+reported_consistently packets w d publisher seq octets digest whole =
     let here : Pair = (d.publisher, d.seq) in
     let there : Pair = (w.publisher, w.seq) in
     let same : here ≡ there = cc in
@@ -115,28 +116,28 @@ pub contents_are : (plan : PlanState) (packets after : List Packet) (pair : Pair
     (contents : List (Bor (List ℕ))) → AreTied plan packets → StayStored packets after
     → Some shape ≡ shape_of plan pair → joined contents ≡ contents_joined after pair shape
     → AreContentsIn after pair contents
-contents_are plan packets after pair shape contents tied stays told same =
-    over (stored_at packets pair 0) refl (told ∙ shape_stored plan packets pair tied) where
+contents_are plan packets after pair shape contents tied stays summary same =
+    over (stored_at packets pair 0) refl (summary ∙ shape_stored plan packets pair tied) where
       -- what the record says, it says afterwards too
       over : (o : Option (List ℕ)) → stored_at packets pair 0 ≡ o
-          → Some shape ≡ option_map shape_said (said_at packets pair)
+          → Some shape ≡ option_map shape_stated (stated_at packets pair)
           → IfSome (whole_at after pair) (IsOver (joined contents))
       over None p h =
           let none : Some shape
-          ≡ option_map shape_said (option_and_then said_in (let n : Option (List ℕ) = None in n)) =
-          h ∙ ap (λ (o : Option (List ℕ)). option_map shape_said (option_and_then said_in o)) p in absurd cc
+          ≡ option_map shape_stated (option_and_then stated_in (let n : Option (List ℕ) = None in n)) =
+          h ∙ ap (λ (o : Option (List ℕ)). option_map shape_stated (option_and_then stated_in o)) p in absurd cc
       over (Some octets) p h =
           subst (λ (o : Option (List ℕ)).
           IfSome (option_and_then (entry_listed after pair) (option_and_then listing_in o)) (IsOver (joined contents)))
           (sym (stays (part_of pair 0) octets p))
-          (says (said_in octets) refl
-          (h ∙ ap (λ (o : Option (List ℕ)). option_map shape_said (option_and_then said_in o)) p)) where
-            says : (o : Option RecordSays) → said_in octets ≡ o → Some shape ≡ option_map shape_said o
-                → IfSome (option_and_then (entry_listed after pair) (option_and_then object_said o))
+          (says (stated_in octets) refl
+          (h ∙ ap (λ (o : Option (List ℕ)). option_map shape_stated (option_and_then stated_in o)) p)) where
+            says : (o : Option RecordSays) → stated_in octets ≡ o → Some shape ≡ option_map shape_stated o
+                → IfSome (option_and_then (entry_listed after pair) (option_and_then object_stated o))
                 (IsOver (joined contents))
             says None q t = tt
             says (Some (WithdrawsNumber seq)) q t = tt
-            says (Some (Lists l)) q t = at (are_stored after pair (parts_behind (listed_shape l))) where
+            says (Some (Lists l)) q t = at (are_stored after pair (parts_after (listed_shape l))) where
               here : contents_joined after pair (listed_shape l) ≡ joined contents
               here =
                   let is : shape ≡ listed_shape l = cc in

@@ -1,4 +1,4 @@
--- What a part that a member asks for tells of what is stored.
+-- What a part that a member asks for says of what is stored.
 use Rattle.std.proofs.Common.{◌≡◌, inl, inr, ℕ, Bool, List, ◌-◌, ◌≤◌, ◌<◌, true, false, cond, ◌&&◌, ◌==◌}
 use Rattle.std.proofs.Common.{refl, sym, ap, ◌∙◌, subst, Option, Some, None, option_map, is_some, length, arith}
 use Rattle.std.specs.Prelude.{nat_le, slice_index, IsSome, IfSome}
@@ -9,61 +9,63 @@ use Rattle.std.proofs.lemmas.List.{get_or_past}
 use Rattle.repo_plan.specs.declared.part.Part.{Part}
 use Rattle.repo_plan.specs.declared.shape.Shape.{Shape}
 use Rattle.sorted_lists.specs.SortedList.{contains}
-use Rattle.repo_plan.specs.Parts.{part_cmp, pair_of, part_of, parent, parent_number, parts_behind, shape_of_segments}
+use Rattle.repo_plan.specs.Parts.{part_cmp, pair_of, part_of, parent, parent_number, parts_after, shape_of_segments}
 use Rattle.repo_plan.specs.Parts.{IsShape}
 use Rattle.repo_plan.proofs.Parents.{lists_in_turn}
 use Rattle.repo_plan.specs.Plan.{PlanState, can_be_asked, is_asked, knows, shape_of}
-use Rattle.repo_object.specs.Publication.{Listed, RecordSays, shape_said}
+use Rattle.repo_object.specs.Publication.{Listed, RecordSays, shape_stated}
 use Rattle.repo_object.specs.Publication.RecordSays.{Lists, WithdrawsNumber}
 use Rattle.repo_object.specs.Records.{record_of}
-use Rattle.repo_object.specs.Verdict.{content_in, said_in, index_in}
-use Rattle.repo_object.proofs.RecordLemmas.{listing_said}
+use Rattle.repo_object.specs.Verdict.{content_in, stated_in, index_in}
+use Rattle.repo_object.proofs.RecordLemmas.{listing_stated}
 use Rattle.repo_object.specs.Wants.{listed_in}
 use Rattle.repo_holdings.specs.Records.{Packet}
-use Rattle.repo_holdings.specs.Listed.{object_said, listing_in, stored_at, said_at, listing_at, listed_shape}
+use Rattle.repo_holdings.specs.Listed.{object_stated, listing_in, stored_at, stated_at, listing_at, listed_shape}
 use Rattle.repo_holdings.specs.StoredParents.{index_at, index_count, lists_at, ListsAsMany, HasParent}
-use Rattle.repo_holdings.specs.declared.told.Told.{Told}
-use Rattle.repo_holdings.specs.Gaining.{AreTied, told_of, shape_told, told_shape}
+use Rattle.repo_holdings.specs.declared.record_summary.RecordSummary.{RecordSummary}
+use Rattle.repo_holdings.specs.Gaining.{AreTied, summary_of, summary_shape, shape_in_summary}
 use Rattle.repo_holdings.proofs.GainingLemmas.{shape_stored, shape_listed, held_value, listing_says}
 
 -- ---- what records tell
 
--- what a record tells of parts is a shape that a record may tell
-pub told_sized : (octets : List ℕ) (says : RecordSays) → said_in octets ≡ Some says → IsShape (shape_said says)
-told_sized octets (WithdrawsNumber seq) h = record { index = refl; segments = omega (arith) }
-told_sized octets (Lists l) h = go (content_in octets) h where
+-- what a record says of parts is a shape that a record may tell
+pub reported_sized : (octets : List ℕ) (says : RecordSays) → stated_in octets ≡ Some says → IsShape (shape_stated says)
+reported_sized octets (WithdrawsNumber seq) h = record { index = refl; segments = omega (arith) }
+reported_sized octets (Lists l) h = go (content_in octets) h where
   go : (o : Option (List ℕ)) → option_and_then record_of o ≡ Some (Lists l) → IsShape (listed_shape l)
   go None p = absurd cc
   go (Some content) p =
-      let is = listing_said content l p in record { index = refl; segments = omega (arith, is.few) }
+      let is = listing_stated content l p in record { index = refl; segments = omega (arith, is.few) }
 
 pub listing_sized : (o : Option (List ℕ)) (l : Listed) → option_and_then listing_in o ≡ Some l
     → IsShape (listed_shape l)
 listing_sized None l h = absurd cc
-listing_sized (Some octets) l h = told_sized octets (Lists l) (listing_says (Some octets) l h)
+listing_sized (Some octets) l h = reported_sized octets (Lists l) (listing_says (Some octets) l h)
 
--- what is told of a record that is told of so
-pub shape_sized : (octets : List ℕ) (told : Told) → option_map told_of (said_in octets) ≡ Some told
-    → IsShape (shape_told told)
-shape_sized octets told h = go (said_in octets) refl h where
-  go : (o : Option RecordSays) → said_in octets ≡ o → option_map told_of o ≡ Some told → IsShape (shape_told told)
+-- what is reported of a record that is reported of so
+pub shape_sized : (octets : List ℕ) (summary : RecordSummary) → option_map summary_of (stated_in octets) ≡ Some summary
+    → IsShape (summary_shape summary)
+shape_sized octets summary h = go (stated_in octets) refl h where
+  go : (o : Option RecordSays) → stated_in octets ≡ o → option_map summary_of o ≡ Some summary
+      → IsShape (summary_shape summary)
   go None p t = absurd cc
   go (Some (Lists l)) p t =
-      let is : told_of (Lists l) ≡ told = cc in
-      subst (λ (x : Told). IsShape (shape_told x)) is (told_sized octets (Lists l) p)
+      let is : summary_of (Lists l) ≡ summary = cc in
+      subst (λ (x : RecordSummary). IsShape (summary_shape x)) is (reported_sized octets (Lists l) p)
   go (Some (WithdrawsNumber seq)) p t =
-      let is : told_of (WithdrawsNumber seq) ≡ told = cc in
-      subst (λ (x : Told). IsShape (shape_told x)) is (told_sized octets (WithdrawsNumber seq) p)
+      let is : summary_of (WithdrawsNumber seq) ≡ summary = cc in
+      subst (λ (x : RecordSummary). IsShape (summary_shape x)) is (reported_sized octets (WithdrawsNumber seq) p)
 
 -- which parts the publication of a part has, as its packet tells
-pub told_shape_sized : (t : Part) (octets : List ℕ) → IfSome (told_shape t octets) IsShape
-told_shape_sized t octets = go (t.part == 0) where
-  sized : (o : Option Told) → option_map told_of (said_in octets) ≡ o → IfSome (option_map shape_told o) IsShape
+pub reported_shape_sized : (t : Part) (octets : List ℕ) → IfSome (shape_in_summary t octets) IsShape
+reported_shape_sized t octets = go (t.part == 0) where
+  sized : (o : Option RecordSummary) → option_map summary_of (stated_in octets) ≡ o
+      → IfSome (option_map summary_shape o) IsShape
   sized None h = tt
-  sized (Some told) h = shape_sized octets told h
+  sized (Some summary) h = shape_sized octets summary h
 
-  go : (b : Bool) → IfSome (option_map shape_told (cond b (option_map told_of (said_in octets)) None)) IsShape
-  go true = sized (option_map told_of (said_in octets)) refl
+  go : (b : Bool) → IfSome (option_map summary_shape (cond b (option_map summary_of (stated_in octets)) None)) IsShape
+  go true = sized (option_map summary_of (stated_in octets)) refl
   go false = tt
 
 -- ---- what lists a part that is asked for
@@ -71,25 +73,25 @@ told_shape_sized t octets = go (t.part == 0) where
 -- what lists a part that is asked for is stored
 pub asked_segment : (plan : PlanState) (packets : List Packet) (t : Part) → AreTied plan packets
     → is_asked plan t ≡ true → (t.part == 0) ≡ false → HasParent packets t
-asked_segment plan packets t tied asked behind = go (stored_at packets (pair_of t) 0) refl where
-  told : shape_of plan (pair_of t) ≡ option_map shape_said (said_at packets (pair_of t))
-  told = shape_stored plan packets (pair_of t) tied
+asked_segment plan packets t tied asked following = go (stored_at packets (pair_of t) 0) refl where
+  summary : shape_of plan (pair_of t) ≡ option_map shape_stated (stated_at packets (pair_of t))
+  summary = shape_stored plan packets (pair_of t) tied
 
   can : can_be_asked plan.held (shape_of plan (pair_of t)) t ≡ true
   can = (and_parts (knows plan (pair_of t)) (can_be_asked plan.held (shape_of plan (pair_of t)) t) asked).1
 
   above : 0 < t.part
-  above = omega (arith, eqb-false t.part 0 behind)
+  above = omega (arith, eqb-false t.part 0 following)
 
   -- the part is counted, and what lists it is held
   counts : (shape : Shape) → shape_of plan (pair_of t) ≡ Some shape
-      → (nat_le t.part (parts_behind shape) && contains part_cmp plan.held (parent shape t)) ≡ true
+      → (nat_le t.part (parts_after shape) && contains part_cmp plan.held (parent shape t)) ≡ true
   counts shape p =
       let some : can_be_asked plan.held (Some shape) t ≡ true =
       subst (λ (s : Option Shape). can_be_asked plan.held s t ≡ true) p can in
-      elim (or_cases (t.part == 0) (nat_le t.part (parts_behind shape) && contains part_cmp plan.held (parent shape t))
+      elim (or_cases (t.part == 0) (nat_le t.part (parts_after shape) && contains part_cmp plan.held (parent shape t))
       some) [
-        | inl zero ↦ absurd (true≢false (sym zero ∙ behind))
+        | inl zero ↦ absurd (true≢false (sym zero ∙ following))
         | inr both ↦ both
       ]
 
@@ -97,16 +99,16 @@ asked_segment plan packets t tied asked behind = go (stored_at packets (pair_of 
   of_listing l p =
       let shape : Shape = listed_shape l in
       let both = counts shape (shape_listed plan packets (pair_of t) tied l p) in
-      let two = and_parts (nat_le t.part (parts_behind shape)) (contains part_cmp plan.held (parent shape t)) both in
-      let counted : t.part ≤ parts_behind shape = leb-true t.part (parts_behind shape) two.0 in
+      let two = and_parts (nat_le t.part (parts_after shape)) (contains part_cmp plan.held (parent shape t)) both in
+      let counted : t.part ≤ parts_after shape = leb-true t.part (parts_after shape) two.0 in
       record {
-        behind = above;
+        following = above;
         listing = l;
         listed = p;
         counted = counted;
         index = λ k. index_there l p counted two.1 k;
       } where
-        index_there : (l : Listed) → listing_at packets (pair_of t) ≡ Some l → t.part ≤ parts_behind (listed_shape l)
+        index_there : (l : Listed) → listing_at packets (pair_of t) ≡ Some l → t.part ≤ parts_after (listed_shape l)
             → contains part_cmp plan.held (parent (listed_shape l) t) ≡ true
             → 0 < parent_number (listed_shape l) t.part
             → IsSome (index_at packets (pair_of t) l.segments (parent_number (listed_shape l) t.part))
@@ -137,22 +139,22 @@ asked_segment plan packets t tied asked behind = go (stored_at packets (pair_of 
   go None p =
       let none : can_be_asked plan.held None t ≡ true =
       subst (λ (s : Option Shape). can_be_asked plan.held s t ≡ true)
-      (told ∙ ap (λ (o : Option (List ℕ)). option_map shape_said (option_and_then said_in o)) p) can in
-      absurd (true≢false (sym none ∙ behind))
-  go (Some octets) p = says (said_in octets) refl where
-    says : (o : Option RecordSays) → said_in octets ≡ o → HasParent packets t
+      (summary ∙ ap (λ (o : Option (List ℕ)). option_map shape_stated (option_and_then stated_in o)) p) can in
+      absurd (true≢false (sym none ∙ following))
+  go (Some octets) p = says (stated_in octets) refl where
+    says : (o : Option RecordSays) → stated_in octets ≡ o → HasParent packets t
     says None q =
         let none : can_be_asked plan.held None t ≡ true =
         subst (λ (s : Option Shape). can_be_asked plan.held s t ≡ true)
-        (told ∙ ap (λ (o : Option (List ℕ)). option_map shape_said (option_and_then said_in o)) p
-        ∙ ap (option_map shape_said) q) can in
-        absurd (true≢false (sym none ∙ behind))
+        (summary ∙ ap (λ (o : Option (List ℕ)). option_map shape_stated (option_and_then stated_in o)) p
+        ∙ ap (option_map shape_stated) q) can in
+        absurd (true≢false (sym none ∙ following))
     says (Some (Lists l)) q =
-        of_listing l (ap (option_and_then listing_in) p ∙ ap (option_and_then object_said) q)
+        of_listing l (ap (option_and_then listing_in) p ∙ ap (option_and_then object_stated) q)
     says (Some (WithdrawsNumber seq)) q =
         let shape : shape_of plan (pair_of t) ≡ Some (shape_of_segments 0) =
-        told ∙ ap (λ (o : Option (List ℕ)). option_map shape_said (option_and_then said_in o)) p
-        ∙ ap (option_map shape_said) q in
+        summary ∙ ap (λ (o : Option (List ℕ)). option_map shape_stated (option_and_then stated_in o)) p
+        ∙ ap (option_map shape_stated) q in
         let counted : t.part ≤ 0 =
         leb-true t.part 0
         (and_parts (nat_le t.part 0) (contains part_cmp plan.held (parent (shape_of_segments 0) t))

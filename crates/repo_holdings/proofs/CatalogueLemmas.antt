@@ -11,20 +11,20 @@ use Rattle.std.specs.declared.cmp.Ordering.TheVariants.{Less, Equal, Greater}
 use Rattle.sha2.specs.Sha256.{sha256}
 use Rattle.sorted_lists.specs.SortedList.{by_order, keys, Rises, value_of, with_value}
 use Rattle.sorted_lists.specs.Range.{numbers_from}
-use Rattle.repo_plan.specs.Parts.{Pair, pair_cmp, part_cmp, parts_behind}
+use Rattle.repo_plan.specs.Parts.{Pair, pair_cmp, part_cmp, parts_after}
 use Rattle.repo_plan.proofs.Orders.{exact_pairs}
 use Rattle.sorted_lists.proofs.Sets.{eq_same, eq_itself, rises_with_value, value_of-with_value, rises_keys_filter}
 use Rattle.sorted_lists.proofs.Sets.{value_of-filter, eq_turned}
-use Rattle.repo_object.specs.Publication.{Listed, shape_said}
-use Rattle.repo_object.specs.Verdict.{said_in}
+use Rattle.repo_object.specs.Publication.{Listed, shape_stated}
+use Rattle.repo_object.specs.Verdict.{stated_in}
 use Rattle.repo_catalog.specs.declared.entry.Entry.{Entry}
 use Rattle.repo_catalog.specs.Entries.{publication_of, entry_of, with_entry, without, IsCatalogue}
 use Rattle.repo_holdings.specs.KeptValues.{with_kept, kept_values}
 use Rattle.repo_holdings.specs.Records.{Packet, records_in}
-use Rattle.repo_holdings.specs.Listed.{listing_in, listing_at, stored_at, said_at, listed_shape, shapes_in}
+use Rattle.repo_holdings.specs.Listed.{listing_in, listing_at, stored_at, stated_at, listed_shape, shapes_in}
 use Rattle.repo_object.specs.Packets.{packet_content}
 use Rattle.repo_holdings.specs.Listed.{entry_listed, are_stored, entry_of_listing, whole_at, entry_at}
-use Rattle.repo_holdings.specs.Listed.{is_withdrawn, entries_in, alone_catalogue}
+use Rattle.repo_holdings.specs.Listed.{is_withdrawn, entries_in, member_catalogue}
 use Rattle.repo_holdings.specs.Gaining.{with_listed}
 use Rattle.repo_holdings.proofs.SortedMaps.{same_map, rises_kept, value_of-kept}
 use Rattle.repo_holdings.proofs.RecordLemmas.{rises_records, value_of-records}
@@ -44,18 +44,18 @@ and_then_twice : {A B C : Type 0} (f : A → Option B) (g : B → Option C) (o :
 and_then_twice f g None = refl
 and_then_twice f g (Some x) = refl
 
--- what a plan is told of a publication
+-- what a plan is given of a publication
 pub shapes_value : (packets : List Packet) (pair : Pair) → Rises part_cmp (keys packets)
-    → value_of pair_cmp (shapes_in packets) pair ≡ option_map shape_said (said_at packets pair)
+    → value_of pair_cmp (shapes_in packets) pair ≡ option_map shape_stated (stated_at packets pair)
 shapes_value packets pair r =
-    value_of-kept exact_pairs (λ q octets. option_map shape_said (said_in octets)) (records_in packets) pair
+    value_of-kept exact_pairs (λ q octets. option_map shape_stated (stated_in octets)) (records_in packets) pair
     (rises_records packets r)
-    ∙ ap (option_and_then (λ octets. option_map shape_said (said_in octets))) (value_of-records packets pair)
-    ∙ and_then_map said_in shape_said (stored_at packets pair 0)
+    ∙ ap (option_and_then (λ octets. option_map shape_stated (stated_in octets))) (value_of-records packets pair)
+    ∙ and_then_map stated_in shape_stated (stored_at packets pair 0)
 
 pub shapes_rise : (packets : List Packet) → Rises part_cmp (keys packets) → Rises pair_cmp (keys (shapes_in packets))
 shapes_rise packets r =
-    rises_kept exact_pairs (λ q octets. option_map shape_said (said_in octets)) (records_in packets)
+    rises_kept exact_pairs (λ q octets. option_map shape_stated (stated_in octets)) (records_in packets)
     (rises_records packets r)
 
 abbrev listed_entry : List Packet → Pair → List ℕ → Option Entry
@@ -102,7 +102,7 @@ none_is_some e h = cc
 entry_keyed : (packets : List Packet) (pair : Pair) (l : Listed) (e : Entry) → entry_listed packets pair l ≡ Some e
     → publication_of e ≡ pair
 entry_keyed packets pair l e h =
-    go (are_stored packets pair (parts_behind (listed_shape l))) h where
+    go (are_stored packets pair (parts_after (listed_shape l))) h where
       go : (b : Bool) → cond b (Some (entry_of_listing packets pair l)) None ≡ Some e → publication_of e ≡ pair
       go true p = let same : entry_of_listing packets pair l ≡ e = cc in ap publication_of (sym same)
       go false p = absurd (none_is_some e p)
@@ -161,7 +161,7 @@ find_keyed pair (x ∷ es) k =
 
 -- the catalogue has the entry of a publication, if that has one
 pub entry_of_alone : (packets : List Packet) (pair : Pair) → Rises part_cmp (keys packets)
-    → entry_of pair (alone_catalogue packets) ≡ entry_at packets pair
+    → entry_of pair (member_catalogue packets) ≡ entry_at packets pair
 entry_of_alone packets pair r =
     find_keyed pair (entries_in packets) (entries_keyed packets) ∙ entries_value packets pair r
 
@@ -171,7 +171,7 @@ publications_keyed (x ∷ es) k =
     ap (λ (q : Pair). q ∷ map publication_of (map (λ y. y.1) es)) k.0
     ∙ ap (λ (rest : List Pair). x.0 ∷ rest) (publications_keyed es k.1)
 
-pub alone_in_order : (packets : List Packet) → Rises part_cmp (keys packets) → IsCatalogue (alone_catalogue packets)
+pub alone_in_order : (packets : List Packet) → Rises part_cmp (keys packets) → IsCatalogue (member_catalogue packets)
 alone_in_order packets r =
     subst (Rises pair_cmp) (sym (publications_keyed (entries_in packets) (entries_keyed packets)))
     (entries_rise packets r)
@@ -222,7 +222,7 @@ without_keyed pair (x ∷ es) k =
 
 abbrev stored_entry : (ℕ → Option (List ℕ)) → Pair → Listed → Option Entry
 stored_entry at pair l =
-    cond (list_all (λ x. is_some (at x)) (numbers_from 1 (parts_behind (listed_shape l))))
+    cond (list_all (λ x. is_some (at x)) (numbers_from 1 (parts_after (listed_shape l))))
     (Some
     (let joined =
     flat_map (λ x. packet_content (unwrap_or (at x) []))
@@ -271,7 +271,7 @@ module _ (old new : List Packet) (pair : Pair) (old_order : Rises part_cmp (keys
             entries_value new q new_order ∙ others q p ∙ sym (entries_value old q old_order) ∙ sym (there q p)
 
   -- it has none any more
-  pub unlisted : entry_at new pair ≡ None → alone_catalogue new ≡ without pair (alone_catalogue old)
+  pub unlisted : entry_at new pair ≡ None → member_catalogue new ≡ without pair (member_catalogue old)
   unlisted none =
       ap (map (λ x. x.1))
       (same_entries (filter (λ e. not (eq_by_cmp pair_cmp pair e.0)) (entries_in old))
@@ -305,9 +305,9 @@ module _ (old new : List Packet) (pair : Pair) (old_order : Rises part_cmp (keys
         ∙ ap (λ (b : Bool). cond b (Some e) (value_of pair_cmp (entries_in old) pair)) (eq_itself exact_pairs pair)
         ∙ sym some)
 
-    pub relisted : alone_catalogue new ≡ with_listed (entry_at new pair) (alone_catalogue old)
+    pub relisted : member_catalogue new ≡ with_listed (entry_at new pair) (member_catalogue old)
     relisted = go (entry_at new pair) refl where
-      go : (o : Option Entry) → entry_at new pair ≡ o → alone_catalogue new ≡ with_listed o (alone_catalogue old)
+      go : (o : Option Entry) → entry_at new pair ≡ o → member_catalogue new ≡ with_listed o (member_catalogue old)
       go None p = ap (map (λ x. x.1)) (none_more p)
       go (Some e) p =
           let is = entry_is_of new pair e p in

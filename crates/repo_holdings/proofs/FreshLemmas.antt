@@ -1,4 +1,4 @@
--- Entries that wait to be put among the others or to be removed, and digests that are told before an entry is made.
+-- Entries that wait to be put among the others or to be removed, and digests that are reported before an entry is made.
 use Rattle.std.proofs.Common.{◌≡◌, ℕ, ◌+◌, ◌≤◌, Bool, true, false, cond, not, ◌&&◌, ◌||◌, List, [], ◌∷◌, ◌++◌, length}
 use Rattle.std.proofs.Common.{refl}
 use Rattle.std.proofs.Common.{sym, ap, ◌∙◌, subst, Option, Some, None, is_some, unwrap_or, zero, suc, arith}
@@ -15,7 +15,7 @@ use Rattle.sorted_lists.specs.Range.{numbers_from}
 use Rattle.sorted_lists.proofs.Sets.{eq_same, eq_itself, value_of-with_value, contains_append}
 use Rattle.repo_plan.specs.declared.part.Part.{Part}
 use Rattle.repo_plan.specs.declared.shape.Shape.{Shape}
-use Rattle.repo_plan.specs.Parts.{Pair, pair_cmp, part_cmp, pair_of, part_of, parts_behind}
+use Rattle.repo_plan.specs.Parts.{Pair, pair_cmp, part_cmp, pair_of, part_of, parts_after}
 use Rattle.repo_plan.specs.Plan.{PlanState, holds, is_asked}
 use Rattle.repo_plan.proofs.Orders.{exact_pairs, exact_parts}
 use Rattle.repo_object.specs.Publication.{Listed}
@@ -29,12 +29,12 @@ use Rattle.repo_catalog.proofs.ManyLemmas.{adds_all, apart_more, with_entries_ri
 use Rattle.repo_object.specs.Packets.{packet_content}
 use Rattle.repo_holdings.specs.declared.changes.Change.{Change}
 use Rattle.repo_holdings.specs.declared.changes.Change.TheVariants.{Nothing, Lists, Removes}
-use Rattle.repo_holdings.specs.declared.told.Told.{Told}
-use Rattle.repo_holdings.specs.declared.told.Told.TheVariants.{Object, Withdrawal}
+use Rattle.repo_holdings.specs.declared.record_summary.RecordSummary.{RecordSummary}
+use Rattle.repo_holdings.specs.declared.record_summary.RecordSummary.TheVariants.{Object, Withdrawal}
 use Rattle.repo_holdings.specs.Records.{Packet}
 use Rattle.repo_holdings.specs.Listed.{stored_at, listing_in, listed_shape, stored_content, are_stored}
 use Rattle.repo_holdings.specs.Listed.{entry_of_listing, entry_listed, whole_at, is_withdrawn, entry_at}
-use Rattle.repo_holdings.specs.Listed.{alone_catalogue}
+use Rattle.repo_holdings.specs.Listed.{member_catalogue}
 use Rattle.repo_holdings.specs.declared.contents.ContentsDigest.{ContentsDigest}
 use Rattle.repo_holdings.specs.Contents.{IsToldBy, IsDigestIn}
 use Rattle.repo_holdings.specs.Noted.{NotesState, AreNotes}
@@ -78,12 +78,12 @@ listed_more : (fresh entries : List Entry) (gone : List Pair) (packets after : L
     → AreListedWith fresh gone entries packets → Rises part_cmp (keys packets) → Rises part_cmp (keys after)
     → contains pair_cmp gone (publication_of e) ≡ false
     → ((q : Pair) → contains pair_cmp gone q ≡ true → is_withdrawn after q ≡ true)
-    → entry_at packets (publication_of e) ≡ None → alone_catalogue after ≡ with_entry e (alone_catalogue packets)
+    → entry_at packets (publication_of e) ≡ None → member_catalogue after ≡ with_entry e (member_catalogue packets)
     → AreListedWith (fresh ++ e ∷ []) gone entries after
 listed_more fresh entries gone packets after e is r later stays withdrawn none more = record {
   listed =
       ap (without_all gone) (with_entries-push fresh e entries)
-      ∙ entries_tell_all (without_all gone (with_entry e whole)) (alone_catalogue after)
+      ∙ entries_tell_all (without_all gone (with_entry e whole)) (member_catalogue after)
       (without_all_rises gone (with_entry e whole) (with_entry_rises e whole order)) (alone_in_order after later)
       each;
   withdrawn = withdrawn;
@@ -99,14 +99,14 @@ listed_more fresh entries gone packets after e is r later stays withdrawn none m
   order : IsCatalogue whole
   order = with_entries_rises fresh entries is.in_order
 
-  each : (k : Pair) → entry_of k (without_all gone (with_entry e whole)) ≡ entry_of k (alone_catalogue after)
+  each : (k : Pair) → entry_of k (without_all gone (with_entry e whole)) ≡ entry_of k (member_catalogue after)
   each k =
       removes_all gone (with_entry e whole) k
       ∙ ap (cond (contains pair_cmp gone k) None) (adds_one e whole k order)
       ∙ go (is_of k e) refl (contains pair_cmp gone k) refl
       ∙ ap (λ (o : Option Entry). cond (is_of k e && not (is_some o)) (Some e) o)
       (sym (removes_all gone whole k) ∙ ap (entry_of k) is.listed)
-      ∙ sym (adds_one e (alone_catalogue packets) k (alone_in_order packets r))
+      ∙ sym (adds_one e (member_catalogue packets) k (alone_in_order packets r))
       ∙ ap (entry_of k) (sym more) where
         go : (b : Bool) → is_of k e ≡ b → (c : Bool) → contains pair_cmp gone k ≡ c
             → cond c None (cond (b && not (is_some (entry_of k whole))) (Some e) (entry_of k whole))
@@ -154,11 +154,11 @@ listed_less : (fresh entries : List Entry) (gone : List Pair) (packets after : L
     → AreListedWith fresh gone entries packets → Rises part_cmp (keys packets) → Rises part_cmp (keys after)
     → contains pair_cmp gone w ≡ false → is_withdrawn after w ≡ true
     → ((q : Pair) → contains pair_cmp gone q ≡ true → is_withdrawn after q ≡ true)
-    → alone_catalogue after ≡ without w (alone_catalogue packets)
+    → member_catalogue after ≡ without w (member_catalogue packets)
     → AreListedWith fresh (gone ++ w ∷ []) entries after
 listed_less fresh entries gone packets after w is r later absent now withdrawn less = record {
   listed =
-      entries_tell_all (without_all (gone ++ w ∷ []) whole) (alone_catalogue after)
+      entries_tell_all (without_all (gone ++ w ∷ []) whole) (member_catalogue after)
       (without_all_rises (gone ++ w ∷ []) whole (with_entries_rises fresh entries is.in_order))
       (alone_in_order after later) each;
   withdrawn = λ q h. among q (sym (contains_append pair_cmp gone (w ∷ []) q) ∙ h);
@@ -177,13 +177,13 @@ listed_less fresh entries gone packets after w is r later absent now withdrawn l
     go false p true e h = ap (is_withdrawn after) (eq_same exact_pairs q w e) ∙ now
     go false p false e h = absurd (true≢false (sym h))
 
-  each : (k : Pair) → entry_of k (without_all (gone ++ w ∷ []) whole) ≡ entry_of k (alone_catalogue after)
+  each : (k : Pair) → entry_of k (without_all (gone ++ w ∷ []) whole) ≡ entry_of k (member_catalogue after)
   each k =
       removes_all (gone ++ w ∷ []) whole k
       ∙ ap (λ (b : Bool). cond b None (entry_of k whole)) (contains_append pair_cmp gone (w ∷ []) k)
       ∙ go (contains pair_cmp gone k) (eq_by_cmp pair_cmp k w)
       ∙ ap (cond (eq_by_cmp pair_cmp k w) None) (sym (removes_all gone whole k) ∙ ap (entry_of k) is.listed)
-      ∙ sym (removes_one w (alone_catalogue packets) k)
+      ∙ sym (removes_one w (member_catalogue packets) k)
       ∙ ap (entry_of k) (sym less) where
         go : (b c : Bool)
             → cond (b || (c || false)) None (entry_of k whole) ≡ cond c None (cond b None (entry_of k whole))
@@ -204,24 +204,25 @@ gone_with gone (Lists e) = gone
 gone_with gone (Removes publisher seq) = gone ++ (publisher, seq) ∷ []
 
 -- the change that a publication's packets make, which had no entry
-module _ (packets after : List Packet) (pair : Pair) (notes : NotesState) (told : Option Told) (change : Change)
+module _ (packets after : List Packet) (pair : Pair) (notes : NotesState) (summary : Option RecordSummary)
+    (change : Change)
     (fresh entries : List Entry) (gone : List Pair) (r : Rises part_cmp (keys packets))
     (later : Rises part_cmp (keys after)) (before : whole_at packets pair ≡ None)
     (noted : (q : Pair) → contains pair_cmp notes.withdrawn q ≡ is_withdrawn packets q)
-    (now : (q : Pair) → (withdraws_too pair told q || contains pair_cmp notes.withdrawn q) ≡ is_withdrawn after q)
-    (made : change ≡ change_by notes.withdrawn pair told (entry_at after pair))
-    (listed : alone_catalogue after ≡ changed change (alone_catalogue packets))
+    (now : (q : Pair) → (withdraws_too pair summary q || contains pair_cmp notes.withdrawn q) ≡ is_withdrawn after q)
+    (made : change ≡ change_by notes.withdrawn pair summary (entry_at after pair))
+    (listed : member_catalogue after ≡ changed change (member_catalogue packets))
     (is : AreListedWith fresh gone entries packets) where
   -- what is withdrawn stays so
   withdrawn_still : (q : Pair) → contains pair_cmp gone q ≡ true → is_withdrawn after q ≡ true
   withdrawn_still q h =
-      sym (now q) ∙ or_right (withdraws_too pair told q) _ (noted q ∙ is.withdrawn q h)
+      sym (now q) ∙ or_right (withdraws_too pair summary q) _ (noted q ∙ is.withdrawn q h)
 
   -- what is removed was not withdrawn before, and is now
   removed_now : (publisher seq : ℕ) → change ≡ Removes publisher seq
       → (contains pair_cmp notes.withdrawn (publisher, seq) ≡ false)
-      × (withdraws_too pair told (publisher, seq) ≡ true)
-  removed_now publisher seq h = go told (sym made ∙ h) where
+      × (withdraws_too pair summary (publisher, seq) ≡ true)
+  removed_now publisher seq h = go summary (sym made ∙ h) where
     none_listed : (o : Option Entry) → lists_entry o ≡ Removes publisher seq → ⊥
     none_listed None h = cc
     none_listed (Some e) h = cc
@@ -239,7 +240,7 @@ module _ (packets after : List Packet) (pair : Pair) (notes : NotesState) (told 
           ap (eq_by_cmp pair_cmp (publisher, seq)) same ∙ eq_itself exact_pairs (publisher, seq),
         )
 
-    go : (o : Option Told) → change_by notes.withdrawn pair o (entry_at after pair) ≡ Removes publisher seq
+    go : (o : Option RecordSummary) → change_by notes.withdrawn pair o (entry_at after pair) ≡ Removes publisher seq
         → (contains pair_cmp notes.withdrawn (publisher, seq) ≡ false) × (withdraws_too pair o (publisher, seq) ≡ true)
     go None h = absurd (none_listed (entry_at after pair) h)
     go (Some (Object shape name)) h = absurd (none_listed (entry_at after pair) h)
@@ -247,7 +248,7 @@ module _ (packets after : List Packet) (pair : Pair) (notes : NotesState) (told 
 
   -- an entry that is listed is that of the publication
   listed_now : (e : Entry) → change ≡ Lists e → entry_at after pair ≡ Some e
-  listed_now e h = go told (sym made ∙ h) where
+  listed_now e h = go summary (sym made ∙ h) where
     some_listed : (o : Option Entry) → lists_entry o ≡ Lists e → o ≡ Some e
     some_listed None h = absurd cc
     some_listed (Some x) h =
@@ -258,7 +259,7 @@ module _ (packets after : List Packet) (pair : Pair) (notes : NotesState) (told 
     at n true h = absurd cc
     at n false h = absurd cc
 
-    go : (o : Option Told) → change_by notes.withdrawn pair o (entry_at after pair) ≡ Lists e
+    go : (o : Option RecordSummary) → change_by notes.withdrawn pair o (entry_at after pair) ≡ Lists e
         → entry_at after pair ≡ Some e
     go None h = some_listed (entry_at after pair) h
     go (Some (Object shape name)) h = some_listed (entry_at after pair) h
@@ -272,7 +273,7 @@ module _ (packets after : List Packet) (pair : Pair) (notes : NotesState) (told 
 
   pub listed_changed : (c : Change) → change ≡ c → AreListedWith (fresh_with fresh c) (gone_with gone c) entries after
   listed_changed Nothing h = record {
-    listed = is.listed ∙ sym (listed ∙ ap (λ (x : Change). changed x (alone_catalogue packets)) h);
+    listed = is.listed ∙ sym (listed ∙ ap (λ (x : Change). changed x (member_catalogue packets)) h);
     withdrawn = withdrawn_still;
     apart = is.apart;
     apart_gone = is.apart_gone;
@@ -282,34 +283,36 @@ module _ (packets after : List Packet) (pair : Pair) (notes : NotesState) (told 
       let there = listed_now e h in
       let same : publication_of e ≡ pair = entry_is_of after pair e there in
       let free : is_withdrawn packets pair ≡ false =
-      sym (noted pair) ∙ (or_parts (withdraws_too pair told pair) (contains pair_cmp notes.withdrawn pair)
+      sym (noted pair) ∙ (or_parts (withdraws_too pair summary pair) (contains pair_cmp notes.withdrawn pair)
       (now pair ∙ entry_not_withdrawn after pair e there)).1 in
       listed_more fresh entries gone packets after e is r later
       (ap (contains pair_cmp gone) same ∙ not_gone pair free)
       withdrawn_still (ap (entry_at packets) same ∙ entry_of_none packets pair before)
-      (listed ∙ ap (λ (x : Change). changed x (alone_catalogue packets)) h)
+      (listed ∙ ap (λ (x : Change). changed x (member_catalogue packets)) h)
   listed_changed (Removes publisher seq) h =
       let both = removed_now publisher seq h in
       listed_less fresh entries gone packets after (publisher, seq) is r later
       (not_gone (publisher, seq) (sym (noted (publisher, seq)) ∙ both.0))
-      (sym (now (publisher, seq)) ∙ or_left (withdraws_too pair told (publisher, seq)) _ both.1)
-      withdrawn_still (listed ∙ ap (λ (x : Change). changed x (alone_catalogue packets)) h)
+      (sym (now (publisher, seq)) ∙ or_left (withdraws_too pair summary (publisher, seq)) _ both.1)
+      withdrawn_still (listed ∙ ap (λ (x : Change). changed x (member_catalogue packets)) h)
 
 -- after a part has come
 pub gained_waits : (plan : PlanState) (packets after : List Packet) (notes : NotesState) (t : Part) (octets : List ℕ)
-    (told : Option Told) (change : Change) (fresh entries : List Entry) (gone : List Pair) → AreTied plan packets
-    → AreNotes notes packets → IsArrival packets t octets told → is_asked plan t ≡ true → holds plan t ≡ false
+    (summary : Option RecordSummary) (change : Change) (fresh entries : List Entry) (gone : List Pair)
+    → AreTied plan packets
+    → AreNotes notes packets → IsArrival packets t octets summary → is_asked plan t ≡ true → holds plan t ≡ false
     → after ≡ with_packet t octets packets
-    → change ≡ change_by notes.withdrawn (pair_of t) told (entry_at after (pair_of t))
-    → alone_catalogue after ≡ changed change (alone_catalogue packets)
+    → change ≡ change_by notes.withdrawn (pair_of t) summary (entry_at after (pair_of t))
+    → member_catalogue after ≡ changed change (member_catalogue packets)
     → (c : Change) → change ≡ c → AreListedWith fresh gone entries packets
     → AreListedWith (fresh_with fresh c) (gone_with gone c) entries after
-gained_waits plan packets after notes t octets told change fresh entries gone tied noted arrival asked missing puts made
+gained_waits plan packets after notes t octets summary change fresh entries gone tied noted arrival asked missing puts
+    made
     listed c is_change is =
-    listed_changed packets after (pair_of t) notes told change fresh entries gone tied.in_order
-    (rises_now plan packets after notes t octets told tied noted arrival asked missing puts)
-    (before_now plan packets after notes t octets told tied noted arrival asked missing puts) noted.withdrawn
-    (withdrawn_now plan packets after notes t octets told tied noted arrival asked missing puts) made listed is c
+    listed_changed packets after (pair_of t) notes summary change fresh entries gone tied.in_order
+    (rises_now plan packets after notes t octets summary tied noted arrival asked missing puts)
+    (before_now plan packets after notes t octets summary tied noted arrival asked missing puts) noted.withdrawn
+    (withdrawn_now plan packets after notes t octets summary tied noted arrival asked missing puts) made listed is c
     is_change
 
 -- ---- what is stored stays
@@ -343,9 +346,9 @@ fetched_stays (x ∷ xs) packets q o there =
       one (Some octets) = put_stays packets x.part octets q o there
 
 -- what holds of so many numbers holds of the last of them
-numbers_behind : (p : ℕ → Bool) (i n : ℕ) → list_all p (numbers_from 1 (i + n)) ≡ true
+numbers_after : (p : ℕ → Bool) (i n : ℕ) → list_all p (numbers_from 1 (i + n)) ≡ true
     → list_all p (numbers_from (i + 1) n) ≡ true
-numbers_behind p i n h =
+numbers_after p i n h =
     later i 1 h where
       later : (i first : ℕ) → list_all p (numbers_from first (i + n)) ≡ true
           → list_all p (numbers_from (i + first) n) ≡ true
@@ -397,16 +400,16 @@ module _ (packets after : List Packet) (pair : Pair) (e : Entry) (stays : StaySt
     digest = sha256 joined;
   }
 
-  -- the segments are among the parts behind the record
-  segments_stored : (shape : Shape) → are_stored packets pair (parts_behind shape) ≡ true
+  -- the segments are among the parts after the record
+  segments_stored : (shape : Shape) → are_stored packets pair (parts_after shape) ≡ true
       → list_all (λ x. is_some (stored_at packets pair x)) (numbers_from (shape.index + 1) shape.segments) ≡ true
-  segments_stored shape h = numbers_behind (λ x. is_some (stored_at packets pair x)) shape.index shape.segments h
+  segments_stored shape h = numbers_after (λ x. is_some (stored_at packets pair x)) shape.index shape.segments h
 
-  of_listing : (l : Listed) (b : Bool) → are_stored packets pair (parts_behind (listed_shape l)) ≡ b
+  of_listing : (l : Listed) (b : Bool) → are_stored packets pair (parts_after (listed_shape l)) ≡ b
       → cond b (Some (entry_of_listing packets pair l)) None ≡ Some e → entry_listed after pair l ≡ Some e
   of_listing l false p h = absurd (none_is_some e h)
   of_listing l true p h =
-      let all = all_stay (numbers_from 1 (parts_behind (listed_shape l))) p in
+      let all = all_stay (numbers_from 1 (parts_after (listed_shape l))) p in
       let both =
       all_stay (numbers_from ((listed_shape l).index + 1) (listed_shape l).segments)
       (segments_stored (listed_shape l) p) in
@@ -417,7 +420,7 @@ module _ (packets after : List Packet) (pair : Pair) (e : Entry) (stays : StaySt
   at_listing : (o : Option Listed) → option_and_then (entry_listed packets pair) o ≡ Some e
       → option_and_then (entry_listed after pair) o ≡ Some e
   at_listing None h = absurd (none_is_some e h)
-  at_listing (Some l) h = of_listing l (are_stored packets pair (parts_behind (listed_shape l))) refl h
+  at_listing (Some l) h = of_listing l (are_stored packets pair (parts_after (listed_shape l))) refl h
 
   at_record : (o : Option (List ℕ)) → stored_at packets pair 0 ≡ o
       → option_and_then (entry_listed packets pair) (option_and_then listing_in o) ≡ Some e
@@ -435,12 +438,12 @@ module _ (packets after : List Packet) (pair : Pair) (e : Entry) (stays : StaySt
 
 digest_sooner : (packets after : List Packet) (d : ContentsDigest) → StayStored packets after → IsDigestIn after d
     → IsDigestIn packets d
-digest_sooner packets after d stays told = go (whole_at packets (d.publisher, d.seq)) refl where
+digest_sooner packets after d stays summary = go (whole_at packets (d.publisher, d.seq)) refl where
   go : (o : Option Entry) → whole_at packets (d.publisher, d.seq) ≡ o → IfSome o (IsToldBy d)
   go None p = tt
   go (Some e) p =
       subst (λ (o : Option Entry). IfSome o (IsToldBy d))
-      (whole_stays packets after (d.publisher, d.seq) e stays p) told
+      (whole_stays packets after (d.publisher, d.seq) e stays p) summary
 
 -- what is true of all that will be stored is true before
 pub digests_sooner : (packets after : List Packet) (ds : List ContentsDigest) → StayStored packets after

@@ -9,20 +9,20 @@ use Rattle.repo_plan.specs.declared.part.Part.{Part}
 use Rattle.sorted_lists.specs.SortedList.{keys, Rises, contains, value_of, with_value, insert_key}
 use Rattle.sorted_lists.specs.Range.{numbers_from}
 use Rattle.repo_plan.specs.declared.shape.Shape.{Shape}
-use Rattle.repo_plan.specs.Parts.{Pair, pair_cmp, part_cmp, pair_of, part_of, parts_of, parts_told, parts_behind}
+use Rattle.repo_plan.specs.Parts.{Pair, pair_cmp, part_cmp, pair_of, part_of, parts_of, parts_reported, parts_after}
 use Rattle.repo_plan.specs.Plan.{PlanState, holds, holds_too, uses_room, with_shape, shape_of, is_complete, is_asked}
 use Rattle.repo_plan.specs.Plan.{can_be_asked, knows}
 use Rattle.repo_plan.proofs.Orders.{exact_pairs, exact_parts}
 use Rattle.sorted_lists.proofs.Sets.{eq_same, eq_itself, keys-with_value, rises_with_value, value_of-with_value}
-use Rattle.repo_object.specs.Publication.{Listed, RecordSays, shape_said}
+use Rattle.repo_object.specs.Publication.{Listed, RecordSays, shape_stated}
 use Rattle.repo_object.specs.Publication.RecordSays.{Lists, WithdrawsNumber}
-use Rattle.repo_object.specs.Verdict.{said_in}
+use Rattle.repo_object.specs.Verdict.{stated_in}
 use Rattle.repo_store.specs.StoreList.{with_packet}
 use Rattle.repo_holdings.specs.Records.{Packet}
-use Rattle.repo_holdings.specs.Listed.{object_said, listing_in, listing_at, stored_at, said_at, listed_shape}
+use Rattle.repo_holdings.specs.Listed.{object_stated, listing_in, listing_at, stored_at, stated_at, listed_shape}
 use Rattle.repo_holdings.specs.Listed.{shapes_in, are_stored, whole_at, entry_listed}
 use Rattle.repo_holdings.specs.StoredParents.{index_count, lists_at, ListsAsMany}
-use Rattle.repo_holdings.specs.Gaining.{AreTied, KeepsOthers, told_of, shape_told, told_shape}
+use Rattle.repo_holdings.specs.Gaining.{AreTied, KeepsOthers, summary_of, summary_shape, shape_in_summary}
 use Rattle.repo_holdings.proofs.SortedMaps.{same_map}
 use Rattle.repo_holdings.proofs.CatalogueLemmas.{shapes_value, shapes_rise}
 
@@ -93,9 +93,9 @@ module _ (packets : List Packet) (t : Part) (octets : List ℕ)
               ap (λ (n : ℕ). n == 0) zero ∙ p
           other false h = refl
 
-  pub said_put : said_at (with_packet t octets packets) (pair_of t)
-      ≡ option_and_then said_in (cond (t.part == 0) (Some octets) (stored_at packets (pair_of t) 0))
-  said_put = ap (option_and_then said_in) record_put
+  pub stated_put : stated_at (with_packet t octets packets) (pair_of t)
+      ≡ option_and_then stated_in (cond (t.part == 0) (Some octets) (stored_at packets (pair_of t) 0))
+  stated_put = ap (option_and_then stated_in) record_put
 
   -- what stays where it is no record
   pub record_stays : (t.part == 0) ≡ false
@@ -104,18 +104,19 @@ module _ (packets : List Packet) (t : Part) (octets : List ℕ)
 
 -- ---- what is told
 
-told_said : (o : Option RecordSays) → option_map shape_told (option_map told_of o) ≡ option_map shape_said o
-told_said None = refl
-told_said (Some (Lists l)) = refl
-told_said (Some (WithdrawsNumber seq)) = refl
+reported_stated : (o : Option RecordSays) → option_map summary_shape (option_map summary_of o)
+    ≡ option_map shape_stated o
+reported_stated None = refl
+reported_stated (Some (Lists l)) = refl
+reported_stated (Some (WithdrawsNumber seq)) = refl
 
-pub told_shape_is : (t : Part) (octets : List ℕ)
-    → told_shape t octets ≡ cond (t.part == 0) (option_map shape_said (said_in octets)) None
-told_shape_is t octets = go (t.part == 0) where
+pub reported_shape_is : (t : Part) (octets : List ℕ)
+    → shape_in_summary t octets ≡ cond (t.part == 0) (option_map shape_stated (stated_in octets)) None
+reported_shape_is t octets = go (t.part == 0) where
   go : (b : Bool)
-      → option_map shape_told (cond b (option_map told_of (said_in octets)) None)
-      ≡ cond b (option_map shape_said (said_in octets)) None
-  go true = told_said (said_in octets)
+      → option_map summary_shape (cond b (option_map summary_of (stated_in octets)) None)
+      ≡ cond b (option_map shape_stated (stated_in octets)) None
+  go true = reported_stated (stated_in octets)
   go false = refl
 
 some_mapped : {A B : Type 0} (f : A → B) (o : Option A) → is_some (option_map f o) ≡ is_some o
@@ -147,12 +148,12 @@ module _ (plan : PlanState) (packets : List Packet) (t : Part) (octets : List �
       ∙ sym (keys-with_value exact_parts t octets packets)
       ∙ ap keys (sym (put_there packets t octets absent))
 
-  shapes_same : (is_some shape ≡ (t.part == 0)) → shape ≡ told_shape t octets
+  shapes_same : (is_some shape ≡ (t.part == 0)) → shape ≡ shape_in_summary t octets
       → with_shape (pair_of t) shape plan.shapes ≡ shapes_in (with_packet t octets packets)
-  shapes_same is_record told =
+  shapes_same is_record summary =
       same_map exact_pairs (with_shape (pair_of t) shape plan.shapes) (shapes_in (with_packet t octets packets))
       (order shape) (shapes_rise (with_packet t octets packets) rises)
-      (λ q. at q shape (t.part == 0) refl (told ∙ told_shape_is t octets) is_record) where
+      (λ q. at q shape (t.part == 0) refl (summary ∙ reported_shape_is t octets) is_record) where
         before : Rises pair_cmp (keys plan.shapes)
         before =
             subst (λ (es : List (Pair × Shape)). Rises pair_cmp (keys es)) (sym tied.shapes)
@@ -162,38 +163,38 @@ module _ (plan : PlanState) (packets : List Packet) (t : Part) (octets : List �
         order None = before
         order (Some n) = rises_with_value exact_pairs (pair_of t) n plan.shapes before
 
-        old_value : (q : Pair) → value_of pair_cmp plan.shapes q ≡ option_map shape_said (said_at packets q)
+        old_value : (q : Pair) → value_of pair_cmp plan.shapes q ≡ option_map shape_stated (stated_at packets q)
         old_value q =
             ap (λ (es : List (Pair × Shape)). value_of pair_cmp es q) tied.shapes ∙ shapes_value packets q tied.in_order
 
         new_value : (q : Pair)
             → value_of pair_cmp (shapes_in (with_packet t octets packets)) q
-            ≡ option_map shape_said (said_at (with_packet t octets packets) q)
+            ≡ option_map shape_stated (stated_at (with_packet t octets packets) q)
         new_value q = shapes_value (with_packet t octets packets) q rises
 
         other : (q : Pair) → eq_by_cmp pair_cmp q (pair_of t) ≡ false
-            → said_at (with_packet t octets packets) q ≡ said_at packets q
-        other q p = ap (option_and_then said_in) (other_pairs packets t octets absent q p 0)
+            → stated_at (with_packet t octets packets) q ≡ stated_at packets q
+        other q p = ap (option_and_then stated_in) (other_pairs packets t octets absent q p 0)
 
         at : (q : Pair) (s : Option Shape) (b : Bool) → (t.part == 0) ≡ b
-            → s ≡ cond b (option_map shape_said (said_in octets)) None → is_some s ≡ b
+            → s ≡ cond b (option_map shape_stated (stated_in octets)) None → is_some s ≡ b
             → value_of pair_cmp (with_shape (pair_of t) s plan.shapes) q
             ≡ value_of pair_cmp (shapes_in (with_packet t octets packets)) q
-        at q None true p told is = absurd (true≢false (sym is))
-        at q (Some n) false p told is = absurd (true≢false is)
-        at q None false p told is =
+        at q None true p summary is = absurd (true≢false (sym is))
+        at q (Some n) false p summary is = absurd (true≢false is)
+        at q None false p summary is =
             old_value q
-            ∙ ap (option_map shape_said) (go (eq_by_cmp pair_cmp q (pair_of t)) refl)
+            ∙ ap (option_map shape_stated) (go (eq_by_cmp pair_cmp q (pair_of t)) refl)
             ∙ sym (new_value q) where
               go : (c : Bool) → eq_by_cmp pair_cmp q (pair_of t) ≡ c
-                  → said_at packets q ≡ said_at (with_packet t octets packets) q
+                  → stated_at packets q ≡ stated_at (with_packet t octets packets) q
               go true h =
                   let same : q ≡ pair_of t = eq_same exact_pairs q (pair_of t) h in
-                  ap (said_at packets) same
-                  ∙ sym (ap (option_and_then said_in) (record_stays packets t octets absent p))
-                  ∙ ap (said_at (with_packet t octets packets)) (sym same)
+                  ap (stated_at packets) same
+                  ∙ sym (ap (option_and_then stated_in) (record_stays packets t octets absent p))
+                  ∙ ap (stated_at (with_packet t octets packets)) (sym same)
               go false h = sym (other q h)
-        at q (Some n) true p told is =
+        at q (Some n) true p summary is =
             value_of-with_value exact_pairs (pair_of t) n plan.shapes q
             ∙ go (eq_by_cmp pair_cmp q (pair_of t)) refl where
               go : (c : Bool) → eq_by_cmp pair_cmp q (pair_of t) ≡ c
@@ -201,57 +202,57 @@ module _ (plan : PlanState) (packets : List Packet) (t : Part) (octets : List �
                   ≡ value_of pair_cmp (shapes_in (with_packet t octets packets)) q
               go true h =
                   let same : q ≡ pair_of t = eq_same exact_pairs q (pair_of t) h in
-                  told
-                  ∙ ap (option_map shape_said)
-                  (sym (said_put packets t octets absent
+                  summary
+                  ∙ ap (option_map shape_stated)
+                  (sym (stated_put packets t octets absent
                   ∙ ap (λ (c : Bool).
-                  option_and_then said_in (cond c (Some octets) (stored_at packets (pair_of t) 0))) p))
-                  ∙ ap (λ (r : Pair). option_map shape_said (said_at (with_packet t octets packets) r)) (sym same)
+                  option_and_then stated_in (cond c (Some octets) (stored_at packets (pair_of t) 0))) p))
+                  ∙ ap (λ (r : Pair). option_map shape_stated (stated_at (with_packet t octets packets) r)) (sym same)
                   ∙ sym (new_value q)
-              go false h = old_value q ∙ ap (option_map shape_said) (sym (other q h)) ∙ sym (new_value q)
+              go false h = old_value q ∙ ap (option_map shape_stated) (sym (other q h)) ∙ sym (new_value q)
 
   -- where a part is asked for that is no record, the record is stored
-  pub asked_said : is_asked plan t ≡ true → (t.part == 0) ≡ false → is_some (said_at packets (pair_of t)) ≡ true
-  asked_said asked behind =
-      go (said_at packets (pair_of t)) (shape_of plan (pair_of t)) refl
+  pub asked_stated : is_asked plan t ≡ true → (t.part == 0) ≡ false → is_some (stated_at packets (pair_of t)) ≡ true
+  asked_stated asked following =
+      go (stated_at packets (pair_of t)) (shape_of plan (pair_of t)) refl
       (ap (λ (es : List (Pair × Shape)). value_of pair_cmp es (pair_of t)) tied.shapes
       ∙ shapes_value packets (pair_of t) tied.in_order) where
         can : can_be_asked plan.held (shape_of plan (pair_of t)) t ≡ true
         can = (and_parts (knows plan (pair_of t)) (can_be_asked plan.held (shape_of plan (pair_of t)) t) asked).1
 
         go : (o : Option RecordSays) (s : Option Shape) → shape_of plan (pair_of t) ≡ s
-            → s ≡ option_map shape_said o → is_some o ≡ true
+            → s ≡ option_map shape_stated o → is_some o ≡ true
         go (Some says) s p h = refl
         go None s p h =
             absurd (true≢false (sym can
             ∙ ap (λ (s : Option Shape). can_be_asked plan.held s t) (p ∙ h)
-            ∙ behind))
+            ∙ following))
 
-  recorded_too : is_asked plan t ≡ true → (is_some shape ≡ (t.part == 0)) → shape ≡ told_shape t octets
+  recorded_too : is_asked plan t ≡ true → (is_some shape ≡ (t.part == 0)) → shape ≡ shape_in_summary t octets
       → (pair : Pair) (x : ℕ) → is_some (stored_at (with_packet t octets packets) pair x) ≡ true
-      → is_some (said_at (with_packet t octets packets) pair) ≡ true
-  recorded_too asked is_record told pair x there = go (eq_by_cmp pair_cmp pair (pair_of t)) refl where
-    here : (b : Bool) → (t.part == 0) ≡ b → is_some (said_at (with_packet t octets packets) (pair_of t)) ≡ true
+      → is_some (stated_at (with_packet t octets packets) pair) ≡ true
+  recorded_too asked is_record summary pair x there = go (eq_by_cmp pair_cmp pair (pair_of t)) refl where
+    here : (b : Bool) → (t.part == 0) ≡ b → is_some (stated_at (with_packet t octets packets) (pair_of t)) ≡ true
     here true p =
-        ap is_some (said_put packets t octets absent
-        ∙ ap (λ (c : Bool). option_and_then said_in (cond c (Some octets) (stored_at packets (pair_of t) 0))) p)
-        ∙ sym (some_mapped shape_said (said_in octets))
-        ∙ ap is_some (sym (told ∙ told_shape_is t octets
-        ∙ ap (λ (c : Bool). cond c (option_map shape_said (said_in octets)) None) p))
+        ap is_some (stated_put packets t octets absent
+        ∙ ap (λ (c : Bool). option_and_then stated_in (cond c (Some octets) (stored_at packets (pair_of t) 0))) p)
+        ∙ sym (some_mapped shape_stated (stated_in octets))
+        ∙ ap is_some (sym (summary ∙ reported_shape_is t octets
+        ∙ ap (λ (c : Bool). cond c (option_map shape_stated (stated_in octets)) None) p))
         ∙ is_record
         ∙ p
     here false p =
-        ap (λ (o : Option (List ℕ)). is_some (option_and_then said_in o)) (record_stays packets t octets absent p)
-        ∙ asked_said asked p
+        ap (λ (o : Option (List ℕ)). is_some (option_and_then stated_in o)) (record_stays packets t octets absent p)
+        ∙ asked_stated asked p
 
     go : (c : Bool) → eq_by_cmp pair_cmp pair (pair_of t) ≡ c
-        → is_some (said_at (with_packet t octets packets) pair) ≡ true
+        → is_some (stated_at (with_packet t octets packets) pair) ≡ true
     go true h =
-        ap (λ (q : Pair). is_some (said_at (with_packet t octets packets) q))
+        ap (λ (q : Pair). is_some (stated_at (with_packet t octets packets) q))
         (eq_same exact_pairs pair (pair_of t) h)
         ∙ here (t.part == 0) refl
     go false h =
-        ap (λ (o : Option (List ℕ)). is_some (option_and_then said_in o))
+        ap (λ (o : Option (List ℕ)). is_some (option_and_then stated_in o))
         (other_pairs packets t octets absent pair h 0)
         ∙ tied.recorded pair x (ap is_some (sym (other_pairs packets t octets absent pair h x)) ∙ there)
 
@@ -279,7 +280,7 @@ module _ (plan : PlanState) (packets : List Packet) (t : Part) (octets : List �
     none_stored : (x : Option (List ℕ)) → is_some x ≡ true → is_some x ≡ false → ⊥
     none_stored x a b = true≢false (sym a ∙ b)
 
-    some_record : (r : Option (List ℕ)) → is_some (option_and_then said_in r) ≡ true → is_some r ≡ true
+    some_record : (r : Option (List ℕ)) → is_some (option_and_then stated_in r) ≡ true → is_some r ≡ true
     some_record None h = h
     some_record (Some octets) h = refl
 
@@ -315,9 +316,9 @@ module _ (plan : PlanState) (packets : List Packet) (t : Part) (octets : List �
         other (sym (put_elsewhere packets t octets absent u h) ∙ there) (eq_by_cmp pair_cmp (pair_of u) (pair_of t))
         refl (t.part == 0) refl
 
-  pub tied_too : is_asked plan t ≡ true → (is_some shape ≡ (t.part == 0)) → shape ≡ told_shape t octets
+  pub tied_too : is_asked plan t ≡ true → (is_some shape ≡ (t.part == 0)) → shape ≡ shape_in_summary t octets
       → ListsAsMany octets (lists_at packets t) → AreTied (holds_too t shape plan) (with_packet t octets packets)
-  tied_too asked is_record told lists = record {
+  tied_too asked is_record summary lists = record {
     in_order = rises;
     held = held_too;
     shapes =
@@ -325,8 +326,8 @@ module _ (plan : PlanState) (packets : List Packet) (t : Part) (octets : List �
           held = insert_key part_cmp t plan.held;
           shapes = with_shape (pair_of t) shape plan.shapes;
         })).shapes) fresh
-        ∙ shapes_same is_record told;
-    recorded = recorded_too asked is_record told;
+        ∙ shapes_same is_record summary;
+    recorded = recorded_too asked is_record summary;
     indexed = indexed_too lists;
   }
 
@@ -334,10 +335,10 @@ module _ (plan : PlanState) (packets : List Packet) (t : Part) (octets : List �
 
 -- the record of an object says what it lists
 pub listing_says : (o : Option (List ℕ)) (l : Listed) → option_and_then listing_in o ≡ Some l
-    → option_and_then said_in o ≡ Some (Lists l)
+    → option_and_then stated_in o ≡ Some (Lists l)
 listing_says None l h = absurd cc
-listing_says (Some octets) l h = go (said_in octets) h where
-  go : (says : Option RecordSays) → option_and_then object_said says ≡ Some l → says ≡ Some (Lists l)
+listing_says (Some octets) l h = go (stated_in octets) h where
+  go : (says : Option RecordSays) → option_and_then object_stated says ≡ Some l → says ≡ Some (Lists l)
   go None h = absurd cc
   go (Some (Lists m)) h =
       let same : m ≡ l = cc in
@@ -345,12 +346,12 @@ listing_says (Some octets) l h = go (said_in octets) h where
   go (Some (WithdrawsNumber seq)) h = absurd cc
 
 module _ (plan : PlanState) (packets : List Packet) (pair : Pair) (tied : AreTied plan packets) where
-  pub shape_stored : shape_of plan pair ≡ option_map shape_said (said_at packets pair)
+  pub shape_stored : shape_of plan pair ≡ option_map shape_stated (stated_at packets pair)
   shape_stored =
       ap (λ (es : List (Pair × Shape)). value_of pair_cmp es pair) tied.shapes ∙ shapes_value packets pair tied.in_order
 
   pub shape_listed : (l : Listed) → listing_at packets pair ≡ Some l → shape_of plan pair ≡ Some (listed_shape l)
-  shape_listed l h = shape_stored ∙ ap (option_map shape_said) (listing_says (stored_at packets pair 0) l h)
+  shape_listed l h = shape_stored ∙ ap (option_map shape_stated) (listing_says (stored_at packets pair 0) l h)
 
   pub held_value : (t : Part) → holds plan t ≡ is_some (value_of part_cmp packets t)
   held_value t = ap (λ (ts : List Part). contains part_cmp ts t) tied.held ∙ contains-value packets t
@@ -367,12 +368,12 @@ module _ (plan : PlanState) (packets : List Packet) (pair : Pair) (tied : AreTie
     go (Some octets) p = refl
 
   pub complete_stored : (l : Listed) → listing_at packets pair ≡ Some l
-      → is_complete plan pair ≡ are_stored packets pair (parts_behind (listed_shape l))
+      → is_complete plan pair ≡ are_stored packets pair (parts_after (listed_shape l))
   complete_stored l h =
-      ap (λ (o : Option Shape). list_all (holds plan) (parts_of pair (parts_told o))) (shape_listed l h)
-      ∙ rw add-one (all_held (0 ∷ numbers_from (0 + 1) (parts_behind (listed_shape l))))
+      ap (λ (o : Option Shape). list_all (holds plan) (parts_of pair (parts_reported o))) (shape_listed l h)
+      ∙ rw add-one (all_held (0 ∷ numbers_from (0 + 1) (parts_after (listed_shape l))))
       ∙ ap (λ (b : Bool). b
-      && list_all (λ x. is_some (stored_at packets pair x)) (numbers_from 1 (parts_behind (listed_shape l))))
+      && list_all (λ x. is_some (stored_at packets pair x)) (numbers_from 1 (parts_after (listed_shape l))))
       (record_there l h)
 
   -- an object is stored wholly exactly where it is complete
@@ -380,9 +381,9 @@ module _ (plan : PlanState) (packets : List Packet) (pair : Pair) (tied : AreTie
       → is_some (whole_at packets pair) ≡ is_complete plan pair
   complete_whole l h =
       ap (λ (o : Option Listed). is_some (option_and_then (entry_listed packets pair) o)) h
-      ∙ go (are_stored packets pair (parts_behind (listed_shape l))) refl
+      ∙ go (are_stored packets pair (parts_after (listed_shape l))) refl
       ∙ sym (complete_stored l h) where
-        go : (b : Bool) → are_stored packets pair (parts_behind (listed_shape l)) ≡ b
+        go : (b : Bool) → are_stored packets pair (parts_after (listed_shape l)) ≡ b
             → is_some (entry_listed packets pair l) ≡ b
         go true p = rw p refl
         go false p = rw p refl

@@ -15,15 +15,15 @@ use Rattle.repo_plan.specs.Parts.{Pair, pair_cmp, part_cmp, pair_of, part_of}
 use Rattle.repo_plan.specs.Plan.{PlanState, is_in, hides_too, uses_room}
 use Rattle.repo_plan.proofs.Orders.{exact_pairs, exact_parts}
 use Rattle.sorted_lists.proofs.Sets.{eq_same, eq_itself, eq_turned, keys-filter, rises_keys_filter, value_of-filter}
-use Rattle.repo_object.specs.Publication.{Listed, shape_said}
-use Rattle.repo_object.specs.Verdict.{said_in}
+use Rattle.repo_object.specs.Publication.{Listed, shape_stated}
+use Rattle.repo_object.specs.Verdict.{stated_in}
 use Rattle.repo_store.specs.StoreList.{packets_outside, is_in_any, packets_outside_all}
 use Rattle.repo_catalog.specs.declared.entry.Entry.{Entry}
 use Rattle.repo_catalog.specs.Entries.{publication_of, is_of, without, without_all}
 use Rattle.repo_catalog.proofs.ManyLemmas.{without_none}
 use Rattle.repo_holdings.specs.Records.{Packet}
-use Rattle.repo_holdings.specs.Listed.{stored_at, listing_in, said_at, listing_at, shapes_in, withdrawn_by}
-use Rattle.repo_holdings.specs.Listed.{is_withdrawn, is_withdrawal, whole_at, entry_listed, alone_catalogue}
+use Rattle.repo_holdings.specs.Listed.{stored_at, listing_in, stated_at, listing_at, shapes_in, withdrawn_by}
+use Rattle.repo_holdings.specs.Listed.{is_withdrawn, is_withdrawal, whole_at, entry_listed, member_catalogue}
 use Rattle.repo_holdings.specs.StoredParents.{index_count, lists_at, ListsAsMany}
 use Rattle.repo_holdings.specs.Noted.{NotesState, AreNotes}
 use Rattle.repo_holdings.specs.Gaining.{AreTied, AreKept}
@@ -59,8 +59,8 @@ module _ (pair : Pair) (packets : List Packet) where
 
   -- ---- what is said and listed
 
-  nothing_said : said_at (packets_outside pair packets) pair ≡ None
-  nothing_said = ap (option_and_then said_in) (nothing_inside 0)
+  nothing_stated : stated_at (packets_outside pair packets) pair ≡ None
+  nothing_stated = ap (option_and_then stated_in) (nothing_inside 0)
 
   whole_gone : whole_at (packets_outside pair packets) pair ≡ None
   whole_gone =
@@ -80,14 +80,14 @@ module _ (pair : Pair) (packets : List Packet) where
       ∙ sym (shapes_value (packets_outside pair packets) q (rises_outside r))) where
         go : (q : Pair) (b : Bool) → eq_by_cmp pair_cmp pair q ≡ b
             → cond (not b) (value_of pair_cmp (shapes_in packets) q) None
-            ≡ option_map shape_said (said_at (packets_outside pair packets) q)
+            ≡ option_map shape_stated (stated_at (packets_outside pair packets) q)
         go q true p =
-            sym (ap (λ (k : Pair). option_map shape_said (said_at (packets_outside pair packets) k))
+            sym (ap (λ (k : Pair). option_map shape_stated (stated_at (packets_outside pair packets) k))
             (sym (eq_same exact_pairs pair q p))
-            ∙ ap (option_map shape_said) nothing_said)
+            ∙ ap (option_map shape_stated) nothing_stated)
         go q false p =
             shapes_value packets q r
-            ∙ ap (λ (o : Option (List ℕ)). option_map shape_said (option_and_then said_in o))
+            ∙ ap (λ (o : Option (List ℕ)). option_map shape_stated (option_and_then stated_in o))
             (sym (others_stay q p 0))
 
   -- the publication is no withdrawal
@@ -97,7 +97,7 @@ module _ (pair : Pair) (packets : List Packet) where
         withdrawn_less packets (packets_outside pair packets) pair r (rises_outside r)
         (λ q other. others_stay q (eq_turned exact_pairs pair q ∙ other) 0) (nothing_inside 0) object
 
-    pub catalogue_outside : without pair (alone_catalogue packets) ≡ alone_catalogue (packets_outside pair packets)
+    pub catalogue_outside : without pair (member_catalogue packets) ≡ member_catalogue (packets_outside pair packets)
     catalogue_outside =
         sym (unlisted packets (packets_outside pair packets) pair r (rises_outside r)
         (λ q other. same_entry packets (packets_outside pair packets) q
@@ -108,7 +108,7 @@ module _ (pair : Pair) (packets : List Packet) where
         → is_withdrawal (packets_outside pair packets) q ≡ false
     withdrawals_outside q no_withdrawal = go (eq_by_cmp pair_cmp pair q) refl where
       says : Option (List ℕ) → Bool
-      says o = is_some (option_and_then (withdrawn_by q) (option_and_then said_in o))
+      says o = is_some (option_and_then (withdrawn_by q) (option_and_then stated_in o))
 
       go : (b : Bool) → eq_by_cmp pair_cmp pair q ≡ b → is_withdrawal (packets_outside pair packets) q ≡ false
       go true p =
@@ -136,13 +136,13 @@ tied_hides pair plan packets tied = record {
   none_there o n h = true≢false (sym h ∙ ap is_some n)
 
   recorded : (q : Pair) (x : ℕ) → is_some (stored_at outside q x) ≡ true → (b : Bool)
-      → eq_by_cmp pair_cmp pair q ≡ b → is_some (said_at outside q) ≡ true
+      → eq_by_cmp pair_cmp pair q ≡ b → is_some (stated_at outside q) ≡ true
   recorded q x there true p =
       absurd (none_there (stored_at outside q x)
       (ap (λ (k : Pair). stored_at outside k x) (sym (eq_same exact_pairs pair q p)) ∙ nothing_inside pair packets x)
       there)
   recorded q x there false p =
-      ap (λ (o : Option (List ℕ)). is_some (option_and_then said_in o)) (others_stay pair packets q p 0)
+      ap (λ (o : Option (List ℕ)). is_some (option_and_then stated_in o)) (others_stay pair packets q p 0)
       ∙ tied.recorded q x (ap is_some (sym (others_stay pair packets q p x)) ∙ there)
 
   indexed : (u : Part) (o : List ℕ) → value_of part_cmp outside u ≡ Some o → (b : Bool)
@@ -214,10 +214,10 @@ objects_left pair pairs packets r all =
 
 catalogue_outside_all : (pairs : List Pair) (packets : List Packet) → Rises part_cmp (keys packets)
     → AreObjects packets pairs
-    → without_all pairs (alone_catalogue packets) ≡ alone_catalogue (outside_all pairs packets)
-catalogue_outside_all [] packets r all = without_none (alone_catalogue packets)
+    → without_all pairs (member_catalogue packets) ≡ member_catalogue (outside_all pairs packets)
+catalogue_outside_all [] packets r all = without_none (member_catalogue packets)
 catalogue_outside_all (pair ∷ pairs) packets r all =
-    entries_more pair pairs (alone_catalogue packets)
+    entries_more pair pairs (member_catalogue packets)
     ∙ ap (without_all pairs) (catalogue_outside pair packets r (objects_first pair pairs packets all))
     ∙ catalogue_outside_all pairs (packets_outside pair packets) (rises_outside pair packets r)
     (objects_left pair pairs packets r all)

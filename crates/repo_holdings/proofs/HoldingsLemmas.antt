@@ -7,7 +7,7 @@ use Rattle.ndn_name.specs.Names.{Component}
 use Rattle.sorted_lists.specs.SortedList.{contains, value_of}
 use Rattle.repo_plan.specs.declared.part.Part.{Part}
 use Rattle.repo_plan.specs.declared.shape.Shape.{Shape}
-use Rattle.repo_plan.specs.Parts.{Pair, pair_cmp, pair_of, parent, parts_behind}
+use Rattle.repo_plan.specs.Parts.{Pair, pair_cmp, pair_of, parent, parts_after}
 use Rattle.repo_plan.specs.Plan.{PlanState, is_asked}
 use Rattle.repo_plan.proofs.Changes.{same_holdings}
 use Rattle.repo_holdings.specs.declared.holdings.Holdings.TheInside.{Inside}
@@ -44,8 +44,8 @@ asked_of m h t is view asked = reading (λ p. is_asked p t) m h is view refl ∙
 -- what lists a part that is asked for is stored
 pub segment_of : (m : Inside) (h : HoldingsState) (t : Part) → IsHoldings m → state m ≡ h
     → is_asked (held_plan h) t ≡ true → (t.part == 0) ≡ false → HasParent m.store.packets t
-segment_of m h t is view asked behind =
-    asked_segment m.plan m.store.packets t is.kept.tied (asked_of m h t is view asked) behind
+segment_of m h t is view asked following =
+    asked_segment m.plan m.store.packets t is.kept.tied (asked_of m h t is view asked) following
 
 pub not_zero : (n : ℕ) → (n ≡ 0 → ⊥) → (n == 0) ≡ false
 not_zero n h = false_from_ne_true (n == 0) (λ e. h (eqb-true n 0 e))
@@ -54,17 +54,17 @@ not_zero n h = false_from_ne_true (n == 0) (λ e. h (eqb-true n 0 e))
 pub still_lists : (m : Inside) (h : HoldingsState) (t : Part) (r : StoredParent) → IsHoldings m → state m ≡ h
     → is_asked (held_plan h) t ≡ true → (t.part ≡ 0 → ⊥) → r.part ≡ parent r.shape t → IsStoredParent h.store r
     → IsListedBy h.store t r
-still_lists m h t r is view asked behind lists stored =
-    let has = segment_of m h t is view asked (not_zero t.part behind) in
+still_lists m h t r is view asked following lists stored =
+    let has = segment_of m h t is view asked (not_zero t.part following) in
     let same : pair_of r.part ≡ pair_of t = ap pair_of lists in
     let here : listing_at h.store (pair_of t) ≡ Some has.listing =
     ap (λ (x : HoldingsState). listing_at x.store (pair_of t)) (sym view) ∙ has.listed in
     let both : Some r.listing ≡ Some has.listing = sym stored.listed ∙ ap (listing_at h.store) same ∙ here in
     let listing : r.listing ≡ has.listing = cc in
     record {
-      behind = has.behind;
+      following = has.following;
       counted =
-          subst (λ (s : Shape). t.part ≤ parts_behind s) (ap listed_shape (sym listing) ∙ sym stored.shape) has.counted;
+          subst (λ (s : Shape). t.part ≤ parts_after s) (ap listed_shape (sym listing) ∙ sym stored.shape) has.counted;
       stored = stored;
       lists = lists;
     }

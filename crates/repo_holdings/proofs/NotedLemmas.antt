@@ -13,12 +13,13 @@ use Rattle.repo_plan.proofs.Orders.{exact_pairs}
 use Rattle.repo_plan.specs.declared.shape.Shape.{Shape}
 use Rattle.repo_object.specs.Publication.{Listed, RecordSays}
 use Rattle.repo_object.specs.Publication.RecordSays.{Lists, WithdrawsNumber}
-use Rattle.repo_object.specs.Verdict.{said_in}
-use Rattle.repo_holdings.specs.declared.told.Told.{Told}
-use Rattle.repo_holdings.specs.declared.told.Told.TheVariants.{Object, Withdrawal}
+use Rattle.repo_object.specs.Verdict.{stated_in}
+use Rattle.repo_holdings.specs.declared.record_summary.RecordSummary.{RecordSummary}
+use Rattle.repo_holdings.specs.declared.record_summary.RecordSummary.TheVariants.{Object, Withdrawal}
 use Rattle.repo_holdings.specs.Records.{Packet}
-use Rattle.repo_holdings.specs.Listed.{stored_at, object_said, listing_in, listing_at, said_at, whole_at, is_withdrawn}
-use Rattle.repo_holdings.specs.Gaining.{told_of}
+use Rattle.repo_holdings.specs.Listed.{stored_at, object_stated, listing_in, listing_at, stated_at, whole_at}
+use Rattle.repo_holdings.specs.Listed.{is_withdrawn}
+use Rattle.repo_holdings.specs.Gaining.{summary_of}
 use Rattle.repo_holdings.specs.Noted.{NotesState, AreNotes}
 use Rattle.repo_holdings.specs.Changing.{withdraws_too, AreNotedWith}
 use Rattle.repo_holdings.proofs.CatalogueLemmas.{same_whole}
@@ -57,51 +58,54 @@ noted_from before after pair old new are others with = record {
       ∙ are.names q l (ap (option_and_then listing_in) (sym (others q p 0)) ∙ listed)
       (sym (same_whole before after q (others q p)) ∙ none)
 
--- what is told of an object names it
-pub named_told : (packets : List Packet) (pair : Pair) (told : Told) (shape : Shape) (name : List Component)
-    → option_map told_of (said_at packets pair) ≡ Some told → told ≡ Object shape name
+-- what is reported of an object names it
+pub named_reported : (packets : List Packet) (pair : Pair) (summary : RecordSummary) (shape : Shape)
+    (name : List Component)
+    → option_map summary_of (stated_at packets pair) ≡ Some summary → summary ≡ Object shape name
     → IsSomeAnd (listing_at packets pair) (λ l. name ≡ l.name)
-named_told packets pair told shape name h is = go (stored_at packets pair 0) h where
-  go : (o : Option (List ℕ)) → option_map told_of (option_and_then said_in o) ≡ Some told
+named_reported packets pair summary shape name h is = go (stored_at packets pair 0) h where
+  go : (o : Option (List ℕ)) → option_map summary_of (option_and_then stated_in o) ≡ Some summary
       → IsSomeAnd (option_and_then listing_in o) (λ l. name ≡ l.name)
   go None p = absurd cc
-  go (Some octets) p = says (said_in octets) p where
-    says : (o : Option RecordSays) → option_map told_of o ≡ Some told
-        → IsSomeAnd (option_and_then object_said o) (λ l. name ≡ l.name)
+  go (Some octets) p = says (stated_in octets) p where
+    says : (o : Option RecordSays) → option_map summary_of o ≡ Some summary
+        → IsSomeAnd (option_and_then object_stated o) (λ l. name ≡ l.name)
     says None q = absurd cc
     says (Some (Lists l)) q =
-        let both : told_of (Lists l) ≡ Object shape name = cc in
+        let both : summary_of (Lists l) ≡ Object shape name = cc in
         let same : l.name ≡ name = cc in
         sym same
     says (Some (WithdrawsNumber seq)) q =
-        let both : told_of (WithdrawsNumber seq) ≡ Object shape name = cc in absurd cc
+        let both : summary_of (WithdrawsNumber seq) ≡ Object shape name = cc in absurd cc
 
 -- and of a withdrawal that it is no object
-pub withdrawal_lists_none : (packets : List Packet) (pair : Pair) (told : Told) (seq : ℕ)
-    → option_map told_of (said_at packets pair) ≡ Some told → told ≡ Withdrawal seq → listing_at packets pair ≡ None
-withdrawal_lists_none packets pair told seq h is = go (stored_at packets pair 0) h where
-  go : (o : Option (List ℕ)) → option_map told_of (option_and_then said_in o) ≡ Some told
+pub withdrawal_lists_none : (packets : List Packet) (pair : Pair) (summary : RecordSummary) (seq : ℕ)
+    → option_map summary_of (stated_at packets pair) ≡ Some summary → summary ≡ Withdrawal seq → listing_at packets pair
+    ≡ None
+withdrawal_lists_none packets pair summary seq h is = go (stored_at packets pair 0) h where
+  go : (o : Option (List ℕ)) → option_map summary_of (option_and_then stated_in o) ≡ Some summary
       → option_and_then listing_in o ≡ None
   go None p = refl
-  go (Some octets) p = says (said_in octets) p where
-    says : (o : Option RecordSays) → option_map told_of o ≡ Some told → option_and_then object_said o ≡ None
+  go (Some octets) p = says (stated_in octets) p where
+    says : (o : Option RecordSays) → option_map summary_of o ≡ Some summary → option_and_then object_stated o ≡ None
     says None q = refl
-    says (Some (Lists l)) q = let both : told_of (Lists l) ≡ Withdrawal seq = cc in absurd cc
+    says (Some (Lists l)) q = let both : summary_of (Lists l) ≡ Withdrawal seq = cc in absurd cc
     says (Some (WithdrawsNumber n)) q = refl
 
 -- a publication is noted as withdrawn
-pub noted_withdrawn : (packets : List Packet) (pair : Pair) (told : Told) (seq : ℕ) (old new : NotesState)
-    → told ≡ Withdrawal seq → option_map told_of (said_at packets pair) ≡ Some told
+pub noted_withdrawn : (packets : List Packet) (pair : Pair) (summary : RecordSummary) (seq : ℕ) (old new : NotesState)
+    → summary ≡ Withdrawal seq → option_map summary_of (stated_at packets pair) ≡ Some summary
     → new.withdrawn ≡ insert_key pair_cmp (pair.0, seq) old.withdrawn → new.names ≡ old.names
-    → ((q : Pair) → (withdraws_too pair (Some told) q || contains pair_cmp old.withdrawn q) ≡ is_withdrawn packets q)
+    → ((q : Pair) → (withdraws_too pair (Some summary) q || contains pair_cmp old.withdrawn q) ≡ is_withdrawn packets q)
     → AreNotedWith pair packets old new
-noted_withdrawn packets pair told seq old new is says more names withdrawn = record {
+noted_withdrawn packets pair summary seq old new is says more names withdrawn = record {
   withdrawn = λ q.
       ap (λ (ws : List Pair). contains pair_cmp ws q) more
       ∙ contains-insert_key exact_pairs (pair.0, seq) old.withdrawn q
-      ∙ ap (λ (x : Told). withdraws_too pair (Some x) q || contains pair_cmp old.withdrawn q) (sym is)
+      ∙ ap (λ (x : RecordSummary). withdraws_too pair (Some x) q || contains pair_cmp old.withdrawn q) (sym is)
       ∙ withdrawn q;
-  name = λ l listed none. absurd (none_listed l (sym (withdrawal_lists_none packets pair told seq says is) ∙ listed));
+  name = λ l listed none. absurd (none_listed l (sym (withdrawal_lists_none packets pair summary seq says is)
+      ∙ listed));
   others = λ q other. ap (λ (ns : List (Pair × List Component)). value_of pair_cmp ns q) names;
 } where
   none_listed : (l : Listed) → let n : Option Listed = None in n ≡ Some l → ⊥

@@ -15,7 +15,7 @@ use Rattle.repo_object.specs.Formats.{IsListing}
 use Rattle.repo_object.specs.Records.{index_of}
 use Rattle.repo_object.specs.Verdict.{content_in, index_in}
 use Rattle.repo_object.specs.Wants.{listed_in}
-use Rattle.repo_object.proofs.RecordLemmas.{index_said}
+use Rattle.repo_object.proofs.RecordLemmas.{index_stated}
 use Rattle.repo_holdings.specs.declared.holdings.stored_parent.StoredParent.{StoredParent}
 use Rattle.repo_holdings.specs.Records.{Packet}
 use Rattle.repo_holdings.specs.Listed.{stored_at, listed_shape}
@@ -29,7 +29,7 @@ index_long octets count digests h = go (content_in octets) h where
   go : (o : Option (List ℕ)) → option_and_then (λ content. index_of content count) o ≡ Some digests
       → length digests ≡ count
   go None p = absurd cc
-  go (Some content) p = (index_said content count digests p).1
+  go (Some content) p = (index_stated content count digests p).1
 
 stored_long : (packets : List Packet) (pair : Pair) (segments x : ℕ) (digests : List (List ℕ))
     → index_at packets pair segments x ≡ Some digests → length digests ≡ listed_in segments (x - 1)
@@ -40,7 +40,7 @@ stored_long packets pair segments x digests h = go (stored_at packets pair x) h 
   go None p = absurd cc
   go (Some octets) p = index_long octets (listed_in segments (x - 1)) digests p
 
--- what is listed by the record itself, behind index packets, is listed where there are none
+-- what is listed by the record itself, after index packets, is listed where there are none
 no_index : (shape : Shape) (x : ℕ) → shape.index < x → parent_number shape x ≡ 0 → shape.index ≡ 0
 no_index shape x above h = go (shape.index == 0) refl where
   go : (b : Bool) → (shape.index == 0) ≡ b → shape.index ≡ 0

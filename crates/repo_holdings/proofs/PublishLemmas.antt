@@ -12,7 +12,7 @@ use Rattle.repo_plan.specs.declared.part.Part.{Part}
 use Rattle.repo_plan.specs.declared.shape.Shape.{Shape}
 use Rattle.sorted_lists.specs.SortedList.{keys, Rises, contains, insert_key, value_of, with_value}
 use Rattle.repo_plan.specs.Parts.{Pair, IsShape, pair_cmp, part_cmp, pair_of, part_of, parent, parent_number}
-use Rattle.repo_plan.specs.Parts.{parts_behind}
+use Rattle.repo_plan.specs.Parts.{parts_after}
 use Rattle.repo_plan.specs.Plan.{PlanState, holds, hides, knows, is_asked, can_be_asked, is_claimed, shape_of}
 use Rattle.repo_plan.specs.Plan.{holds_too, uses_room, with_shape}
 use Rattle.repo_plan.proofs.Orders.{exact_pairs, exact_parts}
@@ -20,21 +20,21 @@ use Rattle.repo_plan.proofs.Parents.{lists_in_turn}
 use Rattle.sorted_lists.proofs.Sets.{eq_same, eq_itself, contains-insert_key, value_of-with_value}
 use Rattle.repo_store.specs.StoreList.{with_packet}
 use Rattle.repo_object.specs.Publication.{Listed}
-use Rattle.repo_object.specs.Verdict.{said_in}
-use Rattle.repo_holdings.specs.declared.told.Told.{Told}
+use Rattle.repo_object.specs.Verdict.{stated_in}
+use Rattle.repo_holdings.specs.declared.record_summary.RecordSummary.{RecordSummary}
 use Rattle.repo_holdings.specs.declared.holdings.Holdings.TheInside.{Inside}
 use Rattle.repo_holdings.specs.Records.{Packet}
-use Rattle.repo_holdings.specs.Listed.{stored_at, listing_in, said_at, listing_at, whole_at, entry_listed, withdraws}
+use Rattle.repo_holdings.specs.Listed.{stored_at, listing_in, stated_at, listing_at, whole_at, entry_listed, withdraws}
 use Rattle.repo_holdings.specs.Listed.{is_withdrawn}
 use Rattle.repo_holdings.specs.StoredParents.{index_count, lists_at, ListsAsMany}
-use Rattle.repo_holdings.specs.Gaining.{KeepsOthers, told_of, shape_told, told_shape}
+use Rattle.repo_holdings.specs.Gaining.{KeepsOthers, summary_of, summary_shape, shape_in_summary}
 use Rattle.repo_holdings.specs.Changing.{withdraws_too}
 use Rattle.repo_holdings.specs.NewPublications.{as_parts, with_packets, IsNew, ListInTurn, ArePackets}
 use Rattle.repo_holdings.specs.HoldingsState.{HoldingsState, held_plan}
 use Rattle.repo_holdings.specs.HoldingsFields.{state, IsHoldings}
 use Rattle.repo_holdings.proofs.HoldingsLemmas.{plan_is}
 use Rattle.repo_holdings.proofs.AskedLemmas.{shape_sized}
-use Rattle.repo_holdings.proofs.WithdrawnLemmas.{withdrawn_more, withdraws_told}
+use Rattle.repo_holdings.proofs.WithdrawnLemmas.{withdrawn_more, withdraws_reported}
 use Rattle.repo_holdings.proofs.GainingLemmas.{contains-value, put_here, put_elsewhere, record_put, record_stays}
 use Rattle.repo_holdings.proofs.GainingLemmas.{list_nothing}
 
@@ -78,20 +78,20 @@ later_part pair x y less = go (eq_by_cmp part_cmp (part_of pair x) (part_of pair
 -- ---- the plan so far
 
 -- what part `x` of a publication tells: the record its shape
-abbrev pub told_first : Shape → ℕ → Option Shape
-told_first shape x = cond (x == 0) (Some shape) None
+abbrev pub reported_first : Shape → ℕ → Option Shape
+reported_first shape x = cond (x == 0) (Some shape) None
 
-pub not_told : (shape : Shape) (x : ℕ) → (x ≡ 0 → ⊥) → told_first shape x ≡ None
-not_told shape x h =
+pub not_reported : (shape : Shape) (x : ℕ) → (x ≡ 0 → ⊥) → reported_first shape x ≡ None
+not_reported shape x h =
     ap (λ (b : Bool). cond b (Some shape) None) (false_from_ne_true (x == 0) (λ e. h (eqb-true x 0 e)))
 
-pub told_later : (shape : Shape) (n : ℕ) → told_first shape (suc n) ≡ None
-told_later shape n =
+pub reported_later : (shape : Shape) (n : ℕ) → reported_first shape (suc n) ≡ None
+reported_later shape n =
     ap (λ (b : Bool). cond b (Some shape) None)
     (false_from_ne_true (suc n == 0) (λ e. absurd (omega (arith, eqb-true (suc n) 0 e))))
 
 -- what lists a part comes before it
-parent_before : (shape : Shape) (x : ℕ) → IsShape shape → 0 < x → x ≤ parts_behind shape → parent_number shape x < x
+parent_before : (shape : Shape) (x : ℕ) → IsShape shape → 0 < x → x ≤ parts_after shape → parent_number shape x < x
 parent_before shape x sized some counted =
     elim (cases_lt shape.index x) [
       | inl above ↦ omega (arith, above, (lists_in_turn shape sized).listed x counted)
@@ -103,7 +103,7 @@ pub record HasGained (start plan : PlanState) (pair : Pair) (shape : Shape) (x :
   pub others : KeepsOthers start plan
   pub fresh : (y : ℕ) → x ≤ y → holds plan (part_of pair y) ≡ false
   pub held : (y : ℕ) → y < x → holds plan (part_of pair y) ≡ true
-  pub told : 0 < x → shape_of plan pair ≡ Some shape
+  pub summary : 0 < x → shape_of plan pair ≡ Some shape
 
 pub gained_none : (start : PlanState) (pair : Pair) (shape : Shape) → IsNew start pair
     → HasGained start start pair shape 0
@@ -111,7 +111,7 @@ gained_none start pair shape new = record {
   others = record { known = refl; claims = refl; hidden = refl; attempts = refl };
   fresh = λ y h. new.not_held y;
   held = λ y h. absurd (omega (arith, h));
-  told = λ h. absurd (omega (arith, h));
+  summary = λ h. absurd (omega (arith, h));
 }
 
 module _ (start plan : PlanState) (pair : Pair) (shape : Shape) (x : ℕ) (new : IsNew start pair)
@@ -121,7 +121,7 @@ module _ (start plan : PlanState) (pair : Pair) (shape : Shape) (x : ℕ) (new :
       ap (λ (known : List ℕ). nat_le 1 pair.1 && nat_le pair.1 (slice_index known pair.0)) so_far.others.known
       ∙ new.known
 
-  pub can_ask : IsShape shape → x ≤ parts_behind shape → is_asked plan (part_of pair x) ≡ true
+  pub can_ask : IsShape shape → x ≤ parts_after shape → is_asked plan (part_of pair x) ≡ true
   can_ask sized counted =
       and_from (knows plan pair) (can_be_asked plan.held (shape_of plan pair) (part_of pair x)) known_still
       (go x refl) where
@@ -135,11 +135,11 @@ module _ (start plan : PlanState) (pair : Pair) (shape : Shape) (x : ℕ) (new :
             let above : 0 < x = omega (arith, e) in
             let before : parent_number shape (suc n) < x =
             omega (arith, e, parent_before shape (suc n) sized (omega arith) (omega (arith, e, counted))) in
-            ap (λ (s : Option Shape). can_be_asked plan.held s (part_of pair (suc n))) (so_far.told above)
+            ap (λ (s : Option Shape). can_be_asked plan.held s (part_of pair (suc n))) (so_far.summary above)
             ∙ or_right (suc n == 0) _
-            (and_from (nat_le (suc n) (parts_behind shape))
+            (and_from (nat_le (suc n) (parts_after shape))
             (contains part_cmp plan.held (parent shape (part_of pair (suc n))))
-            (le-leb (suc n) (parts_behind shape) (omega (arith, e, counted)))
+            (le-leb (suc n) (parts_after shape) (omega (arith, e, counted)))
             (so_far.held (parent_number shape (suc n)) before))
 
   pub not_hidden : hides plan pair ≡ false
@@ -152,9 +152,9 @@ module _ (start plan : PlanState) (pair : Pair) (shape : Shape) (x : ℕ) (new :
       ∙ new.not_claimed x
 
   -- one part more
-  pub gained_more : (told : Option Shape) (after : PlanState) → told ≡ told_first shape x
-      → after ≡ uses_room (holds_too (part_of pair x) told plan) → HasGained start after pair shape (x + 1)
-  gained_more told after is_told is =
+  pub gained_more : (summary : Option Shape) (after : PlanState) → summary ≡ reported_first shape x
+      → after ≡ uses_room (holds_too (part_of pair x) summary plan) → HasGained start after pair shape (x + 1)
+  gained_more summary after is_reported is =
       subst (λ (p : PlanState). HasGained start p pair shape (x + 1)) (sym (is ∙ ap uses_room taken)) (record {
         others = record {
           known = so_far.others.known;
@@ -164,15 +164,15 @@ module _ (start plan : PlanState) (pair : Pair) (shape : Shape) (x : ℕ) (new :
         };
         fresh = λ y h. held_of (part_of pair y) (so_far.fresh y (omega (arith, h))) (later y (omega (arith, h)));
         held = λ y h. held_then y h (cases_lt y x);
-        told = λ h. told_then x refl is_told;
+        summary = λ h. reported_then x refl is_reported;
       }) where
         with_it : PlanState
         with_it = record plan {
           held = insert_key part_cmp (part_of pair x) plan.held;
-          shapes = with_shape pair told plan.shapes;
+          shapes = with_shape pair summary plan.shapes;
         }
 
-        taken : holds_too (part_of pair x) told plan ≡ with_it
+        taken : holds_too (part_of pair x) summary plan ≡ with_it
         taken = ap (λ (b : Bool). cond b plan with_it) (so_far.fresh x (omega arith))
 
         later : (y : ℕ) → x < y → eq_by_cmp part_cmp (part_of pair y) (part_of pair x) ≡ false
@@ -199,42 +199,43 @@ module _ (start plan : PlanState) (pair : Pair) (shape : Shape) (x : ℕ) (new :
             (ap (λ (n : ℕ). eq_by_cmp part_cmp (part_of pair n) (part_of pair x)) same
             ∙ eq_itself exact_parts (part_of pair x))
 
-        told_then : (n : ℕ) → x ≡ n → told ≡ told_first shape x
-            → value_of pair_cmp (with_shape pair told plan.shapes) pair ≡ Some shape
-        told_then zero e s =
-            let is_some_shape : told ≡ Some shape = s ∙ ap (told_first shape) e in
+        reported_then : (n : ℕ) → x ≡ n → summary ≡ reported_first shape x
+            → value_of pair_cmp (with_shape pair summary plan.shapes) pair ≡ Some shape
+        reported_then zero e s =
+            let is_some_shape : summary ≡ Some shape = s ∙ ap (reported_first shape) e in
             ap (λ (o : Option Shape). value_of pair_cmp (with_shape pair o plan.shapes) pair) is_some_shape
             ∙ value_of-with_value exact_pairs pair shape plan.shapes pair
             ∙ ap (λ (b : Bool). cond b (Some shape) (value_of pair_cmp plan.shapes pair))
             (eq_itself exact_pairs pair)
-        told_then (suc n) e s =
-            let is_none : told ≡ None = s ∙ ap (told_first shape) e ∙ told_later shape n in
+        reported_then (suc n) e s =
+            let is_none : summary ≡ None = s ∙ ap (reported_first shape) e ∙ reported_later shape n in
             ap (λ (o : Option Shape). value_of pair_cmp (with_shape pair o plan.shapes) pair) is_none
-            ∙ so_far.told (omega (arith, e))
+            ∙ so_far.summary (omega (arith, e))
 
 -- ---- what the packets say that are still to come
 
 -- the object that the first of these packets lists, if it is the record of one
 abbrev pub first_listing : List (List ℕ) → Option Listed
 first_listing [] = None
-first_listing (octets ∷ behind) = listing_in octets
+first_listing (octets ∷ following) = listing_in octets
 
--- from part `x` on: all, or those behind the record, which is stored
-pub record AreToCome (told : Told) (l : Option Listed) (pair : Pair) (x : ℕ) (rest : List (List ℕ))
+-- from part `x` on: all, or those after the record, which is stored
+pub record AreToCome (summary : RecordSummary) (l : Option Listed) (pair : Pair) (x : ℕ) (rest : List (List ℕ))
     (stored : List Packet) : Type 0 where
-  pub all : x ≡ 0 → ArePackets told rest
+  pub all : x ≡ 0 → ArePackets summary rest
   pub first : x ≡ 0 → first_listing rest ≡ l
   pub turn : 0 < x → ListInTurn l x rest
   pub recorded : 0 < x → listing_at stored pair ≡ l
 
-module _ (told : Told) (l : Option Listed) (pair : Pair) (x : ℕ) (octets : List ℕ) (rest : List (List ℕ))
-    (stored : List Packet) (come : AreToCome told l pair x (octets ∷ rest) stored) where
+module _ (summary : RecordSummary) (l : Option Listed) (pair : Pair) (x : ℕ) (octets : List ℕ) (rest : List (List ℕ))
+    (stored : List Packet) (come : AreToCome summary l pair x (octets ∷ rest) stored) where
   -- what it tells is its shape, if it is the record
-  pub tells_shape : (s : Option Shape) → s ≡ told_first (shape_told told) x → s ≡ told_shape (part_of pair x) octets
-  tells_shape s is = go (x == 0) refl is where
-    go : (b : Bool) → (x == 0) ≡ b → s ≡ cond b (Some (shape_told told)) None
-        → s ≡ option_map shape_told (cond b (option_map told_of (said_in octets)) None)
-    go true p h = h ∙ ap (option_map shape_told) (sym (come.all (eqb-true x 0 p)).0)
+  pub reports_shape : (s : Option Shape) → s ≡ reported_first (summary_shape summary) x → s
+      ≡ shape_in_summary (part_of pair x) octets
+  reports_shape s is = go (x == 0) refl is where
+    go : (b : Bool) → (x == 0) ≡ b → s ≡ cond b (Some (summary_shape summary)) None
+        → s ≡ option_map summary_shape (cond b (option_map summary_of (stated_in octets)) None)
+    go true p h = h ∙ ap (option_map summary_shape) (sym (come.all (eqb-true x 0 p)).0)
     go false p h = h
 
   -- and it lists as many digests as it has to
@@ -249,9 +250,9 @@ module _ (told : Told) (l : Option Listed) (pair : Pair) (x : ℕ) (octets : Lis
         subst (λ (o : Option Listed). ListsAsMany octets (option_and_then (index_count x) o))
         (sym (come.recorded some)) (come.turn some).0
 
-  -- those behind it
+  -- those after it
   pub come_later : (after : List Packet) → after ≡ with_packet (part_of pair x) octets stored
-      → contains part_cmp (keys stored) (part_of pair x) ≡ false → AreToCome told l pair (x + 1) rest after
+      → contains part_cmp (keys stored) (part_of pair x) ≡ false → AreToCome summary l pair (x + 1) rest after
   come_later after puts absent = record {
     all = λ e. absurd (omega (arith, e));
     first = λ e. absurd (omega (arith, e));
@@ -278,9 +279,10 @@ module _ (told : Told) (l : Option Listed) (pair : Pair) (x : ℕ) (octets : Lis
         ∙ come.recorded (omega (arith, eqb-false x 0 p))
 
 -- at first all are to come
-pub all_to_come : (told : Told) (pair : Pair) (made : List (List ℕ)) (stored : List Packet) → ArePackets told made
-    → AreToCome told (first_listing made) pair 0 made stored
-all_to_come told pair made stored lists = record {
+pub all_to_come : (summary : RecordSummary) (pair : Pair) (made : List (List ℕ)) (stored : List Packet)
+    → ArePackets summary made
+    → AreToCome summary (first_listing made) pair 0 made stored
+all_to_come summary pair made stored lists = record {
   all = λ e. lists;
   first = λ e. refl;
   turn = λ h. absurd (omega (arith, h));
@@ -288,46 +290,47 @@ all_to_come told pair made stored lists = record {
 }
 
 -- how many there are
-pub count_packets : (told : Told) (made : List (List ℕ)) → ArePackets told made
-    → length made ≡ parts_behind (shape_told told) + 1
-count_packets told [] lists = absurd lists
-count_packets told (octets ∷ behind) lists = omega (arith, lists.1.0)
+pub count_packets : (summary : RecordSummary) (made : List (List ℕ)) → ArePackets summary made
+    → length made ≡ parts_after (summary_shape summary) + 1
+count_packets summary [] lists = absurd lists
+count_packets summary (octets ∷ following) lists = omega (arith, lists.1.0)
 
 -- its shape is one that a record may tell
-pub packets_sized : (told : Told) (made : List (List ℕ)) → ArePackets told made → IsShape (shape_told told)
-packets_sized told [] lists = absurd lists
-packets_sized told (octets ∷ behind) lists = shape_sized octets told lists.0
+pub packets_sized : (summary : RecordSummary) (made : List (List ℕ)) → ArePackets summary made
+    → IsShape (summary_shape summary)
+packets_sized summary [] lists = absurd lists
+packets_sized summary (octets ∷ following) lists = shape_sized octets summary lists.0
 
 -- ---- the packets of the whole publication
 
-module _ (packets after : List Packet) (pair : Pair) (made : List (List ℕ)) (told : Told)
-    (absent : contains part_cmp (keys packets) (part_of pair 0) ≡ false) (lists : ArePackets told made)
+module _ (packets after : List Packet) (pair : Pair) (made : List (List ℕ)) (summary : RecordSummary)
+    (absent : contains part_cmp (keys packets) (part_of pair 0) ≡ false) (lists : ArePackets summary made)
     (puts : after ≡ with_packets (as_parts pair 0 made) packets) where
   abbrev pub first_octets : List (List ℕ) → List ℕ
   first_octets [] = []
-  first_octets (octets ∷ behind) = octets
+  first_octets (octets ∷ following) = octets
 
   -- its record is stored
   record_stored : stored_at after pair 0 ≡ Some (first_octets made)
   record_stored = ap (λ (es : List Packet). stored_at es pair 0) puts ∙ go made lists where
-    go : (made : List (List ℕ)) → ArePackets told made
+    go : (made : List (List ℕ)) → ArePackets summary made
         → stored_at (with_packets (as_parts pair 0 made) packets) pair 0 ≡ Some (first_octets made)
     go [] h = absurd h
-    go (octets ∷ behind) h =
-        puts_aside pair 1 behind (with_packet (part_of pair 0) octets packets) (part_of pair 0)
+    go (octets ∷ following) h =
+        puts_aside pair 1 following (with_packet (part_of pair 0) octets packets) (part_of pair 0)
         (λ y h. later_part pair 0 y (omega (arith, h)))
         ∙ put_here packets (part_of pair 0) octets absent
 
-  first_told : option_map told_of (said_in (first_octets made)) ≡ Some told
-  first_told = go made lists where
-    go : (made : List (List ℕ)) → ArePackets told made
-        → option_map told_of (said_in (first_octets made)) ≡ Some told
+  first_reported : option_map summary_of (stated_in (first_octets made)) ≡ Some summary
+  first_reported = go made lists where
+    go : (made : List (List ℕ)) → ArePackets summary made
+        → option_map summary_of (stated_in (first_octets made)) ≡ Some summary
     go [] h = absurd h
-    go (octets ∷ behind) h = h.0
+    go (octets ∷ following) h = h.0
 
-  pub publication_told : option_map told_of (said_at after pair) ≡ Some told
-  publication_told =
-      ap (λ (o : Option (List ℕ)). option_map told_of (option_and_then said_in o)) record_stored ∙ first_told
+  pub publication_reported : option_map summary_of (stated_at after pair) ≡ Some summary
+  publication_reported =
+      ap (λ (o : Option (List ℕ)). option_map summary_of (option_and_then stated_in o)) record_stored ∙ first_reported
 
   none_before : stored_at packets pair 0 ≡ None
   none_before = none (stored_at packets pair 0) (sym (contains-value packets (part_of pair 0)) ∙ absent) where
@@ -350,10 +353,10 @@ module _ (packets after : List Packet) (pair : Pair) (made : List (List ℕ)) (t
   -- what is withdrawn
   pub withdrawn_published : (withdrawn : List Pair) → Rises part_cmp (keys packets) → Rises part_cmp (keys after)
       → ((q : Pair) → contains pair_cmp withdrawn q ≡ is_withdrawn packets q) → (q : Pair)
-      → (withdraws_too pair (Some told) q || contains pair_cmp withdrawn q) ≡ is_withdrawn after q
+      → (withdraws_too pair (Some summary) q || contains pair_cmp withdrawn q) ≡ is_withdrawn after q
   withdrawn_published withdrawn before later were q =
       ap (λ (b : Bool). b || contains pair_cmp withdrawn q)
-      (sym (withdraws_told pair (first_octets made) told first_told q))
+      (sym (withdraws_reported pair (first_octets made) summary first_reported q))
       ∙ ap (λ (b : Bool). withdraws q (pair, first_octets made) || b) (were q)
       ∙ sym (withdrawn_more packets after pair before later (λ k other. others_aside k other 0) (first_octets made)
       none_before record_stored q)

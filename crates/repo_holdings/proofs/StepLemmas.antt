@@ -13,20 +13,20 @@ use Rattle.repo_plan.specs.Parts.{Pair, pair_cmp, part_cmp, pair_of, part_of}
 use Rattle.repo_plan.specs.Plan.{PlanState, holds, is_asked}
 use Rattle.repo_plan.proofs.Orders.{exact_pairs}
 use Rattle.repo_object.specs.Publication.{Listed}
-use Rattle.repo_object.specs.Verdict.{said_in}
+use Rattle.repo_object.specs.Verdict.{stated_in}
 use Rattle.repo_store.specs.StoreList.{with_packet}
 use Rattle.repo_catalog.specs.declared.entry.Entry.{Entry}
 use Rattle.repo_holdings.specs.declared.changes.Change.TheVariants.{Nothing, Removes}
-use Rattle.repo_holdings.specs.declared.told.Told.{Told}
-use Rattle.repo_holdings.specs.declared.told.Told.TheVariants.{Object, Withdrawal}
+use Rattle.repo_holdings.specs.declared.record_summary.RecordSummary.{RecordSummary}
+use Rattle.repo_holdings.specs.declared.record_summary.RecordSummary.TheVariants.{Object, Withdrawal}
 use Rattle.repo_holdings.specs.Records.{Packet}
-use Rattle.repo_holdings.specs.Listed.{stored_at, listing_in, said_at, listing_at, whole_at, entry_at, entry_listed}
-use Rattle.repo_holdings.specs.Listed.{withdraws, is_withdrawn, alone_catalogue}
+use Rattle.repo_holdings.specs.Listed.{stored_at, listing_in, stated_at, listing_at, whole_at, entry_at, entry_listed}
+use Rattle.repo_holdings.specs.Listed.{withdraws, is_withdrawn, member_catalogue}
 use Rattle.repo_holdings.specs.Noted.{NotesState, AreNotes}
-use Rattle.repo_holdings.specs.Gaining.{AreTied, IsArrival, told_of, with_listed}
+use Rattle.repo_holdings.specs.Gaining.{AreTied, IsArrival, summary_of, with_listed}
 use Rattle.repo_holdings.specs.Changing.{changed, change_by, lists_entry, withdraws_too}
 use Rattle.repo_holdings.proofs.CatalogueLemmas.{relisted, unlisted, same_entry, entry_of_none}
-use Rattle.repo_holdings.proofs.WithdrawnLemmas.{withdrawn_same, withdrawn_more, withdraws_told}
+use Rattle.repo_holdings.proofs.WithdrawnLemmas.{withdrawn_same, withdrawn_more, withdraws_reported}
 use Rattle.repo_holdings.proofs.NotedLemmas.{withdrawal_lists_none}
 use Rattle.repo_holdings.proofs.GainingLemmas.{absent, contains-value, put_rises, other_pairs, record_put}
 use Rattle.repo_holdings.proofs.AskedLemmas.{asked_segment}
@@ -41,21 +41,21 @@ module _ (old new : List Packet) (pair : Pair) (withdrawn : List Pair) (old_orde
     (were : (q : Pair) → contains pair_cmp withdrawn q ≡ is_withdrawn old q) where
   -- nothing is withdrawn newly
   nothing_more : ((q : Pair) → contains pair_cmp withdrawn q ≡ is_withdrawn new q)
-      → alone_catalogue new ≡ changed (lists_entry (entry_at new pair)) (alone_catalogue old)
+      → member_catalogue new ≡ changed (lists_entry (entry_at new pair)) (member_catalogue old)
   nothing_more are =
       relisted old new pair old_order new_order
       (λ q other. same_entry old new q (others q other) (sym (are q) ∙ were q)) (entry_of_none old pair before)
       ∙ go (entry_at new pair) where
         go : (o : Option Entry)
-            → with_listed o (alone_catalogue old) ≡ changed (lists_entry o) (alone_catalogue old)
+            → with_listed o (member_catalogue old) ≡ changed (lists_entry o) (member_catalogue old)
         go None = refl
         go (Some e) = refl
 
   -- a publication is withdrawn, by one that has no entry
   one_more : (seq : ℕ) → whole_at new pair ≡ None
       → ((q : Pair) → (eq_by_cmp pair_cmp q (pair.0, seq) || contains pair_cmp withdrawn q) ≡ is_withdrawn new q)
-      → alone_catalogue new
-      ≡ changed (cond (contains pair_cmp withdrawn (pair.0, seq)) Nothing (Removes pair.0 seq)) (alone_catalogue old)
+      → member_catalogue new
+      ≡ changed (cond (contains pair_cmp withdrawn (pair.0, seq)) Nothing (Removes pair.0 seq)) (member_catalogue old)
   one_more seq none are = go (contains pair_cmp withdrawn (pair.0, seq)) refl where
     w : Pair
     w = (pair.0, seq)
@@ -74,11 +74,11 @@ module _ (old new : List Packet) (pair : Pair) (withdrawn : List Pair) (old_orde
       at false p = same_entry old new q (others q p) same
 
     go : (b : Bool) → contains pair_cmp withdrawn w ≡ b
-        → alone_catalogue new ≡ changed (cond b Nothing (Removes pair.0 seq)) (alone_catalogue old)
+        → member_catalogue new ≡ changed (cond b Nothing (Removes pair.0 seq)) (member_catalogue old)
     go true p =
         relisted old new pair old_order new_order (λ q other. entry_there q (all q))
         (entry_of_none old pair before)
-        ∙ ap (λ (o : Option Entry). with_listed o (alone_catalogue old)) (entry_of_none new pair none) where
+        ∙ ap (λ (o : Option Entry). with_listed o (member_catalogue old)) (entry_of_none new pair none) where
           all : (q : Pair) → is_withdrawn new q ≡ is_withdrawn old q
           all q = at (eq_by_cmp pair_cmp q w) refl where
             at : (b : Bool) → eq_by_cmp pair_cmp q w ≡ b → is_withdrawn new q ≡ is_withdrawn old q
@@ -92,10 +92,11 @@ module _ (old new : List Packet) (pair : Pair) (withdrawn : List Pair) (old_orde
         (ap (λ (b : Bool). cond b None (whole_at new w))
         (sym (are w) ∙ ap (λ (b : Bool). b || contains pair_cmp withdrawn w) (eq_itself exact_pairs w)))
 
-  -- the catalogue changes by what is told
-  pub catalogue_changed : (told : Option Told) → IfSome told (λ x. option_map told_of (said_at new pair) ≡ Some x)
-      → ((q : Pair) → (withdraws_too pair told q || contains pair_cmp withdrawn q) ≡ is_withdrawn new q)
-      → alone_catalogue new ≡ changed (change_by withdrawn pair told (entry_at new pair)) (alone_catalogue old)
+  -- the catalogue changes by what is reported
+  pub catalogue_changed : (summary : Option RecordSummary)
+      → IfSome summary (λ x. option_map summary_of (stated_at new pair) ≡ Some x)
+      → ((q : Pair) → (withdraws_too pair summary q || contains pair_cmp withdrawn q) ≡ is_withdrawn new q)
+      → member_catalogue new ≡ changed (change_by withdrawn pair summary (entry_at new pair)) (member_catalogue old)
   catalogue_changed None says are = nothing_more are
   catalogue_changed (Some (Object shape name)) says are = nothing_more are
   catalogue_changed (Some (Withdrawal seq)) says are =
@@ -105,8 +106,8 @@ module _ (old new : List Packet) (pair : Pair) (withdrawn : List Pair) (old_orde
 -- ---- one packet that came
 
 module _ (plan : PlanState) (packets after : List Packet) (notes : NotesState) (t : Part) (octets : List ℕ)
-    (told : Option Told) (tied : AreTied plan packets) (noted : AreNotes notes packets)
-    (arrival : IsArrival packets t octets told) (asked : is_asked plan t ≡ true) (missing : holds plan t ≡ false)
+    (summary : Option RecordSummary) (tied : AreTied plan packets) (noted : AreNotes notes packets)
+    (arrival : IsArrival packets t octets summary) (asked : is_asked plan t ≡ true) (missing : holds plan t ≡ false)
     (puts : after ≡ with_packet t octets packets) where
   gone : contains part_cmp (keys packets) t ≡ false
   gone = absent plan packets t octets None tied missing
@@ -126,44 +127,44 @@ module _ (plan : PlanState) (packets after : List Packet) (notes : NotesState) (
   pub before_now : whole_at packets (pair_of t) ≡ None
   before_now = missing_unlisted plan packets t tied asked missing
 
-  -- what is told is said
-  pub said_now : IfSome told (λ x. option_map told_of (said_at after (pair_of t)) ≡ Some x)
-  said_now = go told (t.part == 0) refl arrival.tells where
-    go : (o : Option Told) (b : Bool) → (t.part == 0) ≡ b
-        → o ≡ cond b (option_map told_of (said_in octets)) None
-        → IfSome o (λ x. option_map told_of (said_at after (pair_of t)) ≡ Some x)
+  -- what is reported is said
+  pub stated_now : IfSome summary (λ x. option_map summary_of (stated_at after (pair_of t)) ≡ Some x)
+  stated_now = go summary (t.part == 0) refl arrival.tells where
+    go : (o : Option RecordSummary) (b : Bool) → (t.part == 0) ≡ b
+        → o ≡ cond b (option_map summary_of (stated_in octets)) None
+        → IfSome o (λ x. option_map summary_of (stated_at after (pair_of t)) ≡ Some x)
     go None b p h = tt
     go (Some x) false p h = absurd cc
     go (Some x) true p h =
-        ap (λ (r : Option (List ℕ)). option_map told_of (option_and_then said_in r))
+        ap (λ (r : Option (List ℕ)). option_map summary_of (option_and_then stated_in r))
         (record_now ∙ ap (λ (b : Bool). cond b (Some octets) (stored_at packets (pair_of t) 0)) p)
         ∙ sym h
 
-  behind : told ≡ None → (t.part == 0) ≡ false
-  behind none = sym arrival.record_part ∙ ap is_some none
+  following : summary ≡ None → (t.part == 0) ≡ false
+  following none = sym arrival.record_part ∙ ap is_some none
 
-  -- the name of the object is noted, if it is not told now
-  pub named_now : told ≡ None
+  -- the name of the object is noted, if it is not reported now
+  pub named_now : summary ≡ None
       → IsSomeAnd (listing_at after (pair_of t)) (λ l. value_of pair_cmp notes.names (pair_of t) ≡ Some l.name)
   named_now none =
-      let segment = asked_segment plan packets t tied asked (behind none) in
+      let segment = asked_segment plan packets t tied asked (following none) in
       let listed : listing_at after (pair_of t) ≡ Some segment.listing =
       ap (option_and_then listing_in)
-      (record_now ∙ ap (λ (b : Bool). cond b (Some octets) (stored_at packets (pair_of t) 0)) (behind none))
+      (record_now ∙ ap (λ (b : Bool). cond b (Some octets) (stored_at packets (pair_of t) 0)) (following none))
       ∙ segment.listed in
       subst (λ (o : Option Listed). IsSomeAnd o (λ l. value_of pair_cmp notes.names (pair_of t) ≡ Some l.name))
       (sym listed) (noted.names (pair_of t) segment.listing segment.listed before_now)
 
   -- what is withdrawn
   pub withdrawn_now : (q : Pair)
-      → (withdraws_too (pair_of t) told q || contains pair_cmp notes.withdrawn q) ≡ is_withdrawn after q
-  withdrawn_now q = go told (t.part == 0) refl arrival.tells arrival.record_part said_now where
+      → (withdraws_too (pair_of t) summary q || contains pair_cmp notes.withdrawn q) ≡ is_withdrawn after q
+  withdrawn_now q = go summary (t.part == 0) refl arrival.tells arrival.record_part stated_now where
     others_then : (k : Pair) → eq_by_cmp pair_cmp k (pair_of t) ≡ false → stored_at after k 0 ≡ stored_at packets k 0
     others_then k other = others_now k other 0
 
-    go : (o : Option Told) (b : Bool) → (t.part == 0) ≡ b
-        → o ≡ cond b (option_map told_of (said_in octets)) None → is_some o ≡ b
-        → IfSome o (λ x. option_map told_of (said_at after (pair_of t)) ≡ Some x)
+    go : (o : Option RecordSummary) (b : Bool) → (t.part == 0) ≡ b
+        → o ≡ cond b (option_map summary_of (stated_in octets)) None → is_some o ≡ b
+        → IfSome o (λ x. option_map summary_of (stated_at after (pair_of t)) ≡ Some x)
         → (withdraws_too (pair_of t) o q || contains pair_cmp notes.withdrawn q) ≡ is_withdrawn after q
     go None true p h is says = absurd (true≢false (sym is))
     go (Some x) false p h is says = absurd (true≢false is)
@@ -173,7 +174,7 @@ module _ (plan : PlanState) (packets after : List Packet) (notes : NotesState) (
         (record_now ∙ ap (λ (b : Bool). cond b (Some octets) (stored_at packets (pair_of t) 0)) p) q)
     go (Some x) true p h is says =
         ap (λ (b : Bool). b || contains pair_cmp notes.withdrawn q)
-        (sym (withdraws_told (pair_of t) octets x (sym h) q))
+        (sym (withdraws_reported (pair_of t) octets x (sym h) q))
         ∙ ap (λ (b : Bool). withdraws q (pair_of t, octets) || b) (noted.withdrawn q)
         ∙ sym (withdrawn_more packets after (pair_of t) tied.in_order rises_now others_then octets
         (none_before (stored_at packets (pair_of t) 0)
@@ -185,8 +186,8 @@ module _ (plan : PlanState) (packets after : List Packet) (notes : NotesState) (
           none_before None h = refl
           none_before (Some x) h = absurd (true≢false h)
 
-  pub changed_now : alone_catalogue after
-      ≡ changed (change_by notes.withdrawn (pair_of t) told (entry_at after (pair_of t))) (alone_catalogue packets)
+  pub changed_now : member_catalogue after
+      ≡ changed (change_by notes.withdrawn (pair_of t) summary (entry_at after (pair_of t))) (member_catalogue packets)
   changed_now =
       catalogue_changed packets after (pair_of t) notes.withdrawn tied.in_order rises_now others_now before_now
-      noted.withdrawn told said_now withdrawn_now
+      noted.withdrawn summary stated_now withdrawn_now

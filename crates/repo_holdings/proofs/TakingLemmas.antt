@@ -25,14 +25,14 @@ use Rattle.repo_plan.specs.Plan.{PlanState, holds, is_asked, is_claimed, shape_o
 use Rattle.repo_plan.proofs.Changes.{Keeps, asked_kept}
 use Rattle.repo_plan.proofs.Orders.{exact_parts}
 use Rattle.sorted_lists.proofs.Sets.{eq_same, eq_itself, value_of-with_value}
-use Rattle.repo_object.specs.Publication.{Listed, RecordSays, shape_said}
-use Rattle.repo_object.specs.Verdict.{said_in}
+use Rattle.repo_object.specs.Publication.{Listed, RecordSays, shape_stated}
+use Rattle.repo_object.specs.Verdict.{stated_in}
 use Rattle.repo_holdings.specs.Records.{Packet}
-use Rattle.repo_holdings.specs.Listed.{stored_at, listing_in, said_at, listing_at}
+use Rattle.repo_holdings.specs.Listed.{stored_at, listing_in, stated_at, listing_at}
 use Rattle.repo_holdings.specs.StoredParents.{index_count, lists_at, ListsAsMany}
 use Rattle.repo_holdings.specs.Gaining.{AreTied, IsArrival}
-use Rattle.repo_holdings.specs.declared.told.Arrival.{Arrival}
-use Rattle.repo_holdings.specs.declared.told.Told.{Told}
+use Rattle.repo_holdings.specs.declared.record_summary.Arrival.{Arrival}
+use Rattle.repo_holdings.specs.declared.record_summary.RecordSummary.{RecordSummary}
 use Rattle.repo_holdings.specs.declared.holdings.taking.Tried.{Tried}
 use Rattle.repo_holdings.specs.declared.holdings.Holdings.TheInside.{Inside}
 use Rattle.repo_holdings.specs.HoldingsState.{HoldingsState, held_plan}
@@ -88,12 +88,13 @@ module _ (old new : PlanState) (packets after : List Packet) (x : Tried) (was : 
   record_still pair octets there =
       packets_aside (part_of pair 0) (stored_apart (part_of pair 0) octets there) ∙ there
 
-  said_still : (pair : Pair) (says : RecordSays) → said_at packets pair ≡ Some says → said_at after pair ≡ Some says
-  said_still pair says said = go (stored_at packets pair 0) refl said where
-    go : (o : Option (List ℕ)) → stored_at packets pair 0 ≡ o → option_and_then said_in o ≡ Some says
-        → said_at after pair ≡ Some says
+  stated_still : (pair : Pair) (says : RecordSays) → stated_at packets pair ≡ Some says → stated_at after pair
+      ≡ Some says
+  stated_still pair says stated = go (stored_at packets pair 0) refl stated where
+    go : (o : Option (List ℕ)) → stored_at packets pair 0 ≡ o → option_and_then stated_in o ≡ Some says
+        → stated_at after pair ≡ Some says
     go None p h = absurd cc
-    go (Some octets) p h = ap (option_and_then said_in) (record_still pair octets p) ∙ h
+    go (Some octets) p h = ap (option_and_then stated_in) (record_still pair octets p) ∙ h
 
   listed_still : (pair : Pair) (l : Listed) → listing_at packets pair ≡ Some l → listing_at after pair ≡ Some l
   listed_still pair l listed = go (stored_at packets pair 0) refl listed where
@@ -108,7 +109,7 @@ module _ (old new : PlanState) (packets after : List Packet) (x : Tried) (was : 
     knows = λ pair h.
         ap (λ (known : List ℕ). nat_le 1 pair.1 && nat_le pair.1 (slice_index known pair.0)) others.known ∙ h;
     held = λ t h. held t h (value_of part_cmp packets t) refl;
-    shapes = λ pair n h. shapes pair n h (said_at packets pair) refl;
+    shapes = λ pair n h. shapes pair n h (stated_at packets pair) refl;
   } where
     held : (t : Part) → holds old t ≡ true → (o : Option (List ℕ)) → value_of part_cmp packets t ≡ o
         → holds new t ≡ true
@@ -118,13 +119,13 @@ module _ (old new : PlanState) (packets after : List Packet) (x : Tried) (was : 
         held_value new after (pair_of t) tied t ∙ ap is_some (packets_aside t (stored_apart t octets p) ∙ p)
 
     shapes : (pair : Pair) (n : Shape) → shape_of old pair ≡ Some n → (o : Option RecordSays)
-        → said_at packets pair ≡ o → shape_of new pair ≡ Some n
+        → stated_at packets pair ≡ o → shape_of new pair ≡ Some n
     shapes pair n h None p =
-        let both : option_map shape_said (said_at packets pair) ≡ Some n =
+        let both : option_map shape_stated (stated_at packets pair) ≡ Some n =
         sym (shape_stored old packets pair was) ∙ h in absurd cc
     shapes pair n h (Some says) p =
         shape_stored new after pair tied
-        ∙ ap (option_map shape_said) (said_still pair says p ∙ sym p)
+        ∙ ap (option_map shape_stated) (stated_still pair says p ∙ sym p)
         ∙ sym (shape_stored old packets pair was)
         ∙ h
 
@@ -133,9 +134,9 @@ module _ (old new : PlanState) (packets after : List Packet) (x : Tried) (was : 
   asked_still t asked = asked_kept old new t kept asked
 
   -- another part that came
-  arrival_still : (t : Part) (octets : List ℕ) (told : Option Told) → is_asked old t ≡ true
-      → IsArrival packets t octets told → IsArrival after t octets told
-  arrival_still t octets told asked is = record {
+  arrival_still : (t : Part) (octets : List ℕ) (summary : Option RecordSummary) → is_asked old t ≡ true
+      → IsArrival packets t octets summary → IsArrival after t octets summary
+  arrival_still t octets summary asked is = record {
     reads = is.reads;
     record_part = is.record_part;
     tells = is.tells;
@@ -169,10 +170,10 @@ module _ (old new : PlanState) (packets after : List Packet) (x : Tried) (was : 
     arrived = go y.arrival can.arrived;
     few = subst (λ (n : ℕ). n + y.attempts < 2097152) (sym tried) can.few;
   } where
-    go : (o : Option Arrival) → IfSome o (λ a. IsArrival packets y.part a.packet a.told)
-        → IfSome o (λ a. IsArrival after y.part a.packet a.told)
+    go : (o : Option Arrival) → IfSome o (λ a. IsArrival packets y.part a.packet a.summary)
+        → IfSome o (λ a. IsArrival after y.part a.packet a.summary)
     go None h = tt
-    go (Some a) h = arrival_still y.part a.packet a.told can.asked h
+    go (Some a) h = arrival_still y.part a.packet a.summary can.asked h
 
     tried : attempts_of new y.part ≡ attempts_of old y.part
     tried =
@@ -220,7 +221,7 @@ data_fits octets h =
 
 one_fits : (plan : PlanState) (packets : List Packet) (x : Tried) → CanBeTaken plan packets x → arrival_octets x ≤ 8800
 one_fits plan packets x can = go x.arrival can.arrived where
-  go : (o : Option Arrival) → IfSome o (λ a. IsArrival packets x.part a.packet a.told)
+  go : (o : Option Arrival) → IfSome o (λ a. IsArrival packets x.part a.packet a.summary)
       → length (unwrap_or (option_map (λ (a : Arrival). a.packet) o) []) ≤ 8800
   go None h = omega (arith)
   go (Some a) h = data_fits a.packet h.reads

@@ -15,11 +15,11 @@ use Rattle.repo_plan.specs.Parts.{Pair, pair_cmp, part_cmp}
 use Rattle.repo_plan.proofs.Orders.{exact_pairs}
 use Rattle.repo_object.specs.Publication.{RecordSays}
 use Rattle.repo_object.specs.Publication.RecordSays.{Lists, WithdrawsNumber}
-use Rattle.repo_object.specs.Verdict.{said_in}
-use Rattle.repo_holdings.specs.declared.told.Told.{Told}
+use Rattle.repo_object.specs.Verdict.{stated_in}
+use Rattle.repo_holdings.specs.declared.record_summary.RecordSummary.{RecordSummary}
 use Rattle.repo_holdings.specs.Records.{Packet, records_in}
 use Rattle.repo_holdings.specs.Listed.{stored_at, withdrawn_by, is_that, withdraws, is_withdrawn, is_withdrawal}
-use Rattle.repo_holdings.specs.Gaining.{told_of}
+use Rattle.repo_holdings.specs.Gaining.{summary_of}
 use Rattle.repo_holdings.specs.Changing.{withdraws_too}
 use Rattle.repo_holdings.proofs.SortedMaps.{absent, same_map}
 use Rattle.repo_holdings.proofs.RecordLemmas.{rises_records, value_of-records}
@@ -137,21 +137,23 @@ module _ (old new : List Packet) (pair : Pair) (old_order : Rises part_cmp (keys
 
         withdraws_none : (v : List ℕ) → stored_at old pair 0 ≡ Some v → withdraws q (pair, v) ≡ false
         withdraws_none v there =
-            no_more (option_and_then (withdrawn_by pair) (said_in v))
-            (ap (λ (o : Option (List ℕ)). is_some (option_and_then (withdrawn_by pair) (option_and_then said_in o)))
+            no_more (option_and_then (withdrawn_by pair) (stated_in v))
+            (ap (λ (o : Option (List ℕ)). is_some (option_and_then (withdrawn_by pair) (option_and_then stated_in o)))
             (sym there)
             ∙ object)
 
 -- ---- as it is told
 
--- what is told of a record withdraws what that does
-pub withdraws_told : (pair : Pair) (octets : List ℕ) (told : Told) → option_map told_of (said_in octets) ≡ Some told
-    → (q : Pair) → withdraws q (pair, octets) ≡ withdraws_too pair (Some told) q
-withdraws_told pair octets told h q = go (said_in octets) refl h where
-  go : (o : Option RecordSays) → said_in octets ≡ o → option_map told_of o ≡ Some told
-      → is_that q (option_and_then (withdrawn_by pair) o) ≡ withdraws_too pair (Some told) q
+-- what is reported of a record withdraws what that does
+pub withdraws_reported : (pair : Pair) (octets : List ℕ) (summary : RecordSummary)
+    → option_map summary_of (stated_in octets) ≡ Some summary
+    → (q : Pair) → withdraws q (pair, octets) ≡ withdraws_too pair (Some summary) q
+withdraws_reported pair octets summary h q = go (stated_in octets) refl h where
+  go : (o : Option RecordSays) → stated_in octets ≡ o → option_map summary_of o ≡ Some summary
+      → is_that q (option_and_then (withdrawn_by pair) o) ≡ withdraws_too pair (Some summary) q
   go None p t = absurd cc
   go (Some (Lists l)) p t =
-      let is : told_of (Lists l) ≡ told = cc in ap (λ (x : Told). withdraws_too pair (Some x) q) is
+      let is : summary_of (Lists l) ≡ summary = cc in ap (λ (x : RecordSummary). withdraws_too pair (Some x) q) is
   go (Some (WithdrawsNumber seq)) p t =
-      let is : told_of (WithdrawsNumber seq) ≡ told = cc in ap (λ (x : Told). withdraws_too pair (Some x) q) is
+      let is : summary_of (WithdrawsNumber seq) ≡ summary = cc in
+      ap (λ (x : RecordSummary). withdraws_too pair (Some x) q) is

@@ -8,8 +8,8 @@ use Rattle.repo_catalog.specs.declared.entry.Entry.{Entry}
 use Rattle.repo_catalog.specs.Entries.{with_entry, without}
 use Rattle.repo_holdings.specs.declared.changes.Change.{Change}
 use Rattle.repo_holdings.specs.declared.changes.Change.TheVariants.{Nothing, Lists, Removes}
-use Rattle.repo_holdings.specs.declared.told.Told.{Told}
-use Rattle.repo_holdings.specs.declared.told.Told.TheVariants.{Object, Withdrawal}
+use Rattle.repo_holdings.specs.declared.record_summary.RecordSummary.{RecordSummary}
+use Rattle.repo_holdings.specs.declared.record_summary.RecordSummary.TheVariants.{Object, Withdrawal}
 use Rattle.repo_holdings.specs.Records.{Packet}
 use Rattle.repo_holdings.specs.Listed.{listing_at, whole_at, is_withdrawn}
 use Rattle.repo_holdings.specs.Noted.{NotesState}
@@ -20,8 +20,8 @@ changed Nothing entries = entries
 changed (Lists e) entries = with_entry e entries
 changed (Removes publisher seq) entries = without (publisher, seq) entries
 
--- whether a publication is withdrawn by what is told of another
-abbrev pub withdraws_too : Pair → Option Told → Pair → Bool
+-- whether a publication is withdrawn by what is reported of another
+abbrev pub withdraws_too : Pair → Option RecordSummary → Pair → Bool
 withdraws_too pair None q = false
 withdraws_too pair (Some (Object shape name)) q = false
 withdraws_too pair (Some (Withdrawal seq)) q = eq_by_cmp pair_cmp q (pair.0, seq)
@@ -31,9 +31,9 @@ abbrev pub lists_entry : Option Entry → Change
 lists_entry None = Nothing
 lists_entry (Some e) = Lists e
 
--- what changes by what is told newly of a publication: what it withdraws is removed, unless that was withdrawn before,
--- and else its own entry is listed, if there is one
-abbrev pub change_by : List Pair → Pair → Option Told → Option Entry → Change
+-- what changes by what is reported newly of a publication: what it withdraws is removed, unless that was withdrawn
+-- before, and else its own entry is listed, if there is one
+abbrev pub change_by : List Pair → Pair → Option RecordSummary → Option Entry → Change
 change_by withdrawn pair None entry = lists_entry entry
 change_by withdrawn pair (Some (Object shape name)) entry = lists_entry entry
 change_by withdrawn pair (Some (Withdrawal seq)) entry =

@@ -9,25 +9,25 @@ use Rattle.sorted_lists.specs.SortedList.{Rises, keys, value_of}
 use Rattle.repo_plan.specs.Plan.{PlanState}
 use Rattle.repo_object.specs.Publication.{RecordSays}
 use Rattle.repo_object.specs.Publication.RecordSays.{Lists, WithdrawsNumber}
-use Rattle.repo_object.specs.Verdict.{said_in}
+use Rattle.repo_object.specs.Verdict.{stated_in}
 use Rattle.repo_store.specs.StoreList.{StoreList}
 use Rattle.repo_catalog.specs.declared.entry.Entry.{Entry}
 use Rattle.repo_catalog.specs.Entries.{EntryList, with_entry}
-use Rattle.repo_holdings.specs.declared.told.Told.{Told}
-use Rattle.repo_holdings.specs.declared.told.Told.TheVariants.{Object, Withdrawal}
+use Rattle.repo_holdings.specs.declared.record_summary.RecordSummary.{RecordSummary}
+use Rattle.repo_holdings.specs.declared.record_summary.RecordSummary.TheVariants.{Object, Withdrawal}
 use Rattle.repo_holdings.specs.Records.{Packet}
-use Rattle.repo_holdings.specs.Listed.{stored_at, said_at, listed_shape, shapes_in, alone_catalogue}
+use Rattle.repo_holdings.specs.Listed.{stored_at, stated_at, listed_shape, shapes_in, member_catalogue}
 use Rattle.repo_holdings.specs.StoredParents.{lists_at, ListsAsMany}
 use Rattle.repo_holdings.specs.Noted.{NotesState, AreNotes}
 
--- a plan holds what is stored, and knows what the stored records tell; behind each stored part stands a stored record,
+-- a plan holds what is stored, and knows what the stored records tell; after each stored part stands a stored record,
 -- and each stored index packet lists as many digests as it has to
 pub record AreTied (plan : PlanState) (packets : List Packet) : Type 0 where
   pub in_order : Rises part_cmp (keys packets)
   pub held : plan.held ≡ keys packets
   pub shapes : plan.shapes ≡ shapes_in packets
   pub recorded : (pair : Pair) (x : ℕ) → is_some (stored_at packets pair x) ≡ true
-      → is_some (said_at packets pair) ≡ true
+      → is_some (stated_at packets pair) ≡ true
   pub indexed : (t : Part) (octets : List ℕ) → value_of part_cmp packets t ≡ Some octets
       → ListsAsMany octets (lists_at packets t)
 
@@ -37,7 +37,7 @@ pub record AreKept (plan : PlanState) (packets : List Packet) (notes : NotesStat
   where
     pub tied : AreTied plan packets
     pub noted : AreNotes notes packets
-    pub listed : entries ≡ alone_catalogue packets
+    pub listed : entries ≡ member_catalogue packets
 
 -- with one more entry, if there is one
 abbrev pub with_listed : Option Entry → List Entry → List Entry
@@ -55,29 +55,30 @@ pub record HaveRoom (n : ℕ) (plan : PlanState) (store : StoreList) (notes : No
 
 -- ---- packets that come
 
--- what a record tells of its publication that says this
-abbrev pub told_of : RecordSays → Told
-told_of (Lists l) = Object (listed_shape l) l.name
-told_of (WithdrawsNumber seq) = Withdrawal seq
+-- what a record says of its publication that says this
+abbrev pub summary_of : RecordSays → RecordSummary
+summary_of (Lists l) = Object (listed_shape l) l.name
+summary_of (WithdrawsNumber seq) = Withdrawal seq
 
 -- which parts the publication has: a withdrawal has its record alone
-abbrev pub shape_told : Told → Shape
-shape_told (Object shape name) = shape
-shape_told (Withdrawal seq) = shape_of_segments 0
+abbrev pub summary_shape : RecordSummary → Shape
+summary_shape (Object shape name) = shape
+summary_shape (Withdrawal seq) = shape_of_segments 0
 
 -- what the packet of a part tells: nothing, unless the part is a record
-abbrev pub told_in : Part → List ℕ → Option Told
-told_in t octets = if t.part == 0 then option_map told_of (said_in octets) else None
+abbrev pub summary_in : Part → List ℕ → Option RecordSummary
+summary_in t octets = if t.part == 0 then option_map summary_of (stated_in octets) else None
 
 -- which parts its publication has then
-abbrev pub told_shape : Part → List ℕ → Option Shape
-told_shape t octets = option_map shape_told (told_in t octets)
+abbrev pub shape_in_summary : Part → List ℕ → Option Shape
+shape_in_summary t octets = option_map summary_shape (summary_in t octets)
 
--- a packet that came for a part, with what it tells of its publication
-pub record IsArrival (packets : List Packet) (t : Part) (octets : List ℕ) (told : Option Told) : Type 0 where
+-- a packet that came for a part, with what it says of its publication
+pub record IsArrival (packets : List Packet) (t : Part) (octets : List ℕ) (summary : Option RecordSummary) : Type
+    0 where
   pub reads : IsOk (data_of octets)
-  pub record_part : is_some told ≡ (t.part == 0)
-  pub tells : told ≡ told_in t octets
+  pub record_part : is_some summary ≡ (t.part == 0)
+  pub tells : summary ≡ summary_in t octets
   pub lists : ListsAsMany octets (lists_at packets t)
 
 -- a plan in which nothing changed but what is held

@@ -8,12 +8,12 @@ use Rattle.std.specs.Ordering.{eq_by_cmp}
 use Rattle.sha2.specs.Sha256.{sha256}
 use Rattle.sorted_lists.specs.Range.{numbers_from}
 use Rattle.sorted_lists.specs.SortedList.{value_of}
-use Rattle.repo_plan.specs.Parts.{Pair, pair_cmp, part_cmp, part_of, parts_behind, shape_of_segments}
+use Rattle.repo_plan.specs.Parts.{Pair, pair_cmp, part_cmp, part_of, parts_after, shape_of_segments}
 use Rattle.repo_plan.specs.declared.shape.Shape.{Shape}
-use Rattle.repo_object.specs.Publication.{Listed, RecordSays, shape_said}
+use Rattle.repo_object.specs.Publication.{Listed, RecordSays, shape_stated}
 use Rattle.repo_object.specs.Publication.RecordSays.{Lists, WithdrawsNumber}
 use Rattle.repo_object.specs.Packets.{packet_content}
-use Rattle.repo_object.specs.Verdict.{said_in}
+use Rattle.repo_object.specs.Verdict.{stated_in}
 use Rattle.repo_catalog.specs.declared.entry.Entry.{Entry}
 use Rattle.repo_holdings.specs.KeptValues.{kept_values}
 use Rattle.repo_holdings.specs.Records.{Packet, records_in}
@@ -25,9 +25,9 @@ stored_at packets pair x = value_of part_cmp packets (part_of pair x)
 -- ---- what records say
 
 -- the object that a record lists; a withdrawal lists none
-abbrev pub object_said : RecordSays → Option Listed
-object_said (Lists l) = Some l
-object_said (WithdrawsNumber seq) = None
+abbrev pub object_stated : RecordSays → Option Listed
+object_stated (Lists l) = Some l
+object_stated (WithdrawsNumber seq) = None
 
 -- the publication that the record of another withdraws, which has the same publisher
 abbrev pub withdrawn_by : Pair → RecordSays → Option Pair
@@ -40,19 +40,19 @@ listed_shape l = shape_of_segments l.segments
 
 -- the object that the record lists that a packet is
 abbrev pub listing_in : List ℕ → Option Listed
-listing_in octets = option_and_then object_said (said_in octets)
+listing_in octets = option_and_then object_stated (stated_in octets)
 
 -- what the stored record of a publication says
-abbrev pub said_at : List Packet → Pair → Option RecordSays
-said_at packets pair = option_and_then said_in (stored_at packets pair 0)
+abbrev pub stated_at : List Packet → Pair → Option RecordSays
+stated_at packets pair = option_and_then stated_in (stored_at packets pair 0)
 
 -- the object that it lists
 abbrev pub listing_at : List Packet → Pair → Option Listed
 listing_at packets pair = option_and_then listing_in (stored_at packets pair 0)
 
--- by publication, which parts each stored record tells of
+-- by publication, which parts each stored record reports
 abbrev pub shapes_in : List Packet → List (Pair × Shape)
-shapes_in packets = kept_values (λ pair octets. option_map shape_said (said_in octets)) (records_in packets)
+shapes_in packets = kept_values (λ pair octets. option_map shape_stated (stated_in octets)) (records_in packets)
 
 -- ---- withdrawals
 
@@ -63,7 +63,7 @@ is_that pair (Some q) = eq_by_cmp pair_cmp pair q
 
 -- whether a publication is withdrawn by the record of another
 abbrev pub withdraws : Pair → Pair × List ℕ → Bool
-withdraws pair e = is_that pair (option_and_then (withdrawn_by e.0) (said_in e.1))
+withdraws pair e = is_that pair (option_and_then (withdrawn_by e.0) (stated_in e.1))
 
 -- whether a publication is withdrawn by a stored record
 abbrev pub is_withdrawn : List Packet → Pair → Bool
@@ -71,7 +71,7 @@ is_withdrawn packets pair = list_any (withdraws pair) (records_in packets)
 
 -- whether a publication is a withdrawal, as its stored record says
 abbrev pub is_withdrawal : List Packet → Pair → Bool
-is_withdrawal packets pair = is_some (option_and_then (withdrawn_by pair) (said_at packets pair))
+is_withdrawal packets pair = is_some (option_and_then (withdrawn_by pair) (stated_at packets pair))
 
 -- ---- contents
 
@@ -83,13 +83,13 @@ stored_content packets pair x = packet_content (unwrap_or (stored_at packets pai
 abbrev pub contents_from : List Packet → Pair → ℕ → ℕ → List ℕ
 contents_from packets pair x n = flat_map (stored_content packets pair) (numbers_from x n)
 
--- the contents of the segments of a publication of that shape, which stand behind its index packets
+-- the contents of the segments of a publication of that shape, which stand after its index packets
 abbrev pub contents_joined : List Packet → Pair → Shape → List ℕ
 contents_joined packets pair shape = contents_from packets pair (shape.index + 1) shape.segments
 
 -- ---- objects that are stored wholly
 
--- whether the first so many parts behind the record of a publication are stored
+-- whether the first so many parts after the record of a publication are stored
 abbrev pub are_stored : List Packet → Pair → ℕ → Bool
 are_stored packets pair n = list_all (λ x. is_some (stored_at packets pair x)) (numbers_from 1 n)
 
@@ -104,12 +104,12 @@ entry_of_listing packets pair l = record {
   digest = sha256 (contents_joined packets pair (listed_shape l));
 }
 
--- the same, where every part behind the record is stored
+-- the same, where every part after the record is stored
 abbrev pub entry_listed : List Packet → Pair → Listed → Option Entry
 entry_listed packets pair l =
-    if are_stored packets pair (parts_behind (listed_shape l)) then Some (entry_of_listing packets pair l) else None
+    if are_stored packets pair (parts_after (listed_shape l)) then Some (entry_of_listing packets pair l) else None
 
--- the entry of an object whose record is stored, and every part behind it
+-- the entry of an object whose record is stored, and every part after it
 abbrev pub whole_at : List Packet → Pair → Option Entry
 whole_at packets pair = option_and_then (entry_listed packets pair) (listing_at packets pair)
 
@@ -128,5 +128,5 @@ entries_in packets =
     (records_in packets)
 
 -- the catalogue of who has these packets: an entry for each such object, in order
-abbrev pub alone_catalogue : List Packet → List Entry
-alone_catalogue packets = map (λ e. e.1) (entries_in packets)
+abbrev pub member_catalogue : List Packet → List Entry
+member_catalogue packets = map (λ e. e.1) (entries_in packets)

@@ -1,16 +1,16 @@
 -- Publications that are held from their beginning on.
 use Rattle.std.specs.Prelude.{◌≡◌, ℕ, ◌+◌, ◌-◌, true, false, List, [], ◌∷◌, length, Option, Some, option_map}
 use Rattle.std.specs.Option.{option_and_then}
-use Rattle.repo_plan.specs.Parts.{Pair, part_of, parts_behind}
+use Rattle.repo_plan.specs.Parts.{Pair, part_of, parts_after}
 use Rattle.repo_plan.specs.Plan.{PlanState, knows, holds, hides, is_claimed}
 use Rattle.repo_object.specs.Publication.{Listed}
-use Rattle.repo_object.specs.Verdict.{said_in}
+use Rattle.repo_object.specs.Verdict.{stated_in}
 use Rattle.repo_store.specs.StoreList.{with_packet}
-use Rattle.repo_holdings.specs.declared.told.Told.{Told}
+use Rattle.repo_holdings.specs.declared.record_summary.RecordSummary.{RecordSummary}
 use Rattle.repo_holdings.specs.Records.{Packet}
 use Rattle.repo_holdings.specs.Listed.{listing_in}
 use Rattle.repo_holdings.specs.StoredParents.{index_count, ListsAsMany}
-use Rattle.repo_holdings.specs.Gaining.{told_of, shape_told}
+use Rattle.repo_holdings.specs.Gaining.{summary_of, summary_shape}
 use Rattle.repo_holdings.specs.HoldingsState.{HoldingsState}
 
 -- with these packets too
@@ -30,13 +30,13 @@ ListInTurn l x [] = Unit {0}
 ListInTurn l x (octets ∷ more) =
     ListsAsMany octets (option_and_then (index_count x) l) × ListInTurn l (x + 1) more
 
--- the packets of a publication that is told of so, the record, the index packets, and then the segments: the first is a
--- record that tells this, and the others are those after it
-abbrev pub ArePackets : Told → List (List ℕ) → Type 0
-ArePackets told [] = ⊥
-ArePackets told (octets ∷ behind) =
-    (option_map told_of (said_in octets) ≡ Some told)
-    × ((length behind ≡ parts_behind (shape_told told)) × ListInTurn (listing_in octets) 1 behind)
+-- the packets of a publication that is reported of so, the record, the index packets, and then the segments: the first
+-- is a record that tells this, and the others are those after it
+abbrev pub ArePackets : RecordSummary → List (List ℕ) → Type 0
+ArePackets summary [] = ⊥
+ArePackets summary (octets ∷ following) =
+    (option_map summary_of (stated_in octets) ≡ Some summary)
+    × ((length following ≡ parts_after (summary_shape summary)) × ListInTurn (listing_in octets) 1 following)
 
 -- a known publication of which the plan has nothing
 pub record IsNew (plan : PlanState) (pair : Pair) : Type 0 where

@@ -3,7 +3,7 @@ use Rattle.std.specs.Prelude.{◌≡◌, ℕ, ◌-◌, ◌*◌, ◌<◌, ◌≤�
 use Rattle.std.specs.Prelude.{IfSome, IsSome, slice_get, unwrap_or, if◌then◌else◌}
 use Rattle.std.specs.Option.{option_and_then}
 use Rattle.repo_plan.specs.declared.part.Part.{Part}
-use Rattle.repo_plan.specs.Parts.{Pair, most_listed, pair_of, parent, parent_number, parts_behind}
+use Rattle.repo_plan.specs.Parts.{Pair, most_listed, pair_of, parent, parent_number, parts_after}
 use Rattle.repo_plan.specs.declared.shape.Shape.{Shape}
 use Rattle.repo_object.specs.Publication.{Listed}
 use Rattle.repo_object.specs.Verdict.{index_in}
@@ -19,7 +19,7 @@ index_count x l =
     else if nat_le x (listed_shape l).index then Some (listed_in l.segments (x - 1))
     else None
 
--- how many digests the packet of a part has to list, as the stored record tells: only index packets list some
+-- how many digests the packet of a part must list, as the stored record tells: only index packets list some
 abbrev pub lists_at : List Packet → Part → Option ℕ
 lists_at packets t = option_and_then (index_count t.part) (listing_at packets (pair_of t))
 
@@ -52,10 +52,10 @@ digest_at packets t l =
 
 -- a part is not the record, and what lists it is stored: the record, and the index packet where it stands in one
 pub record HasParent (packets : List Packet) (t : Part) : Type 0 where
-  pub behind : 0 < t.part
+  pub following : 0 < t.part
   pub listing : Listed
   pub listed : listing_at packets (pair_of t) ≡ Some listing
-  pub counted : t.part ≤ parts_behind (listed_shape listing)
+  pub counted : t.part ≤ parts_after (listed_shape listing)
   pub index : 0 < parent_number (listed_shape listing) t.part
       → IsSome (index_at packets (pair_of t) listing.segments (parent_number (listed_shape listing) t.part))
 
@@ -71,7 +71,7 @@ pub record IsStoredParent (packets : List Packet) (r : StoredParent) : Type 0 wh
 
 -- it lists this part
 pub record IsListedBy (packets : List Packet) (t : Part) (r : StoredParent) : Type 0 where
-  pub behind : 0 < t.part
-  pub counted : t.part ≤ parts_behind r.shape
+  pub following : 0 < t.part
+  pub counted : t.part ≤ parts_after r.shape
   pub stored : IsStoredParent packets r
   pub lists : r.part ≡ parent r.shape t

@@ -13,7 +13,7 @@ use Rattle.repo_store.specs.StoreList.{with_packet}
 use Rattle.repo_catalog.specs.declared.entry.Entry.{Entry}
 use Rattle.repo_catalog.specs.Entries.{with_entries, without_all, AreApart, IsCatalogue}
 use Rattle.repo_holdings.specs.Records.{Packet}
-use Rattle.repo_holdings.specs.Listed.{is_withdrawn, alone_catalogue}
+use Rattle.repo_holdings.specs.Listed.{is_withdrawn, member_catalogue}
 use Rattle.repo_holdings.specs.Gaining.{KeepsOthers, IsArrival}
 use Rattle.repo_holdings.specs.HoldingsState.{HoldingsState}
 use Rattle.repo_holdings.specs.declared.holdings.taking.Tried.{Tried}
@@ -54,7 +54,7 @@ pub record CanBeTaken (plan : PlanState) (packets : List Packet) (x : Tried) : T
   pub not_held : holds plan x.part ≡ false
   pub not_hidden : hides plan (pair_of x.part) ≡ false
   pub not_claimed : is_claimed plan x.part ≡ false
-  pub arrived : IfSome x.arrival (λ a. IsArrival packets x.part a.packet a.told)
+  pub arrived : IfSome x.arrival (λ a. IsArrival packets x.part a.packet a.summary)
   pub few : attempts_of plan x.part + x.attempts < 2097152
 
 -- the same of each of different parts
@@ -104,7 +104,7 @@ AreApartPairs pairs = (pair : Pair) → length (filter (eq_by_cmp pair_cmp pair)
 -- the entries of the objects that are stored wholly and not withdrawn
 pub record AreListedWith (fresh : List Entry) (gone : List Pair) (entries : List Entry) (packets : List Packet)
     : Type 0 where
-  pub listed : without_all gone (with_entries fresh entries) ≡ alone_catalogue packets
+  pub listed : without_all gone (with_entries fresh entries) ≡ member_catalogue packets
   pub withdrawn : (pair : Pair) → contains pair_cmp gone pair ≡ true → is_withdrawn packets pair ≡ true
   pub apart : AreApart fresh
   pub apart_gone : AreApartPairs gone

@@ -17,19 +17,19 @@ use Rattle.repo_holdings.specs.HoldingsState.{HoldingsState, held_plan}
 abbrev pub nothing_listed : Listed
 nothing_listed = record { name = []; segments = 0; digests = [] }
 
--- the want of a part behind a record that lists this, of a publication of that node: an index packet is asked for as
+-- the want of a part after a record that lists this, of a publication of that node: an index packet is asked for as
 -- the record lists it, a segment as the record or its index packet does
-abbrev pub want_behind : List Component → List Component → List Packet → Part → Listed → WantedPart
-want_behind node group stored t l =
+abbrev pub want_after : List Component → List Component → List Packet → Part → Listed → WantedPart
+want_after node group stored t l =
     if nat_le t.part (listed_shape l).index then want_index t l node group
     else want_segment t (listed_shape l) l.name (digest_at stored t l)
 
 -- the want of a part, in a group of this name of publishers with these names: a record is asked for by its publisher's
--- name, and the parts behind it as stored parts list them
+-- name, and the parts after it as stored parts list them
 abbrev pub want_at : List (List Component) → List Component → List Packet → Part → WantedPart
 want_at publishers group stored t =
     if t.part == 0 then want_record t (unwrap_or (slice_get publishers t.publisher) []) group
-    else want_behind (unwrap_or (slice_get publishers t.publisher) []) group stored t
+    else want_after (unwrap_or (slice_get publishers t.publisher) []) group stored t
     (unwrap_or (listing_at stored (pair_of t)) nothing_listed)
 
 -- the job of a part: its attempts go on from those that were made

@@ -3,14 +3,14 @@ ghost use Rattle.std.specs.Prelude.{◌≡◌, ◌+◌, ◌<◌, ◌≤◌, ◌|
 ghost use Rattle.std.specs.List.{All};
 ghost use Rattle.sorted_lists.specs.SortedList.{contains, value_of};
 ghost use Rattle.repo_plan.specs.Parts.{Pair, pair_cmp};
-ghost use Rattle.repo_holdings.specs.Listed.{listing_at, said_at, entry_at, is_withdrawn};
+ghost use Rattle.repo_holdings.specs.Listed.{listing_at, stated_at, entry_at, is_withdrawn};
 ghost use Rattle.repo_holdings.specs.Contents.{IsDigestIn};
-ghost use Rattle.repo_holdings.specs.Gaining.{AreTied, told_of};
+ghost use Rattle.repo_holdings.specs.Gaining.{AreTied, summary_of};
 ghost use Rattle.repo_holdings.specs.Changing.{changed, change_by, withdraws_too, AreNotedWith};
 
-use crate::contents::{ContentsDigest, told_or_taken};
+use crate::contents::{ContentsDigest, reported_or_taken};
 use crate::notes::Notes;
-use crate::told::Told;
+use crate::record_summary::RecordSummary;
 use repo_catalog::{Catalogue, Entry};
 use repo_plan::Plan;
 use repo_store::Store;
@@ -42,37 +42,38 @@ impl Change {
     }
 }
 
-// Notes what is told newly of a publication, for which there is room, and tells what changes in the catalogue. Digests
-// over contents that are told aren't taken again.
-pub(crate) fn change_told(
+// Notes what is reported newly of a publication, for which there is room, and tells what changes in the catalogue.
+// Digests over contents that are reported aren't taken again.
+pub(crate) fn change_by_summary(
     plan: &Plan,
     store: &Store,
     notes: &mut Notes,
     publication: (u32, u16),
-    told: Option<Told>,
+    summary: Option<RecordSummary>,
     digests: &[ContentsDigest],
 ) -> Change
     requires room { 0 < notes.old.spare }
     requires tied { AreTied plan.now store.now.packets }
-    requires told { IfSome told (λ x. option_map told_of (said_at store.now.packets publication) ≡ Some x) }
-    requires named { told ≡ None → IsSomeAnd (listing_at store.now.packets publication)
+    requires summary { IfSome summary (λ x. option_map summary_of (stated_at store.now.packets publication) ≡ Some x) }
+    requires named { summary ≡ None → IsSomeAnd (listing_at store.now.packets publication)
         (λ l. value_of pair_cmp notes.old.names publication ≡ Some l.name) }
-    requires withdrawn { (q : Pair) → (withdraws_too publication told q || contains pair_cmp notes.old.withdrawn q)
+    requires withdrawn { (q : Pair) → (withdraws_too publication summary q || contains pair_cmp notes.old.withdrawn q)
         ≡ is_withdrawn store.now.packets q }
     requires digests { All (IsDigestIn store.now.packets) digests.now }
-    ensures change { result ≡ change_by notes.old.withdrawn publication told (entry_at store.now.packets publication) }
+    ensures change { result
+        ≡ change_by notes.old.withdrawn publication summary (entry_at store.now.packets publication) }
     ensures noted { AreNotedWith publication store.now.packets notes.old notes.new }
     ensures room { notes.old.spare ≤ notes.new.spare + 1 }
 {
-    match told {
-        Some(Told::Withdrawal { seq }) => {
+    match summary {
+        Some(RecordSummary::Withdrawal { seq }) => {
             let publisher = publication.0;
             if notes.note_withdrawn((publisher, seq)) {
                 return Change::Removes { publisher, seq };
             }
             return Change::Nothing;
         }
-        Some(Told::Object { name, .. }) => notes.note_name(publication, name),
+        Some(RecordSummary::Object { name, .. }) => notes.note_name(publication, name),
         None => {}
     }
     match entry_if_whole(plan, store, notes, publication, digests) {
@@ -81,7 +82,7 @@ pub(crate) fn change_told(
     }
 }
 
-// The entry of an object whose name is noted, where its record and every part behind it are stored and it is not
+// The entry of an object whose name is noted, where its record and every part after it are stored and it is not
 // withdrawn. The name of an object that is stored wholly is noted no more.
 fn entry_if_whole(
     plan: &Plan,
@@ -108,7 +109,7 @@ fn entry_if_whole(
     if notes.is_withdrawn(publication) {
         return None;
     }
-    let (octets, digest) = told_or_taken(store, publisher, seq, shape, digests);
+    let (octets, digest) = reported_or_taken(store, publisher, seq, shape, digests);
     Some(Entry {
         publisher,
         seq,

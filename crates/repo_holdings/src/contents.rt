@@ -23,9 +23,9 @@ pub struct ContentsDigest {
     pub digest: [u8; 32],
 }
 
-// How many octets the contents of an object that is stored wholly have together, and their digest: as they are told, or
-// else as they are found now. A digest is found among those that are told where these are in order.
-pub(crate) fn told_or_taken(
+// How many octets the contents of an object that is stored wholly have together, and their digest: as they are given,
+// or else as they are found now. A digest is found among those that are reported where these are in order.
+pub(crate) fn reported_or_taken(
     store: &Store,
     publisher: u32,
     seq: u16,

@@ -3,7 +3,7 @@ ghost use Rattle.sorted_lists.specs.SortedList.{value_of};
 ghost use Rattle.repo_plan.specs.Parts.{part_cmp};
 ghost use Rattle.repo_plan.specs.Sound.{PlanIsSound};
 ghost use Rattle.repo_store.specs.Served.{served};
-ghost use Rattle.repo_holdings.specs.Listed.{alone_catalogue};
+ghost use Rattle.repo_holdings.specs.Listed.{member_catalogue};
 ghost use Rattle.repo_holdings.specs.Gaining.{HaveRoom};
 ghost use Rattle.repo_holdings.specs.HoldingsState.{nothing_held, held_plan, knows_too};
 
@@ -31,8 +31,8 @@ pub use whole::Whole;
 /// What is held of publications: which parts are known, held, wanted, claimed and hidden, their packets, and the
 /// catalogue of the objects of which no part is missing and that are not withdrawn.
 ///
-/// A call that is refused has changed nothing, want of memory included. Room is made first, by `reserve`; a call that
-/// uses it takes no memory.
+/// A call that is refused has changed nothing, running out of memory included. Room is made first, by `reserve`; a call
+/// that uses it takes no memory.
 pub struct Holdings {
     plan: Plan,
     store: Store,
@@ -162,7 +162,7 @@ impl Holdings {
 
     /// The objects of which no part is missing, and which are not withdrawn.
     pub fn catalogue(&self) -> &Catalogue
-        ensures { result.now.entries ≡ alone_catalogue self.now.store }
+        ensures { result.now.entries ≡ member_catalogue self.now.store }
     {
         &self.catalogue
     }

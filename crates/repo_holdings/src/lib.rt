@@ -8,8 +8,8 @@ mod changes;
 mod contents;
 mod holdings;
 mod notes;
-mod told;
+mod record_summary;
 
 pub use contents::ContentsDigest;
 pub use holdings::{Holdings, StoredParent, Taken, Tried, Whole};
-pub use told::{Arrival, Told};
+pub use record_summary::{Arrival, RecordSummary};

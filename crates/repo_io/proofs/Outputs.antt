@@ -5,9 +5,9 @@ use Rattle.std.proofs.KnownBytes.{Appends-nil, Appends-trans}
 use Rattle.std.proofs.lemmas.List.{append-nil, take_all, length-drop, drop-drop, take-append-drop}
 use Rattle.std.proofs.lemmas.Grind.{common_steps}
 use Rattle.std.proofs.Math.Seq.{take-add}
-use Rattle.repo_io.specs.Outside.{GainsText, GainsFront}
+use Rattle.repo_io.specs.Outside.{GainsText, GainsPrefix}
 
--- the rest of a text is there with more behind it too
+-- the rest of a text is there with more after it too
 rest_longer : (rest more : List ℕ) → rest ≢ [] → rest ++ more ≢ []
 rest_longer [] more some = absurd (some refl)
 rest_longer (o ∷ os) more some = λ e. cc
@@ -15,11 +15,11 @@ rest_longer (o ∷ os) more some = λ e. cc
 pub nothing_gained : (a : Option (List ℕ)) → GainsText a a []
 nothing_gained a = Appends-nil a
 
--- a text of which no more than a front was gained
+-- a text of which no more than a prefix was gained
 module _ {Short : Type 0} (a b : Option (List ℕ)) where
-  pub front_so_far : (x more text : List ℕ) → text ≡ x ++ more → (Short → more ≢ []) → GainsText a b x
-      → GainsFront a b text Short
-  front_so_far x more text parts short p = record {
+  pub prefix_so_far : (x more text : List ℕ) → text ≡ x ++ more → (Short → more ≢ []) → GainsText a b x
+      → GainsPrefix a b text Short
+  prefix_so_far x more text parts short p = record {
     written = x;
     rest = more;
     parts = parts;
@@ -27,25 +27,26 @@ module _ {Short : Type 0} (a b : Option (List ℕ)) where
     short = short;
   }
 
-  pub front_whole : (text : List ℕ) → (Short → ⊥) → GainsText a b text → GainsFront a b text Short
-  front_whole text whole p = front_so_far text [] text (sym (append-nil text)) (λ short. absurd (whole short)) p
+  pub prefix_whole : (text : List ℕ) → (Short → ⊥) → GainsText a b text → GainsPrefix a b text Short
+  prefix_whole text whole p = prefix_so_far text [] text (sym (append-nil text)) (λ short. absurd (whole short)) p
 
-  pub front_taken : (n : ℕ) (text : List ℕ) → n < length text → GainsText a b (take n text) → GainsFront a b text Short
-  front_taken n text lt p =
-      front_so_far (take n text) (drop n text) text (sym (take-append-drop n text))
+  pub prefix_taken : (n : ℕ) (text : List ℕ) → n < length text → GainsText a b (take n text)
+      → GainsPrefix a b text Short
+  prefix_taken n text lt p =
+      prefix_so_far (take n text) (drop n text) text (sym (take-append-drop n text))
       (λ short e. omega (arith, lt, length-drop n text, ap length e)) p
 
-  -- a front of a text is one of the text with more behind it
-  pub front_longer : (text more : List ℕ) → GainsFront a b text Short → GainsFront a b (text ++ more) Short
-  front_longer text more f =
-      front_so_far f.written (f.rest ++ more) (text ++ more)
+  -- a prefix of a text is one of the text with more after it
+  pub prefix_longer : (text more : List ℕ) → GainsPrefix a b text Short → GainsPrefix a b (text ++ more) Short
+  prefix_longer text more f =
+      prefix_so_far f.written (f.rest ++ more) (text ++ more)
       (ap (λ (t : List ℕ). t ++ more) f.parts ∙ append_assoc f.written f.rest more)
       (λ short. rest_longer f.rest more (f.short short)) f.gained
 
-  -- a text was gained, and then a front of another
-  pub front_behind : (d : Option (List ℕ)) (text more : List ℕ) → GainsText a b text → GainsFront b d more Short
-      → GainsFront a d (text ++ more) Short
-  front_behind d text more p f = record {
+  -- a text was gained, and then a prefix of another
+  pub prefix_after : (d : Option (List ℕ)) (text more : List ℕ) → GainsText a b text → GainsPrefix b d more Short
+      → GainsPrefix a d (text ++ more) Short
+  prefix_after d text more p f = record {
     written = text ++ f.written;
     rest = f.rest;
     parts = ap (λ (t : List ℕ). text ++ t) f.parts ∙ sym (append_assoc text f.written f.rest);
@@ -53,17 +54,17 @@ module _ {Short : Type 0} (a b : Option (List ℕ)) where
     short = f.short;
   }
 
--- whether a front fell short may be said otherwise
-pub front_as : {P Q : Type 0} (a b : Option (List ℕ)) (text : List ℕ) → (Q → P) → GainsFront a b text P
-    → GainsFront a b text Q
-front_as a b text less f =
-    front_so_far a b f.written f.rest text f.parts (λ short. f.short (less short)) f.gained
+-- whether a prefix fell short may be said otherwise
+pub prefix_as : {P Q : Type 0} (a b : Option (List ℕ)) (text : List ℕ) → (Q → P) → GainsPrefix a b text P
+    → GainsPrefix a b text Q
+prefix_as a b text less f =
+    prefix_so_far a b f.written f.rest text f.parts (λ short. f.short (less short)) f.gained
 
 -- the value of a slice from an index on
 pub piece_is : (text : List ℕ) (at : ℕ) → take (length text - at) (drop at text) ≡ drop at text
 piece_is text at = take_all (length text - at) (drop at text) (omega (arith, length-drop at text))
 
--- a front was gained, and then a front of what follows it
+-- a prefix was gained, and then a prefix of what follows it
 pub more_gained : (a b d : Option (List ℕ)) (text : List ℕ) (at n : ℕ) → GainsText a b (take at text)
     → GainsText b d (take n (take (length text - at) (drop at text))) → GainsText a d (take (at + n) text)
 more_gained a b d text at n p q =
@@ -72,13 +73,13 @@ more_gained a b d text at n p q =
     subst (GainsText a d) joined (Appends-trans a b d (take at text) (take n (take (length text - at) (drop at text))) p
     q)
 
--- what was copied to the front of a buffer is what is no longer left
-pub front_left : (octets copied more : List ℕ) (at n : ℕ) → n ≤ length (take (length octets - at) (drop at octets))
+-- what was copied to the start of a buffer is what is no longer left
+pub prefix_left : (octets copied more : List ℕ) (at n : ℕ) → n ≤ length (take (length octets - at) (drop at octets))
     → copied ≡ take n (take (length octets - at) (drop at octets))
     → drop at octets ≡ take n (copied ++ more) ++ drop (at + n) octets
-front_left octets copied more at n within e =
+prefix_left octets copied more at n within e =
     let left : n ≤ length (drop at octets) = rw piece_is at within in
     let same : copied ≡ take n (drop at octets) = e ∙ rw (piece_is octets at) refl in
     let count : length copied ≡ n = ap length same ∙ grind (arith, common_steps) in
-    let front : take n (copied ++ more) ≡ copied = grind (arith, common_steps) in
-    rw front (rw same (sym (rw (← drop-drop n at octets) (take-append-drop n (drop at octets)))))
+    let prefix : take n (copied ++ more) ≡ copied = grind (arith, common_steps) in
+    rw prefix (rw same (sym (rw (← drop-drop n at octets) (take-append-drop n (drop at octets)))))

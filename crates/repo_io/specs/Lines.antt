@@ -3,16 +3,16 @@ use Rattle.std.specs.Prelude.{◌≡◌, ◌≢◌, ℕ, Bool, true, false, ⊤,
 use Rattle.std.specs.List.{list_any}
 
 -- An octet in front of lines. A line feed is the last octet of its line.
-abbrev pub octet_in_front : ℕ → Bool → List (List ℕ) → List (List ℕ)
-octet_in_front octet true others = (octet ∷ []) ∷ others
-octet_in_front octet false [] = (octet ∷ []) ∷ []
-octet_in_front octet false (line ∷ others) = (octet ∷ line) ∷ others
+abbrev pub octet_before : ℕ → Bool → List (List ℕ) → List (List ℕ)
+octet_before octet true others = (octet ∷ []) ∷ others
+octet_before octet false [] = (octet ∷ []) ∷ []
+octet_before octet false (line ∷ others) = (octet ∷ line) ∷ others
 
--- The lines of an input, each with the line feed that ends it. What stands behind the last line feed is a line too,
+-- The lines of an input, each with the line feed that ends it. What stands after the last line feed is a line too,
 -- unless nothing does.
 unfoldable pub lines : List ℕ → List (List ℕ)
 lines [] = []
-lines (octet ∷ octets) = octet_in_front octet (octet == 10) (lines octets)
+lines (octet ∷ octets) = octet_before octet (octet == 10) (lines octets)
 
 -- ---- what a line is
 
@@ -21,9 +21,9 @@ has_feed octets = list_any (λ octet. octet == 10) octets
 
 -- A line that ends with its only line feed.
 pub record IsWhole (line : List ℕ) : Type 0 where
-  pub front : List ℕ
-  pub free : has_feed front ≡ false
-  pub is : line ≡ front ++ 10 ∷ []
+  pub prefix : List ℕ
+  pub free : has_feed prefix ≡ false
+  pub is : line ≡ prefix ++ 10 ∷ []
 
 -- A line of octets, and none of them a line feed: only the last line is such a one.
 pub record IsOpen (line : List ℕ) : Type 0 where

@@ -10,8 +10,8 @@ HasRisen old new = (old < new) ⊎ (new ≡ 18446744073709551615)
 abbrev pub GainsText : Option (List ℕ) → Option (List ℕ) → List ℕ → Type 0
 GainsText old new text = Appends old new text
 
--- An output gained a front of the text, and nothing else. Where it fell short, that is not the whole.
-pub record GainsFront (old new : Option (List ℕ)) (text : List ℕ) (FellShort : Type 0) : Type 0 where
+-- An output gained a prefix of the text, and nothing else. Where it fell short, that is not the whole.
+pub record GainsPrefix (old new : Option (List ℕ)) (text : List ℕ) (FellShort : Type 0) : Type 0 where
   pub written : List ℕ
   pub rest : List ℕ
   pub parts : text ≡ written ++ rest

@@ -5,14 +5,14 @@ use Rattle.repo_io.specs.declared.status.Status.TheVariants.{Done, Usage, Refuse
 use Rattle.repo_io.specs.declared.status.Status.TheVariants.{Foreign}
 
 -- The statuses of a run over lines that came to an end: all were taken, or one stopped it.
-abbrev pub IsTold : Status → Type 0
-IsTold Done = ⊤
-IsTold Usage = ⊥
-IsTold (Refused line number) = ⊤
-IsTold ReadFault = ⊥
-IsTold WriteFault = ⊥
-IsTold NoMemory = ⊥
-IsTold (Foreign line) = ⊤
+abbrev pub IsReported : Status → Type 0
+IsReported Done = ⊤
+IsReported Usage = ⊥
+IsReported (Refused line number) = ⊤
+IsReported ReadFault = ⊥
+IsReported WriteFault = ⊥
+IsReported NoMemory = ⊥
+IsReported (Foreign line) = ⊤
 
 abbrev pub exit_code : Status → ℕ
 exit_code Done = 0

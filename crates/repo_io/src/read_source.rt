@@ -8,7 +8,7 @@ use crate::source::Source;
 use std::io::{ErrorKind, Read};
 use std::marker::Model;
 
-/// A source over a reader. It tells what the reader tells of its octets: a slice all of them, standard input nothing.
+/// A source over a reader. It tells what the reader says of its octets: a slice all of them, standard input nothing.
 #[derive(Debug, Drop)]
 pub struct ReadSource<R: Read> {
     reader: R,

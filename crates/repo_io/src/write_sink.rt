@@ -8,7 +8,7 @@ use crate::sink::Sink;
 use std::io::{ErrorKind, Write};
 use std::marker::Model;
 
-/// A sink over a writer. It tells what the writer tells of its octets: a vector all of them, standard output nothing.
+/// A sink over a writer. It tells what the writer says of its octets: a vector all of them, standard output nothing.
 #[derive(Debug, Drop)]
 pub struct WriteSink<W: Write> {
     writer: W,

@@ -9,10 +9,10 @@ pub struct WriteFault {
     pub written: usize,
 }
 
-/// Writes the text whole, or a front of it.
+/// Writes the text whole, or a prefix of it.
 pub fn write_whole<K: Sink>(sink: &mut K, text: &[u8]) -> Result<(), WriteFault>
     ensures whole { OnOk result (GainsText (K.out sink.old) (K.out sink.new) text.now) }
-    ensures front { IfErr result (λ fault.
+    ensures prefix { IfErr result (λ fault.
         GainsText (K.out sink.old) (K.out sink.new) (take fault.written text.now)) }
     ensures missing { IfErr result (λ fault. fault.written < length text.now) }
     ensures risen { OnErr result (HasRisen (K.faults sink.old) (K.faults sink.new)) }

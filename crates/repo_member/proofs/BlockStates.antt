@@ -1,4 +1,4 @@
--- A block that comes: what is told of it, and how it is undone.
+-- A block that comes: what is reported of it, and how it is undone.
 use Rattle.std.proofs.Common.{◌≡◌, ℕ, ◌+◌, ◌-◌, Bool, true, false, cond, not, ◌&&◌, List, Option, Some, None, is_some}
 use Rattle.std.proofs.Common.{refl, sym, ap, ◌∙◌, subst}
 use Rattle.std.specs.Prelude.{IsSomeAnd, IsTrue}
@@ -12,7 +12,7 @@ use Rattle.repo_process.specs.declared.block_state.BlockState.TheVariants.{Kept,
 use Rattle.repo_process.specs.Processes.{Process, BlockState, has_block, with_block, without_block, is_whole, object_of}
 use Rattle.repo_process.specs.Processes.{closed, block_state}
 use Rattle.repo_process.specs.Processes.BlockState.{Unknown, Already, Waiting, Whole}
-use Rattle.repo_process.specs.Arrivals.{told_of_block, whole_object, reopened}
+use Rattle.repo_process.specs.Arrivals.{reported_of_block, whole_object, reopened}
 use Rattle.repo_process.specs.Fields.{blocks_from}
 use Rattle.repo_process.specs.Insertions.{Insertions, with_process, with_changed, changes_process, with_arrival}
 use Rattle.repo_process.proofs.LawLemmas.{block_stays, block_gone, block_comes}
@@ -84,10 +84,10 @@ module _ (before after : Insertions) (number index : ℕ) (content : List ℕ) (
     (state : BlockState) (comes : block_state before.processes number index content ≡ state)
     (arrives : after ≡ with_arrival number before state) where
   -- another block is missing
-  pub kept_waiting : (missing : ℕ) → told_of_block state ≡ Kept missing → AreWaiting after.processes
+  pub kept_waiting : (missing : ℕ) → reported_of_block state ≡ Kept missing → AreWaiting after.processes
   kept_waiting missing h = go state comes arrives h where
     go : (s : BlockState) → block_state before.processes number index content ≡ s → after ≡ with_arrival number before s
-        → told_of_block s ≡ Kept missing → AreWaiting after.processes
+        → reported_of_block s ≡ Kept missing → AreWaiting after.processes
     go Unknown c a k = absurd cc
     go Already c a k = absurd cc
     go (Waiting p) c a k =
@@ -96,11 +96,11 @@ module _ (before after : Insertions) (number index : ℕ) (content : List ℕ) (
     go (Whole p) c a k = absurd cc
 
   -- it was published before
-  pub nothing_lent : told_of_block state ≡ Complete → whole_object (value_of nat_cmp after.processes number) ≡ None
+  pub nothing_lent : reported_of_block state ≡ Complete → whole_object (value_of nat_cmp after.processes number) ≡ None
       → (state ≡ Already) × (after ≡ before)
   nothing_lent h none = go state comes arrives h where
     go : (s : BlockState) → block_state before.processes number index content ≡ s → after ≡ with_arrival number before s
-        → told_of_block s ≡ Complete → (s ≡ Already) × (after ≡ before)
+        → reported_of_block s ≡ Complete → (s ≡ Already) × (after ≡ before)
     go Unknown c a k = absurd cc
     go Already c a k = (refl, a)
     go (Waiting p) c a k = absurd cc
@@ -125,7 +125,7 @@ pub record ComesLast (before after : Insertions) (number index : ℕ) (content :
 pub comes_last : (before after : Insertions) (number index : ℕ) (content : List ℕ) (object : NamedContents)
     → AreWaiting before.processes
     → after ≡ with_arrival number before (block_state before.processes number index content)
-    → told_of_block (block_state before.processes number index content) ≡ Complete
+    → reported_of_block (block_state before.processes number index content) ≡ Complete
     → whole_object (value_of nat_cmp after.processes number) ≡ Some object
     → (p : Process) × ComesLast before after number index content p
 comes_last before after number index content object waiting arrives is lent =
@@ -169,7 +169,7 @@ comes_last before after number index content object waiting arrives is lent =
 
       go : (s : BlockState) → block_state before.processes number index content ≡ s
           → after ≡ with_arrival number before s
-          → told_of_block s ≡ Complete → (p : Process) × ComesLast before after number index content p
+          → reported_of_block s ≡ Complete → (p : Process) × ComesLast before after number index content p
       go Unknown c a k = absurd cc
       go Already c a k =
           absurd (not_lent (value_of nat_cmp before.processes number) refl

@@ -23,14 +23,14 @@ use Rattle.repo_member.specs.declared.refusals.AcceptRefusal.{AcceptRefusal}
 use Rattle.repo_member.specs.Groups.{GroupKeys, publisher_at}
 use Rattle.repo_holdings.specs.Records.{Packet}
 use Rattle.group_model.specs.Member.{with_tries}
-use Rattle.repo_member.specs.Alone.{Alone, alone_plan, alone_publishes, packet_in, logged, alone_takes}
+use Rattle.repo_member.specs.MemberState.{MemberState, member_plan, member_publishes, packet_in, logged, member_takes}
 use Rattle.repo_holdings.specs.Taking.{Fetched}
 use Rattle.repo_holdings.specs.Taking.{with_fetched}
 use Rattle.repo_member.specs.Verdicts.{hear_verdict, vector_verdict, accept_verdict}
 use Rattle.repo_member.specs.Outcomes.{outcome_of}
-use Rattle.repo_member.specs.Deleting.{alone_deletes}
-use Rattle.repo_member.specs.Commanded.{order_of, alone_starts, alone_obeys, alone_after_order}
-use Rattle.repo_member.specs.Blocks.{alone_block, alone_keeps, after_block}
+use Rattle.repo_member.specs.Deleting.{member_deletes}
+use Rattle.repo_member.specs.Commanded.{order_of, member_state_starts, member_obeys, member_after_order}
+use Rattle.repo_member.specs.Blocks.{member_block, member_keeps, after_block}
 use Rattle.repo_member.specs.Calls.{MemberCall, Publish, Withdraw, Hear, HearVector, JoinFrom, JoinVector, Fire, Claim}
 use Rattle.repo_member.specs.Calls.{Lose, Accept, AcceptChecked, TakeOutcome, TakeDigested, Command, CommandChecked}
 use Rattle.repo_member.specs.Calls.{Block, EndClaims, Reset, Restart, OrderNames, if_heard, if_joined, if_claimed}
@@ -40,10 +40,10 @@ use Rattle.repo_member.specs.Calls.{WithdrawalsStay, LoggedPacketsStay}
 use Rattle.group_model.specs.Publications.{has_unwithdrawn}
 
 -- an outcome changes what is stored and tried alone
-pub takes_same : {A : Type 0} (f : Alone → A)
-    → ((a : Alone) (store : List Packet) (attempts : List (Part × ℕ))
+pub takes_same : {A : Type 0} (f : MemberState → A)
+    → ((a : MemberState) (store : List Packet) (attempts : List (Part × ℕ))
     → f (record a { store = store; attempts = attempts }) ≡ f a)
-    → (xs : List Fetched) (a : Alone) → f (alone_takes xs a) ≡ f a
+    → (xs : List Fetched) (a : MemberState) → f (member_takes xs a) ≡ f a
 takes_same f h [] a = refl
 takes_same f h (x ∷ xs) a =
     let store = with_fetched x.part x.packet a.store in
@@ -52,65 +52,66 @@ takes_same f h (x ∷ xs) a =
 
 -- ---- publications behind others
 
--- the same member, with these publications behind those that it made
-pub record HasMore (old new : Alone) : Type 0 where
+-- the same member, with these publications after those that it made
+pub record HasMore (old new : MemberState) : Type 0 where
   pub number : new.number ≡ old.number
   pub more : List Post
   pub log : new.log ≡ old.log ++ more
 
-nothing_more : (old new : Alone) → new.number ≡ old.number → new.log ≡ old.log → HasMore old new
+nothing_more : (old new : MemberState) → new.number ≡ old.number → new.log ≡ old.log → HasMore old new
 nothing_more old new number log = record { number = number; more = []; log = log ∙ sym (append-nil old.log) }
 
-more_published : (g : GroupKeys) (post : Post) (moment draw : ℕ) (a : Alone) (b : Bool)
-    → HasMore a (cond b (alone_publishes g post moment draw a) a)
-more_published g post moment draw a true = record { number = refl; more = post ∷ []; log = refl }
-more_published g post moment draw a false = nothing_more a a refl refl
+more_published : (g : GroupKeys) (post : Post) (time draw : ℕ) (a : MemberState) (b : Bool)
+    → HasMore a (cond b (member_publishes g post time draw a) a)
+more_published g post time draw a true = record { number = refl; more = post ∷ []; log = refl }
+more_published g post time draw a false = nothing_more a a refl refl
 
-more_heard : (moment draw : ℕ) (a : Alone) (r : Result (List ℕ) HearRefusal) → HasMore a (if_heard moment draw a r)
-more_heard moment draw a (Ok told) = nothing_more a (if_heard moment draw a (Ok told)) refl refl
-more_heard moment draw a (Err refusal) = nothing_more a a refl refl
+more_heard : (time draw : ℕ) (a : MemberState) (r : Result (List ℕ) HearRefusal) → HasMore a (if_heard time draw a r)
+more_heard time draw a (Ok reported) = nothing_more a (if_heard time draw a (Ok reported)) refl refl
+more_heard time draw a (Err refusal) = nothing_more a a refl refl
 
-more_joined : (a : Alone) (r : Result (List ℕ) HearRefusal) → HasMore a (if_joined a r)
-more_joined a (Ok told) = nothing_more a (if_joined a (Ok told)) refl refl
+more_joined : (a : MemberState) (r : Result (List ℕ) HearRefusal) → HasMore a (if_joined a r)
+more_joined a (Ok reported) = nothing_more a (if_joined a (Ok reported)) refl refl
 more_joined a (Err refusal) = nothing_more a a refl refl
 
-more_taken : (xs : List Fetched) (a : Alone) → HasMore a (alone_takes xs a)
+more_taken : (xs : List Fetched) (a : MemberState) → HasMore a (member_takes xs a)
 more_taken xs a =
-    nothing_more a (alone_takes xs a) (takes_same (λ b. b.number) (λ b s t. refl) xs a)
+    nothing_more a (member_takes xs a) (takes_same (λ b. b.number) (λ b s t. refl) xs a)
     (takes_same (λ b. b.log) (λ b s t. refl) xs a)
 
-more_ordered : (order : Result (ℕ × commands.Command) ℕ) (a : Alone) → HasMore a (alone_after_order order a)
+more_ordered : (order : Result (ℕ × commands.Command) ℕ) (a : MemberState) → HasMore a (member_after_order order a)
 more_ordered order a = go order where
-  started : (name : List Component) (first last : ℕ) (o : Option ℕ) → HasMore a (alone_starts name first last a o)
+  started : (name : List Component) (first last : ℕ) (o : Option ℕ)
+      → HasMore a (member_state_starts name first last a o)
   started name first last None = nothing_more a a refl refl
-  started name first last (Some n) = nothing_more a (alone_starts name first last a (Some n)) refl refl
+  started name first last (Some n) = nothing_more a (member_state_starts name first last a (Some n)) refl refl
 
-  obeyed : (command : commands.Command) → HasMore a (alone_obeys command a)
+  obeyed : (command : commands.Command) → HasMore a (member_obeys command a)
   obeyed (Insert name first last) = started name first last (next_number a.insertions)
   obeyed (Check process) = nothing_more a a refl refl
-  obeyed (Delete name) = nothing_more a (alone_deletes name a) refl refl
+  obeyed (Delete name) = nothing_more a (member_deletes name a) refl refl
 
-  go : (order : Result (ℕ × commands.Command) ℕ) → HasMore a (alone_after_order order a)
+  go : (order : Result (ℕ × commands.Command) ℕ) → HasMore a (member_after_order order a)
   go (Ok order) = obeyed order.1
   go (Err code) = nothing_more a a refl refl
 
-more_after : (g : GroupKeys) (call : MemberCall) (a : Alone) → HasMore a (after_call g call a)
-more_after g (Publish object moment draw) a =
-    more_published g (Offers object) moment draw a (nat_lt (length a.log) 65535)
-more_after g (Withdraw seq moment draw) a = go (has_unwithdrawn a.log seq) where
-  go : (b : Bool) → HasMore a (cond b (if_numbers g (Withdraws seq) moment draw a) a)
-  go true = more_published g (Withdraws seq) moment draw a (nat_lt (length a.log) 65535)
+more_after : (g : GroupKeys) (call : MemberCall) (a : MemberState) → HasMore a (after_call g call a)
+more_after g (Publish object time draw) a =
+    more_published g (Offers object) time draw a (nat_lt (length a.log) 65535)
+more_after g (Withdraw seq time draw) a = go (has_unwithdrawn a.log seq) where
+  go : (b : Bool) → HasMore a (cond b (if_numbers g (Withdraws seq) time draw a) a)
+  go true = more_published g (Withdraws seq) time draw a (nat_lt (length a.log) 65535)
   go false = nothing_more a a refl refl
-more_after g (Hear octets moment draw) a = more_heard moment draw a (hear_verdict g a octets)
-more_after g (HearVector told moment draw) a = more_heard moment draw a (vector_verdict a told)
+more_after g (Hear octets time draw) a = more_heard time draw a (hear_verdict g a octets)
+more_after g (HearVector reported time draw) a = more_heard time draw a (vector_verdict a reported)
 more_after g (JoinFrom octets) a = more_joined a (hear_verdict g a octets)
-more_after g (JoinVector told) a = more_joined a (vector_verdict a told)
-more_after g (Fire moment draw) a = nothing_more a (after_call g (Fire moment draw) a) refl refl
-more_after g (Claim f) a = go (claim_of (alone_plan a) f) where
+more_after g (JoinVector reported) a = more_joined a (vector_verdict a reported)
+more_after g (Fire time draw) a = nothing_more a (after_call g (Fire time draw) a) refl refl
+more_after g (Claim f) a = go (claim_of (member_plan a) f) where
   go : (claim : Option Part) → HasMore a (if_claimed f a claim)
   go None = nothing_more a (if_claimed f a None) refl refl
   go (Some t) = nothing_more a a refl refl
-more_after g (Lose f) a = go (claim_of (alone_plan a) f) where
+more_after g (Lose f) a = go (claim_of (member_plan a) f) where
   go : (claim : Option Part) → HasMore a (if_lost f a claim)
   go None = nothing_more a a refl refl
   go (Some t) = nothing_more a (if_lost f a (Some t)) refl refl
@@ -118,7 +119,7 @@ more_after g (Accept f octets) a = go (accept_verdict g a f octets) where
   go : (r : Result Part AcceptRefusal) → HasMore a (if_accepted f octets a r)
   go (Ok t) = nothing_more a (if_accepted f octets a (Ok t)) refl refl
   go (Err refusal) = nothing_more a a refl refl
-more_after g (AcceptChecked f checked) a = go (claim_of (alone_plan a) f) where
+more_after g (AcceptChecked f checked) a = go (claim_of (member_plan a) f) where
   go : (claim : Option Part) → HasMore a (if_claimed_held f checked.octets a claim)
   go None = nothing_more a a refl refl
   go (Some t) = nothing_more a (if_claimed_held f checked.octets a (Some t)) refl refl
@@ -126,23 +127,23 @@ more_after g (TakeOutcome jobs parts attempts) a = more_taken (outcome_of jobs p
 more_after g (TakeDigested jobs parts attempts digests) a = more_taken (outcome_of jobs parts attempts) a
 more_after g (Command octets) a = more_ordered (order_of g a.number octets) a
 more_after g (CommandChecked octets verdict) a = more_ordered (order_of g a.number octets) a
-more_after g (Block process index content moment draw) a = go (alone_block a process index content) where
+more_after g (Block process index content time draw) a = go (member_block a process index content) where
   published : (p : Process) (b : Bool)
-      → HasMore a (cond b (alone_publishes g (Offers (object_of p)) moment draw (alone_keeps process (closed p) a)) a)
+      → HasMore a (cond b (member_publishes g (Offers (object_of p)) time draw (member_keeps process (closed p) a)) a)
   published p true = record { number = refl; more = Offers (object_of p) ∷ []; log = refl }
   published p false = nothing_more a a refl refl
 
-  go : (state : BlockState) → HasMore a (after_block g process moment draw a state)
+  go : (state : BlockState) → HasMore a (after_block g process time draw a state)
   go Unknown = nothing_more a a refl refl
   go Already = nothing_more a a refl refl
-  go (Waiting p) = nothing_more a (alone_keeps process p a) refl refl
+  go (Waiting p) = nothing_more a (member_keeps process p a) refl refl
   go (Whole p) = published p (nat_lt (length a.log) 65535)
 more_after g EndClaims a = nothing_more a (after_call g EndClaims a) refl refl
-more_after g (Reset moment draw) a = nothing_more a (after_call g (Reset moment draw) a) refl refl
-more_after g (Restart moment draw) a = nothing_more a (after_call g (Restart moment draw) a) refl refl
+more_after g (Reset time draw) a = nothing_more a (after_call g (Reset time draw) a) refl refl
+more_after g (Restart time draw) a = nothing_more a (after_call g (Restart time draw) a) refl refl
 more_after g OrderNames a = nothing_more a a refl refl
 
-pub more_after_all : (g : GroupKeys) (calls : List MemberCall) (a : Alone) → HasMore a (after_calls g calls a)
+pub more_after_all : (g : GroupKeys) (calls : List MemberCall) (a : MemberState) → HasMore a (after_calls g calls a)
 more_after_all g [] a = nothing_more a a refl refl
 more_after_all g (call ∷ calls) a =
     let one = more_after g call a in
@@ -163,38 +164,38 @@ logs_go_on g calls a =
     let grown = more_after_all g calls a in
     let long = ap (λ (log : List Post). length log) grown.log in
     record {
-      front =
+      prefix =
           ap (λ (log : List Post). take (length a.log) log) grown.log
           ∙ take_at a.log grown.more (length a.log) refl;
       longer = omega (arith, long, length-append a.log grown.more);
     }
 
--- what stands in a list's front
-at_front : {A : Type 0} (xs ys : List A) (i : ℕ) (x : A) → slice_get xs i ≡ Some x → slice_get (xs ++ ys) i ≡ Some x
-at_front [] ys i x h = absurd cc
-at_front (y ∷ xs) ys zero x h = h
-at_front (y ∷ xs) ys (suc i) x h = at_front xs ys i x h
+-- what stands in a list's prefix
+at_prefix : {A : Type 0} (xs ys : List A) (i : ℕ) (x : A) → slice_get xs i ≡ Some x → slice_get (xs ++ ys) i ≡ Some x
+at_prefix [] ys i x h = absurd cc
+at_prefix (y ∷ xs) ys zero x h = h
+at_prefix (y ∷ xs) ys (suc i) x h = at_prefix xs ys i x h
 
--- what is published stands behind what was
-stays_behind : (g : GroupKeys) (post : Post) (moment draw : ℕ) (calls : List MemberCall) (a : Alone)
+-- what is published stands after what was
+stays_after : (g : GroupKeys) (post : Post) (time draw : ℕ) (calls : List MemberCall) (a : MemberState)
     → length a.log < 65535
-    → slice_get (after_calls g calls (if_numbers g post moment draw a)).log (length a.log) ≡ Some post
-stays_behind g post moment draw calls a room =
-    let next : Alone = alone_publishes g post moment draw a in
+    → slice_get (after_calls g calls (if_numbers g post time draw a)).log (length a.log) ≡ Some post
+stays_after g post time draw calls a room =
+    let next : MemberState = member_publishes g post time draw a in
     let grown = more_after_all g calls next in
     ap (λ (b : Bool). slice_get (after_calls g calls (cond b next a)).log (length a.log))
     (lt-ltb (length a.log) 65535 room)
     ∙ ap (λ (log : List Post). slice_get log (length a.log)) grown.log
-    ∙ at_front (a.log ++ post ∷ []) grown.more (length a.log) post (slice_get-push a.log post)
+    ∙ at_prefix (a.log ++ post ∷ []) grown.more (length a.log) post (slice_get-push a.log post)
 
 pub publications_stay : PublicationsStay
-publications_stay g object moment draw calls a room = stays_behind g (Offers object) moment draw calls a room
+publications_stay g object time draw calls a room = stays_after g (Offers object) time draw calls a room
 
 pub withdrawals_stay : WithdrawalsStay
-withdrawals_stay g seq moment draw calls a there room =
-    ap (λ (b : Bool). slice_get (after_calls g calls (cond b (if_numbers g (Withdraws seq) moment draw a) a)).log
+withdrawals_stay g seq time draw calls a there room =
+    ap (λ (b : Bool). slice_get (after_calls g calls (cond b (if_numbers g (Withdraws seq) time draw a) a)).log
     (length a.log)) there
-    ∙ stays_behind g (Withdraws seq) moment draw calls a room
+    ∙ stays_after g (Withdraws seq) time draw calls a room
 
 -- the packet of a part of the publications of a log
 abbrev packet_logged : GroupKeys → ℕ → List Post → Part → Option (List ℕ)
@@ -219,9 +220,9 @@ logged_on g number log more t octets = own (t.publisher == number) (t.seq == 0) 
         → option_and_then (packet_in (publisher_at g number) t) (slice_get (log ++ more) (t.seq - 1)) ≡ Some octets
     at None p q = absurd cc
     at (Some post) p q =
-        ap (option_and_then (packet_in (publisher_at g number) t)) (at_front log more (t.seq - 1) post p) ∙ q
+        ap (option_and_then (packet_in (publisher_at g number) t)) (at_prefix log more (t.seq - 1) post p) ∙ q
 
-pub logged_with_more : (g : GroupKeys) (a b : Alone) (t : Part) (octets : List ℕ) → HasMore a b
+pub logged_with_more : (g : GroupKeys) (a b : MemberState) (t : Part) (octets : List ℕ) → HasMore a b
     → logged g a t ≡ Some octets → logged g b t ≡ Some octets
 logged_with_more g a b t octets grown h =
     ap (λ (number : ℕ). packet_logged g number b.log t) grown.number

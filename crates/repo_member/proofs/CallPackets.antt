@@ -25,16 +25,16 @@ use Rattle.repo_member.specs.declared.refusals.AcceptRefusal.{AcceptRefusal}
 use Rattle.repo_holdings.specs.Records.{Packet}
 use Rattle.repo_member.specs.Groups.{GroupKeys}
 use Rattle.group_model.specs.Member.{with_tries}
-use Rattle.repo_member.specs.Alone.{Alone, alone_plan, new_packets, alone_publishes, logged}
+use Rattle.repo_member.specs.MemberState.{MemberState, member_plan, new_packets, member_publishes, logged}
 use Rattle.repo_holdings.specs.Taking.{Fetched}
 use Rattle.repo_holdings.specs.NewPublications.{with_packets}
-use Rattle.repo_member.specs.Alone.{alone_takes}
+use Rattle.repo_member.specs.MemberState.{member_takes}
 use Rattle.repo_holdings.specs.Taking.{with_fetched}
 use Rattle.repo_member.specs.Verdicts.{hear_verdict, vector_verdict, accept_verdict}
 use Rattle.repo_member.specs.Outcomes.{outcome_of}
-use Rattle.repo_member.specs.Deleting.{catalogued_named, alone_hides}
-use Rattle.repo_member.specs.Commanded.{order_of, alone_starts, alone_obeys, alone_after_order}
-use Rattle.repo_member.specs.Blocks.{alone_block, alone_keeps, after_block}
+use Rattle.repo_member.specs.Deleting.{catalogued_named, member_state_hides}
+use Rattle.repo_member.specs.Commanded.{order_of, member_state_starts, member_obeys, member_after_order}
+use Rattle.repo_member.specs.Blocks.{member_block, member_keeps, after_block}
 use Rattle.repo_member.specs.Calls.{MemberCall, Publish, Withdraw, if_numbers, Hear, HearVector, JoinFrom, JoinVector}
 use Rattle.repo_member.specs.Calls.{Fire, Claim, Lose, Accept, AcceptChecked, TakeOutcome, TakeDigested, Command}
 use Rattle.repo_member.specs.Calls.{CommandChecked, Block, EndClaims, Reset, Restart, OrderNames, if_heard, if_joined}
@@ -86,45 +86,45 @@ stays_fetched : (t : Part) (packet : Option (List ℕ)) (stored : List Packet)
 stays_fetched t None stored = stays_as_it_is stored
 stays_fetched t (Some octets) stored = stays_with t octets stored
 
-stays_taken : (xs : List Fetched) (a : Alone) → StaysStored a.store (alone_takes xs a).store
+stays_taken : (xs : List Fetched) (a : MemberState) → StaysStored a.store (member_takes xs a).store
 stays_taken [] a = stays_as_it_is a.store
 stays_taken (x ∷ xs) a =
-    let next : Alone =
+    let next : MemberState =
     record a { store = with_fetched x.part x.packet a.store; attempts = with_tries x.part x.attempts a.attempts } in
-    stays_longer a.store next.store (alone_takes xs next).store (stays_fetched x.part x.packet a.store)
+    stays_longer a.store next.store (member_takes xs next).store (stays_fetched x.part x.packet a.store)
     (stays_taken xs next)
 
 -- ---- a call
 
 -- What is hidden stays hidden, and what is stored stays, but for what is hidden.
-record Keeps (old new : Alone) : Type 0 where
-  hidden : (pair : Pair) → hides (alone_plan old) pair ≡ true → hides (alone_plan new) pair ≡ true
+record Keeps (old new : MemberState) : Type 0 where
+  hidden : (pair : Pair) → hides (member_plan old) pair ≡ true → hides (member_plan new) pair ≡ true
   stored : (t : Part) (octets : List ℕ) → value_of part_cmp old.store t ≡ Some octets
-      → hides (alone_plan new) (pair_of t) ≡ false → value_of part_cmp new.store t ≡ Some octets
+      → hides (member_plan new) (pair_of t) ≡ false → value_of part_cmp new.store t ≡ Some octets
 
-keeps_all : (old new : Alone) → new.hidden ≡ old.hidden → StaysStored old.store new.store → Keeps old new
+keeps_all : (old new : MemberState) → new.hidden ≡ old.hidden → StaysStored old.store new.store → Keeps old new
 keeps_all old new hidden stays = record {
   hidden = λ pair h. ap (λ (pairs : List Pair). contains pair_cmp pairs pair) hidden ∙ h;
   stored = λ t octets h shown. stays.still t octets h;
 }
 
-keeps_as_it_is : (old new : Alone) → new.hidden ≡ old.hidden → new.store ≡ old.store → Keeps old new
+keeps_as_it_is : (old new : MemberState) → new.hidden ≡ old.hidden → new.store ≡ old.store → Keeps old new
 keeps_as_it_is old new hidden store =
     keeps_all old new hidden (subst (StaysStored old.store) (sym store) (stays_as_it_is old.store))
 
-keeps_longer : (first second third : Alone) → Keeps first second → Keeps second third → Keeps first third
+keeps_longer : (first second third : MemberState) → Keeps first second → Keeps second third → Keeps first third
 keeps_longer first second third a b = record {
   hidden = λ pair h. b.hidden pair (a.hidden pair h);
   stored =
       λ t octets h shown. b.stored t octets
-      (a.stored t octets h (still_shown (pair_of t) (hides (alone_plan second) (pair_of t)) refl shown)) shown;
+      (a.stored t octets h (still_shown (pair_of t) (hides (member_plan second) (pair_of t)) refl shown)) shown;
 } where
-  still_shown : (pair : Pair) (c : Bool) → hides (alone_plan second) pair ≡ c → hides (alone_plan third) pair ≡ false
+  still_shown : (pair : Pair) (c : Bool) → hides (member_plan second) pair ≡ c → hides (member_plan third) pair ≡ false
       → c ≡ false
   still_shown pair true h shown = sym (b.hidden pair h) ∙ shown
   still_shown pair false h shown = refl
 
-keeps_hidden_one : (pair : Pair) (a : Alone) → Keeps a (hidden_one pair a)
+keeps_hidden_one : (pair : Pair) (a : MemberState) → Keeps a (hidden_one pair a)
 keeps_hidden_one pair a = record {
   hidden =
       λ q h. contains-insert_key exact_pairs pair a.hidden q
@@ -139,65 +139,65 @@ keeps_hidden_one pair a = record {
       ∙ h;
 }
 
-keeps_hidden : (pairs : List Pair) (a : Alone) → Keeps a (alone_hides pairs a)
-keeps_hidden [] a = keeps_as_it_is a (alone_hides [] a) refl refl
+keeps_hidden : (pairs : List Pair) (a : MemberState) → Keeps a (member_state_hides pairs a)
+keeps_hidden [] a = keeps_as_it_is a (member_state_hides [] a) refl refl
 keeps_hidden (pair ∷ pairs) a =
-    keeps_longer a (hidden_one pair a) (alone_hides pairs (hidden_one pair a)) (keeps_hidden_one pair a)
+    keeps_longer a (hidden_one pair a) (member_state_hides pairs (hidden_one pair a)) (keeps_hidden_one pair a)
     (keeps_hidden pairs (hidden_one pair a))
 
-keeps_published : (g : GroupKeys) (post : Post) (moment draw : ℕ) (old a : Alone) → a.hidden ≡ old.hidden
+keeps_published : (g : GroupKeys) (post : Post) (time draw : ℕ) (old a : MemberState) → a.hidden ≡ old.hidden
     → a.store ≡ old.store → (b : Bool)
-    → Keeps old (cond b (alone_publishes g post moment draw a) old)
-keeps_published g post moment draw old a hidden store true =
-    keeps_all old (alone_publishes g post moment draw a) hidden
+    → Keeps old (cond b (member_publishes g post time draw a) old)
+keeps_published g post time draw old a hidden store true =
+    keeps_all old (member_publishes g post time draw a) hidden
     (subst (λ (stored : List Packet). StaysStored stored (with_packets (new_packets g post a) a.store)) store
     (stays_with_all (new_packets g post a) a.store))
-keeps_published g post moment draw old a hidden store false = keeps_as_it_is old old refl refl
+keeps_published g post time draw old a hidden store false = keeps_as_it_is old old refl refl
 
-keeps_heard : (moment draw : ℕ) (a : Alone) (v : Result (List ℕ) HearRefusal) → Keeps a (if_heard moment draw a v)
-keeps_heard moment draw a (Ok told) = keeps_as_it_is a (if_heard moment draw a (Ok told)) refl refl
-keeps_heard moment draw a (Err refusal) = keeps_as_it_is a a refl refl
+keeps_heard : (time draw : ℕ) (a : MemberState) (v : Result (List ℕ) HearRefusal) → Keeps a (if_heard time draw a v)
+keeps_heard time draw a (Ok reported) = keeps_as_it_is a (if_heard time draw a (Ok reported)) refl refl
+keeps_heard time draw a (Err refusal) = keeps_as_it_is a a refl refl
 
-keeps_joined : (a : Alone) (v : Result (List ℕ) HearRefusal) → Keeps a (if_joined a v)
-keeps_joined a (Ok told) = keeps_as_it_is a (if_joined a (Ok told)) refl refl
+keeps_joined : (a : MemberState) (v : Result (List ℕ) HearRefusal) → Keeps a (if_joined a v)
+keeps_joined a (Ok reported) = keeps_as_it_is a (if_joined a (Ok reported)) refl refl
 keeps_joined a (Err refusal) = keeps_as_it_is a a refl refl
 
-keeps_taken : (xs : List Fetched) (a : Alone) → Keeps a (alone_takes xs a)
+keeps_taken : (xs : List Fetched) (a : MemberState) → Keeps a (member_takes xs a)
 keeps_taken xs a =
-    keeps_all a (alone_takes xs a) (takes_same (λ b. b.hidden) (λ b s t. refl) xs a) (stays_taken xs a)
+    keeps_all a (member_takes xs a) (takes_same (λ b. b.hidden) (λ b s t. refl) xs a) (stays_taken xs a)
 
-keeps_ordered : (order : Result (ℕ × commands.Command) ℕ) (a : Alone) → Keeps a (alone_after_order order a)
+keeps_ordered : (order : Result (ℕ × commands.Command) ℕ) (a : MemberState) → Keeps a (member_after_order order a)
 keeps_ordered order a = go order where
-  started : (name : List Component) (first last : ℕ) (o : Option ℕ) → Keeps a (alone_starts name first last a o)
+  started : (name : List Component) (first last : ℕ) (o : Option ℕ) → Keeps a (member_state_starts name first last a o)
   started name first last None = keeps_as_it_is a a refl refl
-  started name first last (Some n) = keeps_as_it_is a (alone_starts name first last a (Some n)) refl refl
+  started name first last (Some n) = keeps_as_it_is a (member_state_starts name first last a (Some n)) refl refl
 
-  obeyed : (command : commands.Command) → Keeps a (alone_obeys command a)
+  obeyed : (command : commands.Command) → Keeps a (member_obeys command a)
   obeyed (Insert name first last) = started name first last (next_number a.insertions)
   obeyed (Check process) = keeps_as_it_is a a refl refl
   obeyed (Delete name) = keeps_hidden (catalogued_named name a) a
 
-  go : (order : Result (ℕ × commands.Command) ℕ) → Keeps a (alone_after_order order a)
+  go : (order : Result (ℕ × commands.Command) ℕ) → Keeps a (member_after_order order a)
   go (Ok order) = obeyed order.1
   go (Err code) = keeps_as_it_is a a refl refl
 
-keeps_after : (g : GroupKeys) (call : MemberCall) (a : Alone) → Keeps a (after_call g call a)
-keeps_after g (Publish object moment draw) a =
-    keeps_published g (Offers object) moment draw a a refl refl (nat_lt (length a.log) 65535)
-keeps_after g (Withdraw seq moment draw) a = go (has_unwithdrawn a.log seq) where
-  go : (b : Bool) → Keeps a (cond b (if_numbers g (Withdraws seq) moment draw a) a)
-  go true = keeps_published g (Withdraws seq) moment draw a a refl refl (nat_lt (length a.log) 65535)
+keeps_after : (g : GroupKeys) (call : MemberCall) (a : MemberState) → Keeps a (after_call g call a)
+keeps_after g (Publish object time draw) a =
+    keeps_published g (Offers object) time draw a a refl refl (nat_lt (length a.log) 65535)
+keeps_after g (Withdraw seq time draw) a = go (has_unwithdrawn a.log seq) where
+  go : (b : Bool) → Keeps a (cond b (if_numbers g (Withdraws seq) time draw a) a)
+  go true = keeps_published g (Withdraws seq) time draw a a refl refl (nat_lt (length a.log) 65535)
   go false = keeps_as_it_is a a refl refl
-keeps_after g (Hear octets moment draw) a = keeps_heard moment draw a (hear_verdict g a octets)
-keeps_after g (HearVector told moment draw) a = keeps_heard moment draw a (vector_verdict a told)
+keeps_after g (Hear octets time draw) a = keeps_heard time draw a (hear_verdict g a octets)
+keeps_after g (HearVector reported time draw) a = keeps_heard time draw a (vector_verdict a reported)
 keeps_after g (JoinFrom octets) a = keeps_joined a (hear_verdict g a octets)
-keeps_after g (JoinVector told) a = keeps_joined a (vector_verdict a told)
-keeps_after g (Fire moment draw) a = keeps_as_it_is a (after_call g (Fire moment draw) a) refl refl
-keeps_after g (Claim f) a = go (claim_of (alone_plan a) f) where
+keeps_after g (JoinVector reported) a = keeps_joined a (vector_verdict a reported)
+keeps_after g (Fire time draw) a = keeps_as_it_is a (after_call g (Fire time draw) a) refl refl
+keeps_after g (Claim f) a = go (claim_of (member_plan a) f) where
   go : (claim : Option Part) → Keeps a (if_claimed f a claim)
   go None = keeps_as_it_is a (if_claimed f a None) refl refl
   go (Some t) = keeps_as_it_is a a refl refl
-keeps_after g (Lose f) a = go (claim_of (alone_plan a) f) where
+keeps_after g (Lose f) a = go (claim_of (member_plan a) f) where
   go : (claim : Option Part) → Keeps a (if_lost f a claim)
   go None = keeps_as_it_is a a refl refl
   go (Some t) = keeps_as_it_is a (if_lost f a (Some t)) refl refl
@@ -205,7 +205,7 @@ keeps_after g (Accept f octets) a = go (accept_verdict g a f octets) where
   go : (v : Result Part AcceptRefusal) → Keeps a (if_accepted f octets a v)
   go (Ok t) = keeps_all a (if_accepted f octets a (Ok t)) refl (stays_with t octets a.store)
   go (Err refusal) = keeps_as_it_is a a refl refl
-keeps_after g (AcceptChecked f checked) a = go (claim_of (alone_plan a) f) where
+keeps_after g (AcceptChecked f checked) a = go (claim_of (member_plan a) f) where
   go : (claim : Option Part) → Keeps a (if_claimed_held f checked.octets a claim)
   go None = keeps_as_it_is a a refl refl
   go (Some t) =
@@ -214,22 +214,22 @@ keeps_after g (TakeOutcome jobs parts attempts) a = keeps_taken (outcome_of jobs
 keeps_after g (TakeDigested jobs parts attempts digests) a = keeps_taken (outcome_of jobs parts attempts) a
 keeps_after g (Command octets) a = keeps_ordered (order_of g a.number octets) a
 keeps_after g (CommandChecked octets verdict) a = keeps_ordered (order_of g a.number octets) a
-keeps_after g (Block process index content moment draw) a = go (alone_block a process index content) where
-  go : (state : BlockState) → Keeps a (after_block g process moment draw a state)
+keeps_after g (Block process index content time draw) a = go (member_block a process index content) where
+  go : (state : BlockState) → Keeps a (after_block g process time draw a state)
   go Unknown = keeps_as_it_is a a refl refl
   go Already = keeps_as_it_is a a refl refl
-  go (Waiting p) = keeps_as_it_is a (alone_keeps process p a) refl refl
+  go (Waiting p) = keeps_as_it_is a (member_keeps process p a) refl refl
   go (Whole p) =
-      keeps_published g (Offers (object_of p)) moment draw a (alone_keeps process (closed p) a) refl refl
+      keeps_published g (Offers (object_of p)) time draw a (member_keeps process (closed p) a) refl refl
       (nat_lt (length a.log) 65535)
 keeps_after g EndClaims a = keeps_as_it_is a (after_call g EndClaims a) refl refl
-keeps_after g (Reset moment draw) a = keeps_as_it_is a (after_call g (Reset moment draw) a) refl refl
-keeps_after g (Restart moment draw) a = keeps_as_it_is a (after_call g (Restart moment draw) a) refl refl
+keeps_after g (Reset time draw) a = keeps_as_it_is a (after_call g (Reset time draw) a) refl refl
+keeps_after g (Restart time draw) a = keeps_as_it_is a (after_call g (Restart time draw) a) refl refl
 keeps_after g OrderNames a = keeps_as_it_is a a refl refl
 
 -- ---- the laws
 
-keeps_after_all : (g : GroupKeys) (calls : List MemberCall) (a : Alone) → Keeps a (after_calls g calls a)
+keeps_after_all : (g : GroupKeys) (calls : List MemberCall) (a : MemberState) → Keeps a (after_calls g calls a)
 keeps_after_all g [] a = keeps_as_it_is a a refl refl
 keeps_after_all g (call ∷ calls) a =
     keeps_longer a (after_call g call a) (after_calls g calls (after_call g call a)) (keeps_after g call a)
@@ -241,10 +241,10 @@ held_packets_stay g calls a t octets h shown = (keeps_after_all g calls a).store
 pub hidden_for_good : HiddenForGood
 hidden_for_good g calls a pair h = (keeps_after_all g calls a).hidden pair h
 
-pub hidden_is_gone : (g : GroupKeys) (a : Alone) → IsReached g a → HiddenIsGone g a
+pub hidden_is_gone : (g : GroupKeys) (a : MemberState) → IsReached g a → HiddenIsGone g a
 hidden_is_gone g a r t h = (
-  ap (λ (b : Bool). is_asked (alone_plan a) t && (not (holds (alone_plan a) t) && not b)) h
-      ∙ none (is_asked (alone_plan a) t) (not (holds (alone_plan a) t)),
+  ap (λ (b : Bool). is_asked (member_plan a) t && (not (holds (member_plan a) t) && not b)) h
+      ∙ none (is_asked (member_plan a) t) (not (holds (member_plan a) t)),
   missing_value a.store t (r.sound.hidden t h),
 ) where
   none : (b c : Bool) → (b && (c && false)) ≡ false
@@ -253,8 +253,8 @@ hidden_is_gone g a r t h = (
   none false c = refl
 
 -- an own part is stored as it was published, unless its publication is hidden
-pub own_stored : (g : GroupKeys) (a : Alone) → IsReached g a → OwnStored g a
-own_stored g a r t own = go (hides (alone_plan a) (pair_of t)) refl where
-  go : (b : Bool) → hides (alone_plan a) (pair_of t) ≡ b → value_of part_cmp a.store t ≡ cond b None (logged g a t)
+pub own_stored : (g : GroupKeys) (a : MemberState) → IsReached g a → OwnStored g a
+own_stored g a r t own = go (hides (member_plan a) (pair_of t)) refl where
+  go : (b : Bool) → hides (member_plan a) (pair_of t) ≡ b → value_of part_cmp a.store t ≡ cond b None (logged g a t)
   go true h = missing_value a.store t (r.sound.hidden t h)
   go false shown = r.own t own shown

@@ -22,8 +22,9 @@ use Rattle.group_model.specs.Publications.{has_unwithdrawn, no_post}
 use Rattle.repo_member.specs.declared.refusals.HearRefusal.{HearRefusal}
 use Rattle.repo_member.specs.declared.refusals.AcceptRefusal.{AcceptRefusal}
 use Rattle.repo_member.specs.Groups.{GroupKeys}
-use Rattle.repo_member.specs.Alone.{Alone, alone_plan, alone_publishes, alone_learns, alone_claims, alone_accepts}
-use Rattle.repo_member.specs.Alone.{alone_ends_claims, alone_clears, next_seq, want_of}
+use Rattle.repo_member.specs.MemberState.{MemberState, member_plan, member_publishes, member_learns, member_claims}
+use Rattle.repo_member.specs.MemberState.{member_accepts}
+use Rattle.repo_member.specs.MemberState.{member_ends_claims, member_clears, next_seq, want_of}
 use Rattle.repo_member.specs.Verdicts.{hear_verdict, vector_verdict, passed, claim_verdict, accept_verdict}
 use Rattle.repo_member.specs.Outcomes.{IsCheckedFor}
 use Rattle.repo_member.specs.Commanded.{coded, order_of}
@@ -31,10 +32,10 @@ use Rattle.repo_member.specs.Calls.{MemberCall, Publish, Withdraw, if_numbers, H
 use Rattle.repo_member.specs.Calls.{Fire, Claim, Lose, Accept, AcceptChecked, TakeOutcome, TakeDigested, Command}
 use Rattle.repo_member.specs.Calls.{CommandChecked, Block, EndClaims, Reset, Restart, OrderNames, if_heard, if_joined}
 use Rattle.repo_member.specs.Calls.{if_claimed, if_lost, if_claimed_held, if_accepted, after_call, after_calls}
-use Rattle.repo_member.specs.Calls.{CanBeTold, IsCheckedForClaim, IsAllowedCall, AreAllowedCalls, InEveryMember}
+use Rattle.repo_member.specs.Calls.{CanBeReported, IsCheckedForClaim, IsAllowedCall, AreAllowedCalls, InEveryMember}
 use Rattle.repo_member.proofs.MemberLemmas.{still_wide}
-use Rattle.repo_member.proofs.CallVectors.{told_is, taken_vector}
-use Rattle.svs_sync.proofs.ToldWidth.{told_wide}
+use Rattle.repo_member.proofs.CallVectors.{reported_is, taken_vector}
+use Rattle.svs_sync.proofs.ReportedWidth.{reported_wide}
 use Rattle.repo_member.proofs.HeldParts.{IsReached, PassesNow, reached_opening, reached_with, reached_learns}
 use Rattle.repo_member.proofs.HeldParts.{reached_gains}
 use Rattle.repo_member.proofs.PublishedParts.{reached_publishes}
@@ -43,52 +44,54 @@ use Rattle.repo_member.proofs.InsertionParts.{reached_order, reached_blocks, rea
 
 -- ---- a call
 
--- what octets tell can be told
-told_by : (g : GroupKeys) (a : Alone) (octets told : List ℕ) → IsReached g a → hear_verdict g a octets ≡ Ok told
-    → CanBeTold a told
-told_by g a octets told r verdict =
-    let is = told_is g a octets told verdict in
+-- what octets tell can be reported
+reported_by : (g : GroupKeys) (a : MemberState) (octets reported : List ℕ) → IsReached g a → hear_verdict g a octets
+    ≡ Ok reported
+    → CanBeReported a reported
+reported_by g a octets reported r verdict =
+    let is = reported_is g a octets reported verdict in
     record {
-      width = told_wide g.members.names g.name g.members.ring octets (is.signer, told) is.verdict ∙ r.of;
+      width = reported_wide g.members.names g.name g.members.ring octets (is.signer, reported) is.verdict ∙ r.of;
       own = is.not_ahead;
     }
 
 -- so can a vector that is taken
-taken_by : (a : Alone) (told taken : List ℕ) → CanBeTold a told → vector_verdict a told ≡ Ok taken
-    → CanBeTold a taken
-taken_by a told taken can verdict = subst (CanBeTold a) (taken_vector a told taken verdict).0 can
+taken_by : (a : MemberState) (reported taken : List ℕ) → CanBeReported a reported → vector_verdict a reported ≡ Ok taken
+    → CanBeReported a taken
+taken_by a reported taken can verdict = subst (CanBeReported a) (taken_vector a reported taken verdict).0 can
 
--- what is told is learnt
-learnt : (g : GroupKeys) (a : Alone) (told : List ℕ) → CanBeTold a told → IsReached g a
-    → IsReached g (alone_learns told a)
-learnt g a told can r = reached_learns g a told (can.width ∙ sym r.of) can.own r
+-- what is reported is learnt
+learnt : (g : GroupKeys) (a : MemberState) (reported : List ℕ) → CanBeReported a reported → IsReached g a
+    → IsReached g (member_learns reported a)
+learnt g a reported can r = reached_learns g a reported (can.width ∙ sym r.of) can.own r
 
 -- only the machine changes
-machine_too : (g : GroupKeys) (a : Alone) (machine : Keeper) → machine.members ≡ a.machine.members → IsReached g a
+machine_too : (g : GroupKeys) (a : MemberState) (machine : Keeper) → machine.members ≡ a.machine.members → IsReached g a
     → IsReached g (record a { machine = machine })
 machine_too g a machine wide r = reached_with g a a.claims a.attempts machine wide r.sound r
 
-pub fired_wide : (moment draw : ℕ) (k : Keeper) → (fired_kept moment draw k).members ≡ k.members
-fired_wide moment draw k = go (nat_lt moment k.deadline) where
-  go : (b : Bool) → (cond b k (steady_kept moment draw k)).members ≡ k.members
+pub fired_wide : (time draw : ℕ) (k : Keeper) → (fired_kept time draw k).members ≡ k.members
+fired_wide time draw k = go (nat_lt time k.deadline) where
+  go : (b : Bool) → (cond b k (steady_kept time draw k)).members ≡ k.members
   go true = refl
   go false = refl
 
 -- only claims change
-claims_too : (g : GroupKeys) (a : Alone) (claims : List (Option Part))
-    → PlanIsSound (alone_plan (record a { claims = claims })) → IsReached g a
+claims_too : (g : GroupKeys) (a : MemberState) (claims : List (Option Part))
+    → PlanIsSound (member_plan (record a { claims = claims })) → IsReached g a
     → IsReached g (record a { claims = claims })
 claims_too g a claims sound r = reached_with g a claims a.attempts a.machine refl sound r
 
 -- what is accepted passes for the part that is claimed
-pub record IsAccepted (g : GroupKeys) (a : Alone) (f : ℕ) (t : Part) (octets : List ℕ) : Type 0 where
-  pub claimed : claim_of (alone_plan a) f ≡ Some t
+pub record IsAccepted (g : GroupKeys) (a : MemberState) (f : ℕ) (t : Part) (octets : List ℕ) : Type 0 where
+  pub claimed : claim_of (member_plan a) f ≡ Some t
   pub passes : PassesNow g a.store t octets
 
-pub accepted : (g : GroupKeys) (a : Alone) (f : ℕ) (t : Part) (octets : List ℕ) → accept_verdict g a f octets ≡ Ok t
+pub accepted : (g : GroupKeys) (a : MemberState) (f : ℕ) (t : Part) (octets : List ℕ) → accept_verdict g a f octets
+    ≡ Ok t
     → IsAccepted g a f t octets
-accepted g a f t octets h = go (claim_of (alone_plan a) f) refl h where
-  of_part : (u : Part) → claim_of (alone_plan a) f ≡ Some u → (v : Result Data PartRefusal)
+accepted g a f t octets h = go (claim_of (member_plan a) f) refl h where
+  of_part : (u : Part) → claim_of (member_plan a) f ≡ Some u → (v : Result Data PartRefusal)
       → ring_verdict (want_of g a.store u) g.members.ring octets ≡ v → passed u v ≡ Ok t → IsAccepted g a f t octets
   of_part u p (Err refusal) q k = absurd cc
   of_part u p (Ok d) q k =
@@ -99,24 +102,25 @@ accepted g a f t octets h = go (claim_of (alone_plan a) f) refl h where
         passes = subst (λ (x : Part). PassesNow g a.store x octets) same passes;
       }
 
-  go : (claim : Option Part) → claim_of (alone_plan a) f ≡ claim → claim_verdict g a octets claim ≡ Ok t
+  go : (claim : Option Part) → claim_of (member_plan a) f ≡ claim → claim_verdict g a octets claim ≡ Ok t
       → IsAccepted g a f t octets
   go None p k = absurd cc
   go (Some u) p k = of_part u p (ring_verdict (want_of g a.store u) g.members.ring octets) refl k
 
-reached_accepts : (g : GroupKeys) (a : Alone) (f : ℕ) (t : Part) (octets : List ℕ) → IsAccepted g a f t octets
-    → IsReached g a → IsReached g (alone_accepts f t octets a)
+reached_accepts : (g : GroupKeys) (a : MemberState) (f : ℕ) (t : Part) (octets : List ℕ) → IsAccepted g a f t octets
+    → IsReached g a → IsReached g (member_accepts f t octets a)
 reached_accepts g a f t octets is r =
-    let released = alone_claims f None a in
-    let wanted = wanted_parts (alone_plan a) t (r.sound.claimed (f - 1) t is.claimed) in
-    reached_gains g released t octets (claims_too g a released.claims (sound_release f (alone_plan a) r.sound) r)
-    (released_can_be_held f t (alone_plan a) r.sound is.claimed) wanted.not_held is.passes
+    let released = member_claims f None a in
+    let wanted = wanted_parts (member_plan a) t (r.sound.claimed (f - 1) t is.claimed) in
+    reached_gains g released t octets (claims_too g a released.claims (sound_release f (member_plan a) r.sound) r)
+    (released_can_be_held f t (member_plan a) r.sound is.claimed) wanted.not_held is.passes
 
-reached_numbers : (g : GroupKeys) (post : Post) (moment draw : ℕ) (a : Alone) → IsPost (next_seq a) post → IsReached g a
-    → (b : Bool) → nat_lt (length a.log) 65535 ≡ b → IsReached g (cond b (alone_publishes g post moment draw a) a)
-reached_numbers g post moment draw a is r true p =
-    reached_publishes g post moment draw a is (ltb-true (length a.log) 65535 p) r
-reached_numbers g post moment draw a is r false p = r
+reached_numbers : (g : GroupKeys) (post : Post) (time draw : ℕ) (a : MemberState) → IsPost (next_seq a) post
+    → IsReached g a
+    → (b : Bool) → nat_lt (length a.log) 65535 ≡ b → IsReached g (cond b (member_publishes g post time draw a) a)
+reached_numbers g post time draw a is r true p =
+    reached_publishes g post time draw a is (ltb-true (length a.log) 65535 p) r
+reached_numbers g post time draw a is r false p = r
 
 -- what can be withdrawn has an earlier number
 withdraws_earlier : (log : List Post) (seq : ℕ) → has_unwithdrawn log seq ≡ true → (0 < seq) × (seq < length log + 1)
@@ -130,22 +134,23 @@ withdraws_earlier log seq h =
     let high = leb-true seq (length log) both.1 in
     (omega (arith, low), omega (arith, high))
 
-reached_heard : (g : GroupKeys) (moment draw : ℕ) (a : Alone) (v : Result (List ℕ) HearRefusal)
-    → ((told : List ℕ) → v ≡ Ok told → CanBeTold a told) → IsReached g a → IsReached g (if_heard moment draw a v)
-reached_heard g moment draw a (Ok told) can r =
-    let machine = hears_kept moment told a.known draw a.machine a.machine.heard in
-    machine_too g (alone_learns told a) machine (still_wide moment told a.known draw a.machine machine refl)
-    (learnt g a told (can told refl) r)
-reached_heard g moment draw a (Err refusal) can r = r
+reached_heard : (g : GroupKeys) (time draw : ℕ) (a : MemberState) (v : Result (List ℕ) HearRefusal)
+    → ((reported : List ℕ) → v ≡ Ok reported → CanBeReported a reported) → IsReached g a
+    → IsReached g (if_heard time draw a v)
+reached_heard g time draw a (Ok reported) can r =
+    let machine = hears_kept time reported a.known draw a.machine a.machine.heard in
+    machine_too g (member_learns reported a) machine (still_wide time reported a.known draw a.machine machine refl)
+    (learnt g a reported (can reported refl) r)
+reached_heard g time draw a (Err refusal) can r = r
 
-reached_joined : (g : GroupKeys) (a : Alone) (v : Result (List ℕ) HearRefusal)
-    → ((told : List ℕ) → v ≡ Ok told → CanBeTold a told) → IsReached g a → IsReached g (if_joined a v)
-reached_joined g a (Ok told) can r = learnt g a told (can told refl) r
+reached_joined : (g : GroupKeys) (a : MemberState) (v : Result (List ℕ) HearRefusal)
+    → ((reported : List ℕ) → v ≡ Ok reported → CanBeReported a reported) → IsReached g a → IsReached g (if_joined a v)
+reached_joined g a (Ok reported) can r = learnt g a reported (can reported refl) r
 reached_joined g a (Err refusal) can r = r
 
 -- what was checked for the want of the part that is claimed
-checked_claim : (g : GroupKeys) (f : ℕ) (checked : CheckedPart) (a : Alone) → IsCheckedForClaim g a f checked
-    → IsReached g a → (claim : Option Part) → claim_of (alone_plan a) f ≡ claim
+checked_claim : (g : GroupKeys) (f : ℕ) (checked : CheckedPart) (a : MemberState) → IsCheckedForClaim g a f checked
+    → IsReached g a → (claim : Option Part) → claim_of (member_plan a) f ≡ claim
     → IsReached g (if_claimed_held f checked.octets a claim)
 checked_claim g f checked a can r None p = r
 checked_claim g f checked a can r (Some t) p =
@@ -164,74 +169,75 @@ spelled_so verdict order same spelled =
       go (Ok order) h = h
       go (Err refusal) h = tt
 
-reached_call : (g : GroupKeys) (call : MemberCall) (a : Alone) → IsAllowedCall g a call → IsReached g a
+reached_call : (g : GroupKeys) (call : MemberCall) (a : MemberState) → IsAllowedCall g a call → IsReached g a
     → IsReached g (after_call g call a)
-reached_call g (Publish object moment draw) a can r =
-    reached_numbers g (Offers object) moment draw a can r (nat_lt (length a.log) 65535) refl
-reached_call g (Withdraw seq moment draw) a can r = go (has_unwithdrawn a.log seq) refl where
-  go : (b : Bool) → has_unwithdrawn a.log seq ≡ b → IsReached g (cond b (if_numbers g (Withdraws seq) moment draw a) a)
+reached_call g (Publish object time draw) a can r =
+    reached_numbers g (Offers object) time draw a can r (nat_lt (length a.log) 65535) refl
+reached_call g (Withdraw seq time draw) a can r = go (has_unwithdrawn a.log seq) refl where
+  go : (b : Bool) → has_unwithdrawn a.log seq ≡ b → IsReached g (cond b (if_numbers g (Withdraws seq) time draw a) a)
   go true there =
-      reached_numbers g (Withdraws seq) moment draw a (withdraws_earlier a.log seq there) r
+      reached_numbers g (Withdraws seq) time draw a (withdraws_earlier a.log seq there) r
       (nat_lt (length a.log) 65535) refl
   go false there = r
-reached_call g (Hear octets moment draw) a can r =
-    reached_heard g moment draw a (hear_verdict g a octets) (λ told p. told_by g a octets told r p) r
-reached_call g (HearVector told moment draw) a can r =
-    reached_heard g moment draw a (vector_verdict a told) (λ taken p. taken_by a told taken can p) r
+reached_call g (Hear octets time draw) a can r =
+    reached_heard g time draw a (hear_verdict g a octets) (λ reported p. reported_by g a octets reported r p) r
+reached_call g (HearVector reported time draw) a can r =
+    reached_heard g time draw a (vector_verdict a reported) (λ taken p. taken_by a reported taken can p) r
 reached_call g (JoinFrom octets) a can r =
-    reached_joined g a (hear_verdict g a octets) (λ told p. told_by g a octets told r p) r
-reached_call g (JoinVector told) a can r =
-    reached_joined g a (vector_verdict a told) (λ taken p. taken_by a told taken can p) r
-reached_call g (Fire moment draw) a can r =
-    machine_too g a (fired_kept moment draw a.machine) (fired_wide moment draw a.machine) r
-reached_call g (Claim f) a can r = go (claim_of (alone_plan a) f) where
+    reached_joined g a (hear_verdict g a octets) (λ reported p. reported_by g a octets reported r p) r
+reached_call g (JoinVector reported) a can r =
+    reached_joined g a (vector_verdict a reported) (λ taken p. taken_by a reported taken can p) r
+reached_call g (Fire time draw) a can r =
+    machine_too g a (fired_kept time draw a.machine) (fired_wide time draw a.machine) r
+reached_call g (Claim f) a can r = go (claim_of (member_plan a) f) where
   go : (claim : Option Part) → IsReached g (if_claimed f a claim)
   go None =
-      let claims = (alone_claims f (first (unclaimed (alone_plan a))) a).claims in
-      claims_too g a claims (sound_first f (alone_plan a) (first (unclaimed (alone_plan a))) refl r.sound) r
+      let claims = (member_claims f (first (unclaimed (member_plan a))) a).claims in
+      claims_too g a claims (sound_first f (member_plan a) (first (unclaimed (member_plan a))) refl r.sound) r
   go (Some t) = r
-reached_call g (Lose f) a can r = go (claim_of (alone_plan a) f) where
+reached_call g (Lose f) a can r = go (claim_of (member_plan a) f) where
   go : (claim : Option Part) → IsReached g (if_lost f a claim)
   go None = r
-  go (Some t) = claims_too g a (alone_claims f None a).claims (sound_release f (alone_plan a) r.sound) r
+  go (Some t) = claims_too g a (member_claims f None a).claims (sound_release f (member_plan a) r.sound) r
 reached_call g (Accept f octets) a can r = go (accept_verdict g a f octets) refl where
   go : (v : Result Part AcceptRefusal) → accept_verdict g a f octets ≡ v → IsReached g (if_accepted f octets a v)
   go (Ok t) p = reached_accepts g a f t octets (accepted g a f t octets p) r
   go (Err refusal) p = r
 reached_call g (AcceptChecked f checked) a can r =
-    checked_claim g f checked a can.1 r (claim_of (alone_plan a) f) refl
+    checked_claim g f checked a can.1 r (claim_of (member_plan a) f) refl
 reached_call g (TakeOutcome jobs parts attempts) a can r = reached_takes g a jobs parts attempts can.0 can.1 r
 reached_call g (TakeDigested jobs parts attempts digests) a can r =
     reached_takes g a jobs parts attempts can.0.0 can.0.1 r
 reached_call g (Command octets) a can r = reached_order g octets a can r
 reached_call g (CommandChecked octets verdict) a can r =
     reached_order g octets a (spelled_so verdict (order_of g a.number octets) can.0 can.1) r
-reached_call g (Block process index content moment draw) a can r =
-    reached_blocks g process index content moment draw a can r
-reached_call g EndClaims a can r = claims_too g a (alone_ends_claims a).claims (sound_end (alone_plan a) r.sound) r
-reached_call g (Reset moment draw) a can r = machine_too g a (steady_kept moment draw a.machine) refl r
-reached_call g (Restart moment draw) a can r =
-    let ended = alone_ends_claims a in
-    machine_too g (alone_clears ended) (steady_kept moment draw a.machine) refl
-    (reached_clears g ended (claims_too g a ended.claims (sound_end (alone_plan a) r.sound) r))
+reached_call g (Block process index content time draw) a can r =
+    reached_blocks g process index content time draw a can r
+reached_call g EndClaims a can r = claims_too g a (member_ends_claims a).claims (sound_end (member_plan a) r.sound) r
+reached_call g (Reset time draw) a can r = machine_too g a (steady_kept time draw a.machine) refl r
+reached_call g (Restart time draw) a can r =
+    let ended = member_ends_claims a in
+    machine_too g (member_clears ended) (steady_kept time draw a.machine) refl
+    (reached_clears g ended (claims_too g a ended.claims (sound_end (member_plan a) r.sound) r))
 reached_call g OrderNames a can r = r
 
 -- ---- all calls
 
-reached_calls : (g : GroupKeys) (calls : List MemberCall) (a : Alone) → AreAllowedCalls g a calls → IsReached g a
+reached_calls : (g : GroupKeys) (calls : List MemberCall) (a : MemberState) → AreAllowedCalls g a calls → IsReached g a
     → IsReached g (after_calls g calls a)
 reached_calls g [] a can r = r
 reached_calls g (call ∷ calls) a can r =
     reached_calls g calls (after_call g call a) can.1 (reached_call g call a can.0 r)
 
-pub in_every_member : (P : GroupKeys → Alone → Type 0) → ((g : GroupKeys) (a : Alone) → IsReached g a → P g a)
+pub in_every_member : (P : GroupKeys → MemberState → Type 0)
+    → ((g : GroupKeys) (a : MemberState) → IsReached g a → P g a)
     → InEveryMember P
-in_every_member P h g number moment draw calls group inside can =
-    h g (after_calls g calls _) (reached_calls g calls _ can (reached_opening g number moment draw group inside))
+in_every_member P h g number time draw calls group inside can =
+    h g (after_calls g calls _) (reached_calls g calls _ can (reached_opening g number time draw group inside))
 
 -- ---- the laws
 
-pub claims_once : (g : GroupKeys) (a : Alone) → IsReached g a → ClaimsOnce (alone_plan a)
+pub claims_once : (g : GroupKeys) (a : MemberState) → IsReached g a → ClaimsOnce (member_plan a)
 claims_once g a r = record {
   once =
       λ f h t is_f is_h differ e k.

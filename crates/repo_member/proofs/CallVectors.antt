@@ -24,41 +24,41 @@ use Rattle.repo_member.specs.declared.refusals.HearRefusal.TheVariants.{OwnNumbe
 use Rattle.repo_member.specs.declared.refusals.AcceptRefusal.{AcceptRefusal}
 use Rattle.repo_member.specs.Groups.{GroupKeys}
 use Rattle.repo_holdings.specs.Taking.{Fetched}
-use Rattle.repo_member.specs.Alone.{Alone, alone_plan, alone_publishes, alone_takes}
-use Rattle.repo_member.specs.Verdicts.{vector_verdict, told_verdict, hear_verdict, accept_verdict}
+use Rattle.repo_member.specs.MemberState.{MemberState, member_plan, member_publishes, member_takes}
+use Rattle.repo_member.specs.Verdicts.{vector_verdict, reported_verdict, hear_verdict, accept_verdict}
 use Rattle.repo_member.specs.Outcomes.{outcome_of}
-use Rattle.repo_member.specs.Deleting.{alone_deletes}
-use Rattle.repo_member.specs.Commanded.{order_of, alone_starts, alone_obeys, alone_after_order}
-use Rattle.repo_member.specs.Blocks.{alone_block, alone_keeps, after_block}
+use Rattle.repo_member.specs.Deleting.{member_deletes}
+use Rattle.repo_member.specs.Commanded.{order_of, member_state_starts, member_obeys, member_after_order}
+use Rattle.repo_member.specs.Blocks.{member_block, member_keeps, after_block}
 use Rattle.repo_member.specs.Calls.{MemberCall, Publish, Withdraw, if_numbers, Hear, HearVector, JoinFrom, JoinVector}
 use Rattle.repo_member.specs.Calls.{Fire, Claim, Lose, Accept, AcceptChecked, TakeOutcome, TakeDigested, Command}
 use Rattle.repo_member.specs.Calls.{CommandChecked, Block, EndClaims, Reset, Restart, OrderNames, if_heard, if_joined}
 use Rattle.repo_member.specs.Calls.{if_claimed, if_lost, if_claimed_held, if_accepted}
-use Rattle.repo_member.specs.Calls.{after_call, after_calls, vector_taken, vector_of_call, vectors_told}
+use Rattle.repo_member.specs.Calls.{after_call, after_calls, vector_taken, vector_of_call, vectors_reported}
 use Rattle.repo_member.specs.Calls.{NumbersNeverFall, KnownIsTheJoin}
 use Rattle.repo_member.proofs.CallLogs.{takes_same}
 
 -- ---- what octets tell
 
--- a vector that is taken: it was told, and tells of no more publications of the member than it made
-pub record IsTold (g : GroupKeys) (a : Alone) (octets told : List ℕ) : Type 0 where
+-- a vector that is taken: it was reported, and reports no more publications of the member than it made
+pub record IsReported (g : GroupKeys) (a : MemberState) (octets reported : List ℕ) : Type 0 where
   pub signer : ℕ
-  pub verdict : sync_verdict g.name g.members.names g.members.ring octets ≡ Ok (signer, told)
-  pub not_ahead : slice_index told a.number ≤ length a.log
+  pub verdict : sync_verdict g.name g.members.names g.members.ring octets ≡ Ok (signer, reported)
+  pub not_ahead : slice_index reported a.number ≤ length a.log
 
-is_ok_told : (x y : List ℕ) → (let r : Result (List ℕ) HearRefusal = Ok x in r) ≡ Ok y → x ≡ y
-is_ok_told x y h = cc
+is_ok_reported : (x y : List ℕ) → (let r : Result (List ℕ) HearRefusal = Ok x in r) ≡ Ok y → x ≡ y
+is_ok_reported x y h = cc
 
--- a vector that a member takes is the one that it was told, and tells of no more publications of it than it made
-pub taken_vector : (a : Alone) (v told : List ℕ) → vector_verdict a v ≡ Ok told
-    → (v ≡ told) × (slice_index told a.number ≤ length a.log)
-taken_vector a v told h = go (nat_lt (length a.log) (slice_index v a.number)) refl h where
+-- a vector that a member takes is the one that it was reported, and reports no more publications of it than it made
+pub taken_vector : (a : MemberState) (v reported : List ℕ) → vector_verdict a v ≡ Ok reported
+    → (v ≡ reported) × (slice_index reported a.number ≤ length a.log)
+taken_vector a v reported h = go (nat_lt (length a.log) (slice_index v a.number)) refl h where
   go : (b : Bool) → nat_lt (length a.log) (slice_index v a.number) ≡ b
-      → cond b (Err (OwnNumberAhead (length a.log) (slice_index v a.number))) (Ok v) ≡ Ok told
-      → (v ≡ told) × (slice_index told a.number ≤ length a.log)
+      → cond b (Err (OwnNumberAhead (length a.log) (slice_index v a.number))) (Ok v) ≡ Ok reported
+      → (v ≡ reported) × (slice_index reported a.number ≤ length a.log)
   go true n k = absurd cc
   go false n k =
-      let same : v ≡ told = is_ok_told v told k in (
+      let same : v ≡ reported = is_ok_reported v reported k in (
         same,
         omega (
           arith,
@@ -67,20 +67,20 @@ taken_vector a v told h = go (nat_lt (length a.log) (slice_index v a.number)) re
         ),
       )
 
-pub told_is : (g : GroupKeys) (a : Alone) (octets told : List ℕ) → hear_verdict g a octets ≡ Ok told
-    → IsTold g a octets told
-told_is g a octets told h = go (sync_verdict g.name g.members.names g.members.ring octets) refl h where
+pub reported_is : (g : GroupKeys) (a : MemberState) (octets reported : List ℕ) → hear_verdict g a octets ≡ Ok reported
+    → IsReported g a octets reported
+reported_is g a octets reported h = go (sync_verdict g.name g.members.names g.members.ring octets) refl h where
   go : (r : Result (ℕ × List ℕ) SyncRefusal) → sync_verdict g.name g.members.names g.members.ring octets ≡ r
-      → told_verdict a r ≡ Ok told → IsTold g a octets told
+      → reported_verdict a r ≡ Ok reported → IsReported g a octets reported
   go (Err refusal) p q = absurd cc
   go (Ok sync) p q =
-      let is = taken_vector a sync.1 told q in
+      let is = taken_vector a sync.1 reported q in
       record { signer = sync.0; verdict = p ∙ ap (λ (v : List ℕ). Ok (sync.0, v)) is.0; not_ahead = is.1 }
 
 -- ---- the number of an own publication
 
 -- a member that knows all that it published
-pub record KnowsOwn (a : Alone) : Type 0 where
+pub record KnowsOwn (a : MemberState) : Type 0 where
   pub member : a.number < length a.known
   pub own : slice_index a.known a.number ≡ length a.log
 
@@ -105,16 +105,17 @@ set_joined (x ∷ v) (y ∷ w) (suc i) n m h = ap (λ (u : List ℕ). max x y �
 
 -- ---- a call
 
--- from one member to another by a call: what it knew is joined with what it was told, but for its own number
-record Learns (told : List (List ℕ)) (old new : Alone) : Type 0 where
+-- from one member to another by a call: what it knew is joined with what it was reported, but for its own number
+record Learns (reported : List (List ℕ)) (old new : MemberState) : Type 0 where
   number : new.number ≡ old.number
   knows : KnowsOwn new
   rises : (p : ℕ) → slice_index old.known p ≤ slice_index new.known p
   joined : (others : List ℕ) (n : ℕ)
       → slice_set (join new.known others) old.number n
-      ≡ slice_set (join old.known (join (join_all told) others)) old.number n
+      ≡ slice_set (join old.known (join (join_all reported) others)) old.number n
 
-learns_nothing : (old new : Alone) → new.number ≡ old.number → new.known ≡ old.known → new.log ≡ old.log → KnowsOwn old
+learns_nothing : (old new : MemberState) → new.number ≡ old.number → new.known ≡ old.known → new.log ≡ old.log
+    → KnowsOwn old
     → Learns [] old new
 unfolding join_all join
 learns_nothing old new number known log is = record {
@@ -131,31 +132,31 @@ learns_nothing old new number known log is = record {
   joined = λ others n. ap (λ (v : List ℕ). slice_set (join v others) old.number n) known;
 }
 
-learns_vector : (told : List ℕ) (old new : Alone) → slice_index told old.number ≤ length old.log
-    → new.number ≡ old.number → new.known ≡ join old.known told → new.log ≡ old.log → KnowsOwn old
-    → Learns (told ∷ []) old new
+learns_vector : (reported : List ℕ) (old new : MemberState) → slice_index reported old.number ≤ length old.log
+    → new.number ≡ old.number → new.known ≡ join old.known reported → new.log ≡ old.log → KnowsOwn old
+    → Learns (reported ∷ []) old new
 unfolding join_all
-learns_vector told old new few number known log is =
-    let at = join-at old.known told in
+learns_vector reported old new few number known log is =
+    let at = join-at old.known reported in
     let lasting = ap (λ (l : List Post). length l) log in
     record {
       number = number;
       knows = record {
-        member = omega (arith, number, ap (λ (v : List ℕ). length v) known, is.member, long_join old.known told);
+        member = omega (arith, number, ap (λ (v : List ℕ). length v) known, is.member, long_join old.known reported);
         own =
             ap (λ (v : List ℕ). slice_index v new.number) known
-            ∙ ap (slice_index (join old.known told)) number
+            ∙ ap (slice_index (join old.known reported)) number
             ∙ at old.number
             ∙ omega (arith, is.own, few, lasting);
       };
       rises = λ p. omega (arith, ap (λ (v : List ℕ). slice_index v p) known, at p);
       joined = λ others n.
           ap (λ (v : List ℕ). slice_set (join v others) old.number n) known
-          ∙ ap (λ (v : List ℕ). slice_set v old.number n) (join_assoc old.known told others)
-          ∙ ap (λ (v : List ℕ). slice_set (join old.known (join v others)) old.number n) (sym (join-[] told));
+          ∙ ap (λ (v : List ℕ). slice_set v old.number n) (join_assoc old.known reported others)
+          ∙ ap (λ (v : List ℕ). slice_set (join old.known (join v others)) old.number n) (sym (join-[] reported));
     }
 
-learns_own : (post : Post) (old new : Alone) → new.number ≡ old.number
+learns_own : (post : Post) (old new : MemberState) → new.number ≡ old.number
     → new.known ≡ slice_set old.known old.number (length old.log + 1) → new.log ≡ old.log ++ post ∷ [] → KnowsOwn old
     → Learns [] old new
 unfolding join_all join
@@ -201,69 +202,71 @@ learns_own post old new number known log is =
           ∙ set_joined old.known others old.number (length old.log + 1) n is.member;
     }
 
-learns_published : (g : GroupKeys) (post : Post) (moment draw : ℕ) (a : Alone) → KnowsOwn a → (b : Bool)
-    → Learns [] a (cond b (alone_publishes g post moment draw a) a)
-learns_published g post moment draw a is true =
-    learns_own post a (alone_publishes g post moment draw a) refl refl refl is
-learns_published g post moment draw a is false = learns_nothing a a refl refl refl is
+learns_published : (g : GroupKeys) (post : Post) (time draw : ℕ) (a : MemberState) → KnowsOwn a → (b : Bool)
+    → Learns [] a (cond b (member_publishes g post time draw a) a)
+learns_published g post time draw a is true =
+    learns_own post a (member_publishes g post time draw a) refl refl refl is
+learns_published g post time draw a is false = learns_nothing a a refl refl refl is
 
--- a vector is taken that tells of no more publications of the member than it made
-learns_heard : (moment draw : ℕ) (a : Alone) (r : Result (List ℕ) HearRefusal)
-    → ((told : List ℕ) → r ≡ Ok told → slice_index told a.number ≤ length a.log) → KnowsOwn a
-    → Learns (vector_taken r) a (if_heard moment draw a r)
-learns_heard moment draw a (Ok told) few is =
-    learns_vector told a (if_heard moment draw a (Ok told)) (few told refl) refl refl refl is
-learns_heard moment draw a (Err refusal) few is = learns_nothing a a refl refl refl is
+-- a vector is taken that reports no more publications of the member than it made
+learns_heard : (time draw : ℕ) (a : MemberState) (r : Result (List ℕ) HearRefusal)
+    → ((reported : List ℕ) → r ≡ Ok reported → slice_index reported a.number ≤ length a.log) → KnowsOwn a
+    → Learns (vector_taken r) a (if_heard time draw a r)
+learns_heard time draw a (Ok reported) few is =
+    learns_vector reported a (if_heard time draw a (Ok reported)) (few reported refl) refl refl refl is
+learns_heard time draw a (Err refusal) few is = learns_nothing a a refl refl refl is
 
-learns_joined : (a : Alone) (r : Result (List ℕ) HearRefusal)
-    → ((told : List ℕ) → r ≡ Ok told → slice_index told a.number ≤ length a.log) → KnowsOwn a
+learns_joined : (a : MemberState) (r : Result (List ℕ) HearRefusal)
+    → ((reported : List ℕ) → r ≡ Ok reported → slice_index reported a.number ≤ length a.log) → KnowsOwn a
     → Learns (vector_taken r) a (if_joined a r)
-learns_joined a (Ok told) few is = learns_vector told a (if_joined a (Ok told)) (few told refl) refl refl refl is
+learns_joined a (Ok reported) few is = learns_vector reported a (if_joined a (Ok reported)) (few reported refl) refl
+    refl refl is
 learns_joined a (Err refusal) few is = learns_nothing a a refl refl refl is
 
-learns_taken : (xs : List Fetched) (a : Alone) → KnowsOwn a → Learns [] a (alone_takes xs a)
+learns_taken : (xs : List Fetched) (a : MemberState) → KnowsOwn a → Learns [] a (member_takes xs a)
 learns_taken xs a is =
-    learns_nothing a (alone_takes xs a) (takes_same (λ b. b.number) (λ b s t. refl) xs a)
+    learns_nothing a (member_takes xs a) (takes_same (λ b. b.number) (λ b s t. refl) xs a)
     (takes_same (λ b. b.known) (λ b s t. refl) xs a) (takes_same (λ b. b.log) (λ b s t. refl) xs a) is
 
-learns_ordered : (order : Result (ℕ × commands.Command) ℕ) (a : Alone) → KnowsOwn a
-    → Learns [] a (alone_after_order order a)
+learns_ordered : (order : Result (ℕ × commands.Command) ℕ) (a : MemberState) → KnowsOwn a
+    → Learns [] a (member_after_order order a)
 learns_ordered order a is = go order where
-  started : (name : List Component) (first last : ℕ) (o : Option ℕ) → Learns [] a (alone_starts name first last a o)
+  started : (name : List Component) (first last : ℕ) (o : Option ℕ)
+      → Learns [] a (member_state_starts name first last a o)
   started name first last None = learns_nothing a a refl refl refl is
-  started name first last (Some n) = learns_nothing a (alone_starts name first last a (Some n)) refl refl refl is
+  started name first last (Some n) = learns_nothing a (member_state_starts name first last a (Some n)) refl refl refl is
 
-  obeyed : (command : commands.Command) → Learns [] a (alone_obeys command a)
+  obeyed : (command : commands.Command) → Learns [] a (member_obeys command a)
   obeyed (Insert name first last) = started name first last (next_number a.insertions)
   obeyed (Check process) = learns_nothing a a refl refl refl is
-  obeyed (Delete name) = learns_nothing a (alone_deletes name a) refl refl refl is
+  obeyed (Delete name) = learns_nothing a (member_deletes name a) refl refl refl is
 
-  go : (order : Result (ℕ × commands.Command) ℕ) → Learns [] a (alone_after_order order a)
+  go : (order : Result (ℕ × commands.Command) ℕ) → Learns [] a (member_after_order order a)
   go (Ok order) = obeyed order.1
   go (Err code) = learns_nothing a a refl refl refl is
 
-learns_by : (g : GroupKeys) (call : MemberCall) (a : Alone) → KnowsOwn a
+learns_by : (g : GroupKeys) (call : MemberCall) (a : MemberState) → KnowsOwn a
     → Learns (vector_of_call g a call) a (after_call g call a)
-learns_by g (Publish object moment draw) a is =
-    learns_published g (Offers object) moment draw a is (nat_lt (length a.log) 65535)
-learns_by g (Withdraw seq moment draw) a is = go (has_unwithdrawn a.log seq) where
-  go : (b : Bool) → Learns [] a (cond b (if_numbers g (Withdraws seq) moment draw a) a)
-  go true = learns_published g (Withdraws seq) moment draw a is (nat_lt (length a.log) 65535)
+learns_by g (Publish object time draw) a is =
+    learns_published g (Offers object) time draw a is (nat_lt (length a.log) 65535)
+learns_by g (Withdraw seq time draw) a is = go (has_unwithdrawn a.log seq) where
+  go : (b : Bool) → Learns [] a (cond b (if_numbers g (Withdraws seq) time draw a) a)
+  go true = learns_published g (Withdraws seq) time draw a is (nat_lt (length a.log) 65535)
   go false = learns_nothing a a refl refl refl is
-learns_by g (Hear octets moment draw) a is =
-    learns_heard moment draw a (hear_verdict g a octets) (λ told p. (told_is g a octets told p).not_ahead) is
-learns_by g (HearVector told moment draw) a is =
-    learns_heard moment draw a (vector_verdict a told) (λ taken p. (taken_vector a told taken p).1) is
+learns_by g (Hear octets time draw) a is =
+    learns_heard time draw a (hear_verdict g a octets) (λ reported p. (reported_is g a octets reported p).not_ahead) is
+learns_by g (HearVector reported time draw) a is =
+    learns_heard time draw a (vector_verdict a reported) (λ taken p. (taken_vector a reported taken p).1) is
 learns_by g (JoinFrom octets) a is =
-    learns_joined a (hear_verdict g a octets) (λ told p. (told_is g a octets told p).not_ahead) is
-learns_by g (JoinVector told) a is =
-    learns_joined a (vector_verdict a told) (λ taken p. (taken_vector a told taken p).1) is
-learns_by g (Fire moment draw) a is = learns_nothing a (after_call g (Fire moment draw) a) refl refl refl is
-learns_by g (Claim f) a is = go (claim_of (alone_plan a) f) where
+    learns_joined a (hear_verdict g a octets) (λ reported p. (reported_is g a octets reported p).not_ahead) is
+learns_by g (JoinVector reported) a is =
+    learns_joined a (vector_verdict a reported) (λ taken p. (taken_vector a reported taken p).1) is
+learns_by g (Fire time draw) a is = learns_nothing a (after_call g (Fire time draw) a) refl refl refl is
+learns_by g (Claim f) a is = go (claim_of (member_plan a) f) where
   go : (claim : Option Part) → Learns [] a (if_claimed f a claim)
   go None = learns_nothing a (if_claimed f a None) refl refl refl is
   go (Some t) = learns_nothing a a refl refl refl is
-learns_by g (Lose f) a is = go (claim_of (alone_plan a) f) where
+learns_by g (Lose f) a is = go (claim_of (member_plan a) f) where
   go : (claim : Option Part) → Learns [] a (if_lost f a claim)
   go None = learns_nothing a a refl refl refl is
   go (Some t) = learns_nothing a (if_lost f a (Some t)) refl refl refl is
@@ -271,7 +274,7 @@ learns_by g (Accept f octets) a is = go (accept_verdict g a f octets) where
   go : (r : Result Part AcceptRefusal) → Learns [] a (if_accepted f octets a r)
   go (Ok t) = learns_nothing a (if_accepted f octets a (Ok t)) refl refl refl is
   go (Err refusal) = learns_nothing a a refl refl refl is
-learns_by g (AcceptChecked f checked) a is = go (claim_of (alone_plan a) f) where
+learns_by g (AcceptChecked f checked) a is = go (claim_of (member_plan a) f) where
   go : (claim : Option Part) → Learns [] a (if_claimed_held f checked.octets a claim)
   go None = learns_nothing a a refl refl refl is
   go (Some t) = learns_nothing a (if_claimed_held f checked.octets a (Some t)) refl refl refl is
@@ -279,28 +282,28 @@ learns_by g (TakeOutcome jobs parts attempts) a is = learns_taken (outcome_of jo
 learns_by g (TakeDigested jobs parts attempts digests) a is = learns_taken (outcome_of jobs parts attempts) a is
 learns_by g (Command octets) a is = learns_ordered (order_of g a.number octets) a is
 learns_by g (CommandChecked octets verdict) a is = learns_ordered (order_of g a.number octets) a is
-learns_by g (Block process index content moment draw) a is = go (alone_block a process index content) where
+learns_by g (Block process index content time draw) a is = go (member_block a process index content) where
   published : (p : Process) (b : Bool)
-      → Learns [] a (cond b (alone_publishes g (Offers (object_of p)) moment draw (alone_keeps process (closed p) a)) a)
+      → Learns [] a (cond b (member_publishes g (Offers (object_of p)) time draw (member_keeps process (closed p) a)) a)
   published p true =
       learns_own (Offers (object_of p)) a
-      (alone_publishes g (Offers (object_of p)) moment draw (alone_keeps process (closed p) a)) refl
+      (member_publishes g (Offers (object_of p)) time draw (member_keeps process (closed p) a)) refl
       refl refl is
   published p false = learns_nothing a a refl refl refl is
 
-  go : (state : BlockState) → Learns [] a (after_block g process moment draw a state)
+  go : (state : BlockState) → Learns [] a (after_block g process time draw a state)
   go Unknown = learns_nothing a a refl refl refl is
   go Already = learns_nothing a a refl refl refl is
-  go (Waiting p) = learns_nothing a (alone_keeps process p a) refl refl refl is
+  go (Waiting p) = learns_nothing a (member_keeps process p a) refl refl refl is
   go (Whole p) = published p (nat_lt (length a.log) 65535)
 learns_by g EndClaims a is = learns_nothing a (after_call g EndClaims a) refl refl refl is
-learns_by g (Reset moment draw) a is = learns_nothing a (after_call g (Reset moment draw) a) refl refl refl is
-learns_by g (Restart moment draw) a is = learns_nothing a (after_call g (Restart moment draw) a) refl refl refl is
+learns_by g (Reset time draw) a is = learns_nothing a (after_call g (Reset time draw) a) refl refl refl is
+learns_by g (Restart time draw) a is = learns_nothing a (after_call g (Restart time draw) a) refl refl refl is
 learns_by g OrderNames a is = learns_nothing a a refl refl refl is
 
 -- ---- the laws
 
-rises_by_all : (g : GroupKeys) (calls : List MemberCall) (a : Alone) (p : ℕ) → KnowsOwn a
+rises_by_all : (g : GroupKeys) (calls : List MemberCall) (a : MemberState) (p : ℕ) → KnowsOwn a
     → slice_index a.known p ≤ slice_index (after_calls g calls a).known p
 rises_by_all g [] a p is = omega arith
 rises_by_all g (call ∷ calls) a p is =
@@ -315,9 +318,9 @@ unfolding join_all join
 join_all-append [] ws = refl
 join_all-append (v ∷ vs) ws = ap (join v) (join_all-append vs ws) ∙ sym (join_assoc v (join_all vs) (join_all ws))
 
-known_by_all : (g : GroupKeys) (calls : List MemberCall) (a : Alone) → KnowsOwn a
+known_by_all : (g : GroupKeys) (calls : List MemberCall) (a : MemberState) → KnowsOwn a
     → (after_calls g calls a).known
-    ≡ slice_set (join a.known (join_all (vectors_told g calls a))) a.number (length (after_calls g calls a).log)
+    ≡ slice_set (join a.known (join_all (vectors_reported g calls a))) a.number (length (after_calls g calls a).log)
 unfolding join_all
 known_by_all g [] a is =
     sym (ap (λ (v : List ℕ). slice_set v a.number (length a.log)) (join-[] a.known)
@@ -325,13 +328,13 @@ known_by_all g [] a is =
 known_by_all g (call ∷ calls) a is =
     let next = after_call g call a in
     let one = learns_by g call a is in
-    let told = vector_of_call g a call in
-    let others = vectors_told g calls next in
+    let reported = vector_of_call g a call in
+    let others = vectors_reported g calls next in
     let last = length (after_calls g calls next).log in
     known_by_all g calls next one.knows
     ∙ ap (λ (i : ℕ). slice_set (join next.known (join_all others)) i last) one.number
     ∙ one.joined (join_all others) last
-    ∙ ap (λ (v : List ℕ). slice_set (join a.known v) a.number last) (sym (join_all-append told others))
+    ∙ ap (λ (v : List ℕ). slice_set (join a.known v) a.number last) (sym (join_all-append reported others))
 
 pub known_is_the_join : KnownIsTheJoin
 unfolding join_all

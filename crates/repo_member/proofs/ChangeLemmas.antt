@@ -9,7 +9,7 @@ use Rattle.svs_sync.specs.Suppression.{periodic}
 use Rattle.repo_plan.specs.declared.part.Part.{Part}
 use Rattle.sorted_lists.specs.SortedList.{by_order, keys, Rises, contains, insert_key, with_value}
 use Rattle.sorted_lists.specs.Range.{numbers_from}
-use Rattle.repo_plan.specs.Parts.{Pair, part_cmp, part_of, parts_of, parts_behind}
+use Rattle.repo_plan.specs.Parts.{Pair, part_cmp, part_of, parts_of, parts_after}
 use Rattle.sorted_lists.proofs.Orders.{Exact, less_back}
 use Rattle.repo_plan.proofs.Orders.{exact_parts}
 use Rattle.sorted_lists.proofs.Sets.{each_before, in_contains, keys-with_value, rises_insert}
@@ -22,11 +22,11 @@ use Rattle.group_model.specs.Changes as group
 use Rattle.group_model.specs.World.{no_member}
 use Rattle.repo_holdings.specs.Records.{Packet}
 use Rattle.repo_member.specs.Groups.{publisher_at}
-use Rattle.repo_member.specs.Alone.{Alone, alone_opening, new_packets, next_seq}
+use Rattle.repo_member.specs.MemberState.{MemberState, member_opening, new_packets, next_seq}
 use Rattle.repo_holdings.specs.Taking.{Fetched}
 use Rattle.repo_holdings.specs.NewPublications.{as_parts, with_packets}
 use Rattle.repo_holdings.specs.Taking.{with_fetched}
-use Rattle.repo_member.specs.Alone.{alone_takes}
+use Rattle.repo_member.specs.MemberState.{member_takes}
 use Rattle.repo_holdings.specs.Taking.{with_all_tries}
 use Rattle.repo_member.specs.InGroup.{in_group, BeginsAlike, PublishesAlike, AcceptsAlike, TakesAlike, asked_for}
 use Rattle.repo_member.specs.InGroup.{that_came}
@@ -87,14 +87,14 @@ abbrev holding : Member → List Part → Member
 holding m held = record m { held = held }
 
 pub publishes_alike : PublishesAlike
-publishes_alike g post moment draw a r =
+publishes_alike g post time draw a r =
     let pair : Pair = (a.number, next_seq a) in
     let made : List (List ℕ) = packets (publisher_at g a.number) (next_seq a) post in
-    let parts : keys (new_packets g post a) ≡ parts_of pair (parts_behind (shape_in post)) =
+    let parts : keys (new_packets g post a) ≡ parts_of pair (parts_after (shape_in post)) =
     keys_as_parts pair 0 made
     ∙ ap (λ (n : ℕ). map (part_of pair) (numbers_from 0 n))
     (packets-length (publisher_at g a.number) (next_seq a) post) in
-    ap (holding (group.publishes draw moment a.number post (in_group a)))
+    ap (holding (group.publishes draw time a.number post (in_group a)))
     (keys_puts (new_packets g post a) a.store r ∙ ap (λ (ts : List Part). insert_keys ts (keys a.store)) parts)
 
 pub accepts_alike : AcceptsAlike
@@ -116,7 +116,7 @@ came_first x ys (Some octets) stored r = ap (insert_keys (asked_for ys)) (keys_p
 pub takes_alike : TakesAlike
 takes_alike tries [] a r h = refl
 takes_alike tries (x ∷ xs) a r h =
-    let next : Alone =
+    let next : MemberState =
     record a { store = with_fetched x.part x.packet a.store; attempts = with_tries x.part x.attempts a.attempts } in
     let outcome : List Part → List (Part × ℕ) → Member =
     λ held attempts. record (in_group a) { held = held; attempts = attempts } in
@@ -131,12 +131,12 @@ takes_alike tries (x ∷ xs) a r h =
     outcome (insert_keys (that_came (x ∷ xs)) (keys a.store)) (with_each_tried tries (asked_for xs) attempts)) tried
 
 -- however often each part was tried
-pub takes_in_group : (xs : List Fetched) (a : Alone) → Rises part_cmp (keys a.store)
-    → in_group (alone_takes xs a)
+pub takes_in_group : (xs : List Fetched) (a : MemberState) → Rises part_cmp (keys a.store)
+    → in_group (member_takes xs a)
     ≡ record (gains (that_came xs) (in_group a)) { attempts = with_all_tries xs a.attempts }
 takes_in_group [] a r = refl
 takes_in_group (x ∷ xs) a r =
-    let next : Alone =
+    let next : MemberState =
     record a { store = with_fetched x.part x.packet a.store; attempts = with_tries x.part x.attempts a.attempts } in
     let outcome : List Part → Member = λ held. record (in_group a) {
       held = held;
@@ -155,7 +155,7 @@ at_number f first (suc n) (suc j) h =
 
 pub begins_alike : BeginsAlike
 begins_alike out n j h =
-    let begun : ℕ → ℕ → Member = λ i deadline. record (in_group (alone_opening n i 0 (out.draw i 0))) {
+    let begun : ℕ → ℕ → Member = λ i deadline. record (in_group (member_opening n i 0 (out.draw i 0))) {
       machine = record { members = n; heard = None; deadline = deadline; draws = 1 };
     } in
     let now : 0 + periodic (out.draw j 0) ≡ periodic (out.draw j 0) = omega arith in

@@ -10,16 +10,16 @@ use Rattle.group_model.specs.Publications.{Logs, Publication, pair_in, object_in
 use Rattle.group_model.specs.Commands.{is_equal_name}
 use Rattle.group_model.specs.Member.{Member, catalogued, catalogued_under, member_hides_all}
 use Rattle.repo_member.specs.Groups.{GroupKeys}
-use Rattle.repo_member.specs.Alone.{Alone}
-use Rattle.repo_member.specs.Deleting as alone
-use Rattle.repo_member.specs.Deleting.{alone_hides}
-use Rattle.repo_member.specs.InGroup.{in_group, AreLogs, StoresTruly, DeletesAlike}
+use Rattle.repo_member.specs.MemberState.{MemberState}
+use Rattle.repo_member.specs.Deleting as member_state
+use Rattle.repo_member.specs.Deleting.{member_state_hides}
+use Rattle.repo_member.specs.InGroup.{in_group, AreLogs, StoresConsistently, DeletesAlike}
 use Rattle.repo_holdings.proofs.HidingLemmas.{keys_outside}
 use Rattle.repo_member.proofs.HiddenParts.{hidden_one}
 use Rattle.repo_member.proofs.GroupCatalogues.{lists_alike}
 
-pub hides_alike : (ps : List Publication) (a : Alone)
-    → in_group (alone_hides (map pair_in ps) a) ≡ member_hides_all ps (in_group a)
+pub hides_alike : (ps : List Publication) (a : MemberState)
+    → in_group (member_state_hides (map pair_in ps) a) ≡ member_hides_all ps (in_group a)
 hides_alike [] a = refl
 hides_alike (p ∷ ps) a =
     let shown : List Part → Member =
@@ -43,13 +43,13 @@ named_entries name (p ∷ ps) = go (is_equal_name (object_in p).name name) (name
   go true h = ap (λ (rest : List Pair). pair_in p ∷ rest) h
   go false h = h
 
-pub named_alike : (g : GroupKeys) (logs : Logs) (name : List Component) (a : Alone) → AreLogs g logs
-    → StoresTruly g logs a
-    → alone.catalogued_named name a ≡ map pair_in (catalogued_under logs (in_group a) name)
-named_alike g logs name a are truly =
-    ap (all_named name) (lists_alike g logs a are truly) ∙ named_entries name (catalogued logs (in_group a))
+pub named_alike : (g : GroupKeys) (logs : Logs) (name : List Component) (a : MemberState) → AreLogs g logs
+    → StoresConsistently g logs a
+    → member_state.catalogued_named name a ≡ map pair_in (catalogued_under logs (in_group a) name)
+named_alike g logs name a are consistent =
+    ap (all_named name) (lists_alike g logs a are consistent) ∙ named_entries name (catalogued logs (in_group a))
 
 pub deletes_alike : DeletesAlike
-deletes_alike g logs name a are truly =
-    ap (λ (pairs : List Pair). in_group (alone_hides pairs a)) (named_alike g logs name a are truly)
+deletes_alike g logs name a are consistent =
+    ap (λ (pairs : List Pair). in_group (member_state_hides pairs a)) (named_alike g logs name a are consistent)
     ∙ hides_alike (catalogued_under logs (in_group a) name) a

@@ -19,7 +19,7 @@ use Rattle.group_model.specs.Member as group_member
 use Rattle.group_model.specs.Changes as group
 use Rattle.group_model.specs.Events.{Came}
 use Rattle.group_model.specs.Events.Came.{Nothing, Its, Another}
-use Rattle.group_model.specs.World.{Outside, World, no_member, member, logs, sent_at}
+use Rattle.group_model.specs.World.{Environment, World, no_member, member, logs, sent_at}
 use Rattle.group_model.specs.Steps.{drawn, timer_at, claim_at, passes_checks, came_from, came_as, tried_once}
 use Rattle.group_model.specs.Steps.{planned_parts, attempts_for, fetches, settled_vector, settled_member, new_parts}
 use Rattle.group_model.specs.Steps.{after_publish, after_deliver, after_fire, after_claiming, after_came}
@@ -29,9 +29,10 @@ use Rattle.group_model.proofs.SortedSets.{same_members}
 use Rattle.repo_object.specs.Objects.{Post}
 use Rattle.repo_object.specs.Objects.Post.{Offers, Withdraws}
 use Rattle.repo_member.specs.Groups.{GroupKeys}
-use Rattle.repo_member.specs.Alone.{Alone, alone_plan, alone_publishes, alone_learns, alone_hears, alone_fires}
-use Rattle.repo_member.specs.Alone.{alone_claims}
-use Rattle.repo_member.specs.Alone.{alone_accepts, alone_takes, alone_ends_claims}
+use Rattle.repo_member.specs.MemberState.{MemberState, member_plan, member_publishes, member_learns, member_hears}
+use Rattle.repo_member.specs.MemberState.{member_fires}
+use Rattle.repo_member.specs.MemberState.{member_claims}
+use Rattle.repo_member.specs.MemberState.{member_accepts, member_takes, member_ends_claims}
 use Rattle.repo_member.specs.InGroup.{in_group, StoresInOrder, AreTries, that_came, after_timer}
 use Rattle.repo_holdings.specs.Taking.{with_all_tries}
 use Rattle.repo_holdings.specs.Taking.{Fetched}
@@ -44,19 +45,20 @@ use Rattle.repo_member.proofs.ChangeLemmas.{publishes_alike, accepts_alike, take
 use Rattle.repo_member.proofs.GroupPlans.{plans_alike}
 use Rattle.repo_member.proofs.GroupCatalogues.{lists_alike}
 
-module _ (w : World) (j : ℕ) (a : Alone) (is : IsMemberOf w j a) where
+module _ (w : World) (j : ℕ) (a : MemberState) (is : IsMemberOf w j a) where
   -- the member after a change of it
   pub changed : (change : Member → Member)
       → get_or (set w.members j (change (member w j))) j no_member ≡ change (in_group a)
   changed change = get_or-set_same w.members j (change (member w j)) no_member is.there ∙ ap change is.same
 
-post_is_event : (out : Outside) (w : World) (j : ℕ) (g : GroupKeys) (post : Post) (a : Alone) → IsMemberOf w j a
+post_is_event : (out : Environment) (w : World) (j : ℕ) (g : GroupKeys) (post : Post) (a : MemberState)
+    → IsMemberOf w j a
     → StoresInOrder a
-    → member (after_publish out w j post) j ≡ in_group (alone_publishes g post w.moment (drawn out w j) a)
+    → member (after_publish out w j post) j ≡ in_group (member_publishes g post w.time (drawn out w j) a)
 post_is_event out w j g post a is r =
-    changed w j a is (group.publishes (drawn out w j) w.moment j post)
-    ∙ ap (λ (n : ℕ). group.publishes (drawn out w j) w.moment n post (in_group a)) (sym is.number)
-    ∙ sym (publishes_alike g post w.moment (drawn out w j) a r)
+    changed w j a is (group.publishes (drawn out w j) w.time j post)
+    ∙ ap (λ (n : ℕ). group.publishes (drawn out w j) w.time n post (in_group a)) (sym is.number)
+    ∙ sym (publishes_alike g post w.time (drawn out w j) a r)
 
 pub publish_is_event : PublishIsEvent
 publish_is_event out w j g object a is r = post_is_event out w j g (Offers object) a is r
@@ -65,7 +67,7 @@ pub withdraw_is_event : WithdrawIsEvent
 withdraw_is_event out w j seq g a is r = post_is_event out w j g (Withdraws seq) a is r
 
 pub deliver_is_event : DeliverIsEvent
-deliver_is_event out w k j a is = changed w j a is (group.learns (drawn out w j) w.moment (sent_at w k).vector)
+deliver_is_event out w k j a is = changed w j a is (group.learns (drawn out w j) w.time (sent_at w k).vector)
 
 pub hear_is_event : HearIsEvent
 hear_is_event out w j sync a is =
@@ -79,72 +81,73 @@ hear_is_event out w j sync a is =
 
       go : (b : Bool)
           → member (cond b w (after_deliver out w j sync.vector)) j
-          ≡ in_group (cond b a (alone_hears sync.vector w.moment (drawn out w j) a))
+          ≡ in_group (cond b a (member_hears sync.vector w.time (drawn out w j) a))
       go true = is.same
-      go false = changed w j a is (group.learns (drawn out w j) w.moment sync.vector)
+      go false = changed w j a is (group.learns (drawn out w j) w.time sync.vector)
 
-fires_alike : (moment draw : ℕ) (a : Alone)
-    → in_group (alone_fires moment draw a) ≡ after_timer (fires_kept moment a.known a.machine) draw moment (in_group a)
-fires_alike moment draw a = go (nat_lt moment a.machine.deadline) where
+fires_alike : (time draw : ℕ) (a : MemberState)
+    → in_group (member_fires time draw a) ≡ after_timer (fires_kept time a.known a.machine) draw time (in_group a)
+fires_alike time draw a = go (nat_lt time a.machine.deadline) where
   due : (heard : Option (List ℕ))
-      → group.resets draw moment (in_group a) ≡ after_timer (due_kept a.known heard) draw moment (in_group a)
+      → group.resets draw time (in_group a) ≡ after_timer (due_kept a.known heard) draw time (in_group a)
   due None = refl
   due (Some vector) = covered (covers vector a.known) where
     covered : (b : Bool)
-        → group.resets draw moment (in_group a) ≡ after_timer (cond b Quiet Send) draw moment (in_group a)
+        → group.resets draw time (in_group a) ≡ after_timer (cond b Quiet Send) draw time (in_group a)
     covered true = refl
     covered false = refl
 
   go : (b : Bool)
-      → in_group (record a { machine = cond b a.machine (steady_kept moment draw a.machine) })
-      ≡ after_timer (cond b Early (due_kept a.known a.machine.heard)) draw moment (in_group a)
+      → in_group (record a { machine = cond b a.machine (steady_kept time draw a.machine) })
+      ≡ after_timer (cond b Early (due_kept a.known a.machine.heard)) draw time (in_group a)
   go true = refl
   go false = due a.machine.heard
 
 pub fire_is_event : FireIsEvent
 fire_is_event out w j a is =
     go (timer_at w j)
-    ∙ ap (λ (m : Member). after_timer (fires_kept w.moment m.known m.machine) (drawn out w j) w.moment m) is.same
-    ∙ sym (fires_alike w.moment (drawn out w j) a) where
-      go : (x : Fired) → member (after_fire out w j x) j ≡ after_timer x (drawn out w j) w.moment (member w j)
+    ∙ ap (λ (m : Member). after_timer (fires_kept w.time m.known m.machine) (drawn out w j) w.time m) is.same
+    ∙ sym (fires_alike w.time (drawn out w j) a) where
+      go : (x : Fired) → member (after_fire out w j x) j ≡ after_timer x (drawn out w j) w.time (member w j)
       go Early = refl
-      go Quiet = get_or-set_same w.members j (group.resets (drawn out w j) w.moment (member w j)) no_member is.there
-      go Send = get_or-set_same w.members j (group.resets (drawn out w j) w.moment (member w j)) no_member is.there
+      go Quiet = get_or-set_same w.members j (group.resets (drawn out w j) w.time (member w j)) no_member is.there
+      go Send = get_or-set_same w.members j (group.resets (drawn out w j) w.time (member w j)) no_member is.there
 
 pub restart_is_event : RestartIsEvent
-restart_is_event out w j a is = changed w j a is (group.restarts (drawn out w j) w.moment)
+restart_is_event out w j a is = changed w j a is (group.restarts (drawn out w j) w.time)
 
 pub open_parts_alike : OpenPartsAlike
-open_parts_alike w j g a is truly =
+open_parts_alike w j g a is consistent =
     ap (λ (m : Member). unclaimed (group_member.plan_of (logs w) m)) is.same
-    ∙ ap unclaimed (sym (plans_alike g (logs w) a truly.published truly.stores))
+    ∙ ap unclaimed (sym (plans_alike g (logs w) a consistent.published consistent.stores))
 
 pub catalogues_alike : CataloguesAlike
-catalogues_alike w j g a is truly =
-    ap (catalogue (logs w)) is.same ∙ sym (lists_alike g (logs w) a truly.published truly.stores)
+catalogues_alike w j g a is consistent =
+    ap (catalogue (logs w)) is.same ∙ sym (lists_alike g (logs w) a consistent.published consistent.stores)
 
 pub claim_is_event : ClaimIsEvent
-claim_is_event out w j f g a is truly idle =
-    ap (λ (ts : List Part). member (after_claiming w j f (first ts)) j) (open_parts_alike w j g a is truly)
-    ∙ go (first (unclaimed (alone_plan a))) where
+claim_is_event out w j f g a is consistent idle =
+    ap (λ (ts : List Part). member (after_claiming w j f (first ts)) j) (open_parts_alike w j g a is consistent)
+    ∙ go (first (unclaimed (member_plan a))) where
       with_claims : List (Option Part) → Member
       with_claims claims = record (in_group a) { claims = claims }
 
-      go : (x : Option Part) → member (after_claiming w j f x) j ≡ in_group (alone_claims f x a)
+      go : (x : Option Part) → member (after_claiming w j f x) j ≡ in_group (member_claims f x a)
       go None = is.same ∙ ap with_claims (sym (ap (set a.claims (f - 1)) (sym idle) ∙ set-get_or a.claims (f - 1) None))
       go (Some t) = changed w j a is (group.member_with_claim f (Some t))
 
 pub lose_is_event : LoseIsEvent
 lose_is_event out w j f a is = changed w j a is (group.member_with_claim f None)
 
-claimed_alike : (w : World) (j f : ℕ) (t : Part) (a : Alone) → IsMemberOf w j a → claim_of (alone_plan a) f ≡ Some t
+claimed_alike : (w : World) (j f : ℕ) (t : Part) (a : MemberState) → IsMemberOf w j a → claim_of (member_plan a) f
+    ≡ Some t
     → claim_at w j f ≡ Some t
 claimed_alike w j f t a is claim = ap (λ (m : Member). get_or m.claims (f - 1) None) is.same ∙ claim
 
-came_is_event : (out : Outside) (w : World) (j f : ℕ) (t : Part) (octets : List ℕ) (a : Alone) (came : Came)
+came_is_event : (out : Environment) (w : World) (j f : ℕ) (t : Part) (octets : List ℕ) (a : MemberState) (came : Came)
     → IsMemberOf w j a → StoresInOrder a
     → member (after_came out w j f (Some t) came) j
-    ≡ in_group (cond (passes_checks came) (alone_accepts f t octets a) a)
+    ≡ in_group (cond (passes_checks came) (member_accepts f t octets a) a)
 came_is_event out w j f t octets a Nothing is r = is.same
 came_is_event out w j f t octets a Its is r = changed w j a is (group.takes f t) ∙ sym (accepts_alike f t octets a r)
 came_is_event out w j f t octets a Another is r =
@@ -176,15 +179,16 @@ fetch_is_event out w j tries loss xs a is r outcome =
 
 pub learns_at_once : LearnsAtOnce
 unfolding join_all
-learns_at_once [] a = ap (λ (v : List ℕ). let b : Alone = record a { known = v } in b) (sym (join-[] a.known))
-learns_at_once (told ∷ vectors) a =
-    learns_at_once vectors (alone_learns told a)
-    ∙ ap (λ (v : List ℕ). let b : Alone = record a { known = v } in b) (join_assoc a.known told (join_all vectors))
+learns_at_once [] a = ap (λ (v : List ℕ). let b : MemberState = record a { known = v } in b) (sym (join-[] a.known))
+learns_at_once (reported ∷ vectors) a =
+    learns_at_once vectors (member_learns reported a)
+    ∙ ap (λ (v : List ℕ). let b : MemberState = record a { known = v } in b)
+    (join_assoc a.known reported (join_all vectors))
 
 pub learns_what_all_know : LearnsWhatAllKnow
-learns_what_all_know w a vectors told =
-    ap (λ (b : Alone). b.known) (learns_at_once vectors a)
-    ∙ join_all_same (a.known ∷ vectors) (map (λ (m : Member). m.known) w.members) told
+learns_what_all_know w a vectors reported =
+    ap (λ (b : MemberState). b.known) (learns_at_once vectors a)
+    ∙ join_all_same (a.known ∷ vectors) (map (λ (m : Member). m.known) w.members) reported
 
 none_tried : (xs : List Fetched) (tried : List (Part × ℕ)) → AreTries (λ t. 0) xs → with_all_tries xs tried ≡ tried
 none_tried [] tried all = refl
@@ -201,20 +205,20 @@ same_gained ts us held r same =
     (λ t. contains-insert_keys ts held t ∙ ap (λ (b : Bool). b || contains part_cmp held t) (same t)
     ∙ sym (contains-insert_keys us held t))
 
-gathered_alike : (w : World) (j : ℕ) (vectors : List (List ℕ)) (xs : List Fetched) (a : Alone) → IsMemberOf w j a
+gathered_alike : (w : World) (j : ℕ) (vectors : List (List ℕ)) (xs : List Fetched) (a : MemberState) → IsMemberOf w j a
     → StoresInOrder a → IsSettling w j a vectors xs
-    → settled_member w (member w j) ≡ in_group (alone_takes xs (learns_all vectors (alone_ends_claims a)))
+    → settled_member w (member w j) ≡ in_group (member_takes xs (learns_all vectors (member_ends_claims a)))
 gathered_alike w j vectors xs a is r settling =
     let gathered : Member → List Part → List ℕ → Member =
     λ m held known. record m { known = known; held = held; claims = no_claims } in
-    let ended : Alone = alone_ends_claims a in
-    let told : Alone = record ended { known = (learns_all vectors ended).known } in
+    let ended : MemberState = member_ends_claims a in
+    let reported : MemberState = record ended { known = (learns_all vectors ended).known } in
     let known : (learns_all vectors ended).known ≡ settled_vector w =
-    learns_what_all_know w ended vectors settling.told in
-    let learnt : learns_all vectors ended ≡ told =
+    learns_what_all_know w ended vectors settling.reported in
+    let learnt : learns_all vectors ended ≡ reported =
     learns_at_once vectors ended
-    ∙ ap (λ (v : List ℕ). let b : Alone = record ended { known = v } in b)
-    (ap (λ (b : Alone). b.known) (sym (learns_at_once vectors ended))) in
+    ∙ ap (λ (v : List ℕ). let b : MemberState = record ended { known = v } in b)
+    (ap (λ (b : MemberState). b.known) (sym (learns_at_once vectors ended))) in
     let outcome : List (Part × ℕ) → Member = λ attempts.
     record (gathered (in_group a) (insert_keys (that_came xs) (keys a.store)) (learns_all vectors ended).known) {
       attempts = attempts;
@@ -224,8 +228,8 @@ gathered_alike w j vectors xs a is r settling =
     (sym (same_gained (that_came xs) (new_parts w (member w j)) (keys a.store) r settling.came))
     ∙ ap (gathered (in_group a) (insert_keys (that_came xs) (keys a.store))) (sym known)
     ∙ ap outcome (sym (none_tried xs a.attempts settling.tried))
-    ∙ sym (takes_in_group xs told r)
-    ∙ ap (λ (b : Alone). in_group (alone_takes xs b)) (sym learnt)
+    ∙ sym (takes_in_group xs reported r)
+    ∙ ap (λ (b : MemberState). in_group (member_takes xs b)) (sym learnt)
 
 pub gathering_is_event : GatheringIsEvent
 gathering_is_event out w j vectors xs a is r settling =
@@ -234,4 +238,4 @@ gathering_is_event out w j vectors xs a is r settling =
 pub settle_is_event : SettleIsEvent
 settle_is_event out w j vectors xs a is r settling =
     member_settled out w j is.there
-    ∙ ap (group.resets (drawn out w j) w.moment) (gathered_alike w j vectors xs a is r settling)
+    ∙ ap (group.resets (drawn out w j) w.time) (gathered_alike w j vectors xs a is r settling)

@@ -17,7 +17,7 @@ use Rattle.sorted_lists.specs.SortedList.{keys, IsBefore, Rises, contains, value
 use Rattle.sorted_lists.proofs.Orders.{Exact, less_back}
 use Rattle.sorted_lists.specs.Range.{numbers_from}
 use Rattle.repo_plan.specs.declared.shape.Shape.{Shape}
-use Rattle.repo_plan.specs.Parts.{Pair, pair_cmp, part_cmp, pair_of, part_of, parts_of, parts_behind, parent}
+use Rattle.repo_plan.specs.Parts.{Pair, pair_cmp, part_cmp, pair_of, part_of, parts_of, parts_after, parent}
 use Rattle.repo_plan.specs.Parts.{shape_of_segments}
 use Rattle.repo_plan.specs.Plan.{PlanState, holds, knows, is_in, is_asked, can_be_asked, shape_of, is_claim_in}
 use Rattle.repo_plan.specs.Plan.{claims_part_in, opening}
@@ -37,9 +37,9 @@ use Rattle.repo_catalog.specs.Entries.{publication_of, entry_has_name, all_named
 use Rattle.group_model.proofs.Lists.{from_filter, each_all, in_at}
 use Rattle.group_model.proofs.SortedSets.{same_set}
 use Rattle.repo_holdings.specs.Records.{Packet}
-use Rattle.repo_holdings.specs.Listed.{stored_at, listing_in, listing_at, said_at, shapes_in, are_stored}
-use Rattle.repo_object.specs.Publication.{shape_said}
-use Rattle.repo_holdings.specs.Listed.{whole_at, entry_at, entry_listed, entry_of_listing, entries_in, alone_catalogue}
+use Rattle.repo_holdings.specs.Listed.{stored_at, listing_in, listing_at, stated_at, shapes_in, are_stored}
+use Rattle.repo_object.specs.Publication.{shape_stated}
+use Rattle.repo_holdings.specs.Listed.{whole_at, entry_at, entry_listed, entry_of_listing, entries_in, member_catalogue}
 use Rattle.repo_holdings.specs.Listed.{is_withdrawn, is_withdrawal, withdrawn_by}
 use Rattle.repo_holdings.specs.Hiding.{outside_all}
 use Rattle.repo_holdings.proofs.CatalogueLemmas.{entries_value, entries_rise, Keyed, entries_keyed}
@@ -49,14 +49,14 @@ use Rattle.repo_holdings.proofs.AskedLemmas.{listing_sized}
 
 -- ---- what is catalogued is stored wholly
 
--- how many parts a publication of so many segments has behind its record
+-- how many parts a publication of so many segments has after its record
 abbrev pub parts_counted : ℕ → ℕ
-parts_counted n = parts_behind (shape_of_segments n)
+parts_counted n = parts_after (shape_of_segments n)
 
--- an object of so many segments whose record is stored, and every part behind it
+-- an object of so many segments whose record is stored, and every part after it
 pub record IsWhole (packets : List Packet) (pair : Pair) (n : ℕ) : Type 0 where
   pub listing : Listed
-  pub says : said_at packets pair ≡ Some (Lists listing)
+  pub says : stated_at packets pair ≡ Some (Lists listing)
   pub counts : listing.segments ≡ n
   pub few : n ≤ 20000
   pub each : (x : ℕ) → x ≤ parts_counted n → is_some (stored_at packets pair x) ≡ true
@@ -123,7 +123,7 @@ keyed_at (y ∷ es) x k (inl same) = subst (λ (z : Pair × Entry). publication_
 keyed_at (y ∷ es) x k (inr i) = keyed_at es x k.1 i
 
 -- an entry of the catalogue is that of its publication
-entry_of_listed : (packets : List Packet) (e : Entry) → Rises part_cmp (keys packets) → In e (alone_catalogue packets)
+entry_of_listed : (packets : List Packet) (e : Entry) → Rises part_cmp (keys packets) → In e (member_catalogue packets)
     → entry_at packets (publication_of e) ≡ Some e
 entry_of_listed packets e r i =
     let x : (x : Pair × Entry) × (In x (entries_in packets)) × (e ≡ x.1) =
@@ -135,7 +135,7 @@ entry_of_listed packets e r i =
     ap (entry_at packets) (sym pair) ∙ value ∙ ap (λ (y : Entry). Some y) (sym x.2)
 
 pub entry_listed_whole : (packets : List Packet) (e : Entry) → Rises part_cmp (keys packets)
-    → In e (alone_catalogue packets) → IsWhole packets (publication_of e) e.segments
+    → In e (member_catalogue packets) → IsWhole packets (publication_of e) e.segments
 entry_listed_whole packets e r i = whole_of_entry packets (publication_of e) e (entry_of_listed packets e r i)
 
 -- ---- such a publication in a sound plan
@@ -158,22 +158,22 @@ module _ (p : PlanState) (packets : List Packet) (pair : Pair) (n : ℕ) (s : Pl
   shaped =
       ap (λ (es : List (Pair × Shape)). value_of pair_cmp es pair) read.shapes
       ∙ shapes_value packets pair read.in_order
-      ∙ ap (option_map shape_said) whole.says
+      ∙ ap (option_map shape_stated) whole.says
       ∙ ap (λ (k : ℕ). Some (shape_of_segments k)) whole.counts
 
   counted : (t : Part) → is_asked p t ≡ true → pair_of t ≡ pair → t.part ≤ parts_counted n
   counted t asked here =
       let can : can_be_asked p.held (shape_of p (pair_of t)) t ≡ true =
       (and_parts (knows p (pair_of t)) (can_be_asked p.held (shape_of p (pair_of t)) t) asked).1 in
-      let told : can_be_asked p.held (Some (shape_of_segments n)) t ≡ true =
+      let reported : can_be_asked p.held (Some (shape_of_segments n)) t ≡ true =
       ap (λ (o : Option Shape). can_be_asked p.held o t) (sym shaped ∙ ap (shape_of p) (sym here)) ∙ can in
       elim (or_cases (t.part == 0)
-      (nat_le t.part (parts_counted n) && contains part_cmp p.held (parent (shape_of_segments n) t)) told) [
+      (nat_le t.part (parts_counted n) && contains part_cmp p.held (parent (shape_of_segments n) t)) reported) [
         | inl first ↦ omega (arith, eqb-true t.part 0 first)
-        | inr behind ↦
+        | inr after ↦
             leb-true t.part (parts_counted n)
             (and_parts (nat_le t.part (parts_counted n))
-            (contains part_cmp p.held (parent (shape_of_segments n) t)) behind).0
+            (contains part_cmp p.held (parent (shape_of_segments n) t)) after).0
       ]
 
   pub whole_object : is_withdrawal packets pair ≡ false
@@ -297,11 +297,11 @@ named_rises name (e ∷ es) r = go (entry_has_name name e) (named_rises name es 
 
 -- each has its entry
 pub named_entry : (packets : List Packet) (name : List Component) (pair : Pair) → Rises part_cmp (keys packets)
-    → In pair (all_named name (alone_catalogue packets)) → is_some (entry_at packets pair) ≡ true
+    → In pair (all_named name (member_catalogue packets)) → is_some (entry_at packets pair) ≡ true
 named_entry packets name pair r i =
-    let e : (e : Entry) × (In e (filter (entry_has_name name) (alone_catalogue packets))) × (pair ≡ publication_of e) =
-    from_map publication_of (filter (entry_has_name name) (alone_catalogue packets)) pair i in
-    let there = from_filter (entry_has_name name) (alone_catalogue packets) e.0 e.1 in
+    let e : (e : Entry) × (In e (filter (entry_has_name name) (member_catalogue packets))) × (pair ≡ publication_of e) =
+    from_map publication_of (filter (entry_has_name name) (member_catalogue packets)) pair i in
+    let there = from_filter (entry_has_name name) (member_catalogue packets) e.0 e.1 in
     ap (λ (q : Pair). is_some (entry_at packets q)) e.2 ∙ ap is_some (entry_of_listed packets e.0 r there.0)
 
 -- each that stands before another is another
@@ -320,11 +320,11 @@ pub one_more_dropped : (p : PlanState) (packets : List Packet) (pair : Pair) (n 
     → ((q : Pair) → In q pairs → eq_by_cmp pair_cmp q pair ≡ false)
     → length (outside_all (pairs ++ pair ∷ []) packets) + (parts_counted n + 1) ≡ length (outside_all pairs packets)
 one_more_dropped p packets pair n pairs s read whole others =
-    let front = outside_all pairs packets in
-    let split = lengths_inside pair front in
-    let inside : length (packets_in pair front) ≡ parts_counted n + 1 =
+    let prefix = outside_all pairs packets in
+    let split = lengths_inside pair prefix in
+    let inside : length (packets_in pair prefix) ≡ parts_counted n + 1 =
     ap length (inside_all pair pairs packets others) ∙ packets_counted p packets pair n s read whole in
-    let more : length (outside_all (pairs ++ pair ∷ []) packets) ≡ length (packets_outside pair front) =
+    let more : length (outside_all (pairs ++ pair ∷ []) packets) ≡ length (packets_outside pair prefix) =
     ap length (outside_append pairs pair packets) in
     omega (arith, split, inside, more)
 

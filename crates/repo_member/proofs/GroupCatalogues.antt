@@ -14,7 +14,7 @@ use Rattle.sha2.specs.Sha256.{sha256}
 use Rattle.repo_plan.specs.declared.part.Part.{Part}
 use Rattle.sorted_lists.specs.SortedList.{keys, Rises, value_of}
 use Rattle.sorted_lists.specs.Range.{numbers_from}
-use Rattle.repo_plan.specs.Parts.{Pair, pair_cmp, part_cmp, part_of, parts_of, parts_behind, shape_of_segments}
+use Rattle.repo_plan.specs.Parts.{Pair, pair_cmp, part_cmp, part_of, parts_of, parts_after, shape_of_segments}
 use Rattle.repo_plan.specs.Parts.{index_packets}
 use Rattle.sorted_lists.proofs.Orders.{Exact}
 use Rattle.repo_plan.proofs.Orders.{exact_pairs}
@@ -23,7 +23,7 @@ use Rattle.repo_plan.proofs.Known.{in_numbers, in_parts_of}
 use Rattle.repo_object.specs.Objects.{NamedContents, Post, IsObject, IsPost, offered, shape_in, withdraws_number}
 use Rattle.repo_object.specs.Objects.Post.{Offers, Withdraws}
 use Rattle.repo_object.specs.Publication.{Listed, RecordSays, published_listing, published_record, packet_at}
-use Rattle.repo_object.specs.Verdict.{said_in}
+use Rattle.repo_object.specs.Verdict.{stated_in}
 use Rattle.repo_catalog.specs.declared.entry.Entry.{Entry}
 use Rattle.repo_catalog.specs.Entries.{publication_of}
 use Rattle.group_model.specs.Publications.{Logs, Publication, pair_in, parts_in, published, post_at, published_entry}
@@ -35,22 +35,22 @@ use Rattle.group_model.proofs.Parts.{IsIn, in_published}
 use Rattle.group_model.proofs.Among.{at_pair, is_published}
 use Rattle.group_model.proofs.Catalogues.{lists_in_order}
 use Rattle.repo_holdings.specs.Records.{records_in}
-use Rattle.repo_holdings.specs.Listed.{stored_at, object_said, withdrawn_by, listing_in, listing_at, is_that}
+use Rattle.repo_holdings.specs.Listed.{stored_at, object_stated, withdrawn_by, listing_in, listing_at, is_that}
 use Rattle.repo_holdings.specs.Listed.{is_withdrawn}
 use Rattle.repo_object.specs.Packets.{packet_content}
 use Rattle.repo_holdings.specs.Listed.{stored_content, contents_joined, are_stored, entry_of_listing}
 use Rattle.repo_holdings.specs.Listed.{entry_listed, whole_at, entry_at, entries_in}
 use Rattle.repo_holdings.specs.Listed.{withdraws as withdraws_record}
 use Rattle.repo_member.specs.Groups.{GroupKeys, publisher_at}
-use Rattle.repo_member.specs.Alone.{Alone}
-use Rattle.repo_member.specs.InGroup.{in_group, AreLogs, StoresTruly, ListsAlike}
+use Rattle.repo_member.specs.MemberState.{MemberState}
+use Rattle.repo_member.specs.InGroup.{in_group, AreLogs, StoresConsistently, ListsAlike}
 use Rattle.repo_holdings.proofs.SortedMaps.{same_map}
 use Rattle.repo_holdings.proofs.RecordLemmas.{rises_records, value_of-records}
 use Rattle.repo_holdings.proofs.CatalogueLemmas.{entries_value, entries_rise}
 use Rattle.repo_holdings.proofs.GainingLemmas.{contains-value}
 use Rattle.repo_member.proofs.FoundLemmas.{value_in}
-use Rattle.repo_member.proofs.TruePackets.{is_there, record_says, segment_content, published_post, published_by}
-use Rattle.repo_member.proofs.TruePackets.{published_low}
+use Rattle.repo_member.proofs.ConsistentPackets.{is_there, record_says, segment_content, published_post, published_by}
+use Rattle.repo_member.proofs.ConsistentPackets.{published_low}
 
 -- ---- maps in order that have the same entries
 
@@ -124,7 +124,8 @@ none_entry e h = cc
 
 -- ---- what is stored of a publication
 
-module _ (g : GroupKeys) (logs : Logs) (a : Alone) (are : AreLogs g logs) (truly : StoresTruly g logs a) where
+module _ (g : GroupKeys) (logs : Logs) (a : MemberState) (are : AreLogs g logs)
+    (consistent : StoresConsistently g logs a) where
   abbrev m : Member
   m = in_group a
 
@@ -132,16 +133,16 @@ module _ (g : GroupKeys) (logs : Logs) (a : Alone) (are : AreLogs g logs) (truly
   held_of t = contains-value a.store t
 
   published_of : (pair : Pair) (x : ℕ) → is_some (stored_at a.store pair x) ≡ true → IsPublished logs pair
-  published_of pair x h = truly.published (part_of pair x) (held_of (part_of pair x) ∙ h)
+  published_of pair x h = consistent.published (part_of pair x) (held_of (part_of pair x) ∙ h)
 
   -- a stored record says what was published
   says : (pair : Pair) (octets : List ℕ) → stored_at a.store pair 0 ≡ Some octets
-      → said_in octets ≡ Some (published_record (publisher_at g pair.0) pair.1 (post_at logs pair))
+      → stated_in octets ≡ Some (published_record (publisher_at g pair.0) pair.1 (post_at logs pair))
   says pair octets h =
       let there = published_of pair 0 (ap is_some h) in
       record_says (publisher_at g pair.0) pair.1 (post_at logs pair) (published_by g logs are pair there)
       (published_post g logs are pair there) (published_low g logs are pair there) octets
-      (truly.packets (part_of pair 0) octets h)
+      (consistent.packets (part_of pair 0) octets h)
 
   -- ---- withdrawals
 
@@ -169,7 +170,7 @@ module _ (g : GroupKeys) (logs : Logs) (a : Alone) (are : AreLogs g logs) (truly
       let q : Pair = found.0.0 in
       let stored : stored_at a.store q 0 ≡ Some found.0.1 =
       sym (value_of-records a.store q)
-      ∙ value_in exact_pairs (records_in a.store) found.0 (rises_records a.store truly.in_order) found.1 in
+      ∙ value_in exact_pairs (records_in a.store) found.0 (rises_records a.store consistent.in_order) found.1 in
       let there = published_of q 0 (ap is_some stored) in
       in_any (λ (p : Publication). withdraws pair p && member_holds m (part_of (pair_in p) 0)) (published logs)
       (at_pair logs q) (is_published logs q there)
@@ -212,8 +213,8 @@ module _ (g : GroupKeys) (logs : Logs) (a : Alone) (are : AreLogs g logs) (truly
     abbrev lists : Listed
     lists = published_listing (publisher_at g pair.0) pair.1 object
 
-    abbrev behind : ℕ
-    behind = parts_behind (shape_of_segments (length object.contents))
+    abbrev after : ℕ
+    after = parts_after (shape_of_segments (length object.contents))
 
     is_object_there : IsObject object
     is_object_there = subst (IsPost pair.1) is (published_post g logs are pair there)
@@ -221,20 +222,20 @@ module _ (g : GroupKeys) (logs : Logs) (a : Alone) (are : AreLogs g logs) (truly
     listed : listing_at a.store pair ≡ Some lists
     listed =
         ap (option_and_then listing_in) stored
-        ∙ ap (option_and_then object_said) (says pair octets stored)
-        ∙ ap (λ (post : Post). object_said (published_record (publisher_at g pair.0) pair.1 post)) is
+        ∙ ap (option_and_then object_stated) (says pair octets stored)
+        ∙ ap (λ (post : Post). object_stated (published_record (publisher_at g pair.0) pair.1 post)) is
 
-    parts_are : parts_in (at_pair logs pair) ≡ map (part_of pair) (0 ∷ numbers_from 1 behind)
+    parts_are : parts_in (at_pair logs pair) ≡ map (part_of pair) (0 ∷ numbers_from 1 after)
     parts_are =
-        ap (λ (post : Post). parts_of pair (parts_behind (shape_in post))) is
-        ∙ (let more : behind + 1 ≡ suc behind = omega arith in
+        ap (λ (post : Post). parts_of pair (parts_after (shape_in post))) is
+        ∙ (let more : after + 1 ≡ suc after = omega arith in
         ap (λ (n : ℕ). map (part_of pair) (numbers_from 0 n)) more)
 
-    whole_stored : holds_all m (at_pair logs pair) ≡ are_stored a.store pair behind
+    whole_stored : holds_all m (at_pair logs pair) ≡ are_stored a.store pair after
     whole_stored =
         ap (list_all (member_holds m)) parts_are
-        ∙ all_held pair (0 ∷ numbers_from 1 behind)
-        ∙ ap (λ (o : Option (List ℕ)). is_some o && are_stored a.store pair behind) stored
+        ∙ all_held pair (0 ∷ numbers_from 1 after)
+        ∙ ap (λ (o : Option (List ℕ)). is_some o && are_stored a.store pair after) stored
 
     content_stored : holds_all m (at_pair logs pair) ≡ true → (k : ℕ) → k < length object.contents
         → stored_content a.store pair (index_packets (length object.contents) + 1 + k) ≡ get_or object.contents k []
@@ -242,15 +243,15 @@ module _ (g : GroupKeys) (logs : Logs) (a : Alone) (are : AreLogs g logs) (truly
         let x : ℕ = index_packets (length object.contents) + 1 + k in
         let next : x ≡ index_packets (length object.contents) + k + 1 = omega arith in
         let held : is_some (stored_at a.store pair x) ≡ true =
-        each_all (λ y. is_some (stored_at a.store pair y)) (numbers_from 1 behind) (sym whole_stored ∙ whole) x
-        (in_numbers 1 behind x (omega arith) (omega (arith, inside))) in
+        each_all (λ y. is_some (stored_at a.store pair y)) (numbers_from 1 after) (sym whole_stored ∙ whole) x
+        (in_numbers 1 after x (omega arith) (omega (arith, inside))) in
         let found = is_there (stored_at a.store pair x) held in
         ap (λ (o : Option (List ℕ)). packet_content (unwrap_or o [])) found.1
         ∙ segment_content (publisher_at g pair.0) pair.1 object k found.0 (published_by g logs are pair there)
         is_object_there
         (ap (packet_at (publisher_at g pair.0) pair.1 (Offers object)) (sym next)
         ∙ ap (λ (post : Post). packet_at (publisher_at g pair.0) pair.1 post x) (sym is)
-        ∙ truly.packets (part_of pair x) found.0 found.1)
+        ∙ consistent.packets (part_of pair x) found.0 found.1)
 
     same_entry : holds_all m (at_pair logs pair) ≡ true
         → entry_of_listing a.store pair lists ≡ published_entry (at_pair logs pair)
@@ -315,14 +316,14 @@ module _ (g : GroupKeys) (logs : Logs) (a : Alone) (are : AreLogs g logs) (truly
 
   -- ---- all entries
 
-  no_object_said : (pair : Pair) (seq : ℕ) (octets : List ℕ) → stored_at a.store pair 0 ≡ Some octets
+  no_object_stated : (pair : Pair) (seq : ℕ) (octets : List ℕ) → stored_at a.store pair 0 ≡ Some octets
       → post_at logs pair ≡ Withdraws seq → entry_at a.store pair ≡ None
-  no_object_said pair seq octets stored is =
+  no_object_stated pair seq octets stored is =
       ap (λ (o : Option Entry). cond (is_withdrawn a.store pair) None o)
       (ap (option_and_then (entry_listed a.store pair))
       (ap (option_and_then listing_in) stored
-      ∙ ap (option_and_then object_said) (says pair octets stored)
-      ∙ ap (λ (post : Post). object_said (published_record (publisher_at g pair.0) pair.1 post)) is))
+      ∙ ap (option_and_then object_stated) (says pair octets stored)
+      ∙ ap (λ (post : Post). object_stated (published_record (publisher_at g pair.0) pair.1 post)) is))
       ∙ none_either (is_withdrawn a.store pair) where
         none_either : (b : Bool) → let n : Option Entry = None in cond b n n ≡ n
         none_either true = refl
@@ -344,7 +345,7 @@ module _ (g : GroupKeys) (logs : Logs) (a : Alone) (are : AreLogs g logs) (truly
     of_post : (octets : List ℕ) → stored_at a.store pair 0 ≡ Some octets → (post : Post) → post_at logs pair ≡ post
         → IsPublished logs pair × (is_listed (published logs) m (at_pair logs pair) ≡ true)
         × (entry_at a.store pair ≡ Some (published_entry (at_pair logs pair)))
-    of_post octets p (Withdraws seq) is = absurd (none_entry e (sym (no_object_said pair seq octets p is) ∙ h))
+    of_post octets p (Withdraws seq) is = absurd (none_entry e (sym (no_object_stated pair seq octets p is) ∙ h))
     of_post octets p (Offers object) is =
         let there = published_of pair 0 (ap is_some p) in
         let listed_so = entry_listed_there pair there object is octets p e h in
@@ -359,7 +360,7 @@ module _ (g : GroupKeys) (logs : Logs) (a : Alone) (are : AreLogs g logs) (truly
   there_too : (pair : Pair) (e : Entry) → value_of pair_cmp (entries_in a.store) pair ≡ Some e
       → In (pair, e) (map keyed (catalogued logs m))
   there_too pair e h =
-      let entry : entry_at a.store pair ≡ Some e = sym (entries_value a.store pair truly.in_order) ∙ h in
+      let entry : entry_at a.store pair ≡ Some e = sym (entries_value a.store pair consistent.in_order) ∙ h in
       let all = entry_there pair e entry in
       let same : published_entry (at_pair logs pair) ≡ e =
       same_Some (published_entry (at_pair logs pair)) e (sym all.2 ∙ entry) in
@@ -387,7 +388,7 @@ module _ (g : GroupKeys) (logs : Logs) (a : Alone) (are : AreLogs g logs) (truly
     record_there =
         sym (held_of (part_of pair 0))
         ∙ each_all (member_holds m) (parts_in (at_pair logs pair)) whole (part_of pair 0)
-        (in_parts_of (parts_behind (shape_in (post_at logs pair))) (part_of pair 0) (omega arith))
+        (in_parts_of (parts_after (shape_in (post_at logs pair))) (part_of pair 0) (omega arith))
 
     of_post : (post : Post) → post_at logs pair ≡ post
         → entry_at a.store pair ≡ Some (published_entry (at_pair logs pair))
@@ -415,7 +416,7 @@ module _ (g : GroupKeys) (logs : Logs) (a : Alone) (are : AreLogs g logs) (truly
       let both : (pair, e) ≡ keyed q = from.2 in
       let key : pair ≡ pair_in q = ap (λ (x : Pair × Entry). x.0) both in
       let value : e ≡ published_entry q = ap (λ (x : Pair × Entry). x.1) both in
-      entries_value a.store pair truly.in_order
+      entries_value a.store pair consistent.in_order
       ∙ ap (entry_at a.store) key
       ∙ entry
       ∙ ap (λ (x : Publication). Some (published_entry x)) (sym same)
@@ -424,11 +425,11 @@ module _ (g : GroupKeys) (logs : Logs) (a : Alone) (are : AreLogs g logs) (truly
   entries_alike : entries_in a.store ≡ map keyed (catalogued logs m)
   entries_alike =
       same_entries exact_pairs (entries_in a.store) (map keyed (catalogued logs m))
-      (entries_rise a.store truly.in_order)
+      (entries_rise a.store consistent.in_order)
       (subst (Rises pair_cmp) (sym (keys_keyed (catalogued logs m))) (lists_in_order logs m))
       there_too here_too
 
 pub lists_alike : ListsAlike
-lists_alike g logs a are truly =
-    ap (map (λ (x : Pair × Entry). x.1)) (entries_alike g logs a are truly)
+lists_alike g logs a are consistent =
+    ap (map (λ (x : Pair × Entry). x.1)) (entries_alike g logs a are consistent)
     ∙ values_keyed (catalogued logs (in_group a))

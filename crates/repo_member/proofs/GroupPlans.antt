@@ -10,26 +10,27 @@ use Rattle.repo_plan.specs.Parts.{Pair, part_cmp, pair_of}
 use Rattle.repo_plan.specs.Plan.{PlanState, wanted}
 use Rattle.repo_plan.proofs.Orders.{exact_parts}
 use Rattle.sorted_lists.proofs.Sets.{In, in_map, contains_in}
-use Rattle.repo_object.specs.Verdict.{said_in}
+use Rattle.repo_object.specs.Verdict.{stated_in}
 use Rattle.group_model.specs.Publications.{Logs, post_at, shape_at}
-use Rattle.group_model.specs.Member.{told_by}
+use Rattle.group_model.specs.Member.{reported_by}
 use Rattle.group_model.specs.Sound.{IsPublished}
 use Rattle.group_model.specs.Wanted.{IsWantedPart}
 use Rattle.group_model.proofs.Wants.{wants_those}
 use Rattle.repo_holdings.specs.KeptValues.{with_kept, kept_values}
 use Rattle.repo_holdings.specs.Records.{Packet, records_in}
 use Rattle.repo_holdings.specs.Listed.{shapes_in}
-use Rattle.repo_object.specs.Publication.{shape_said}
+use Rattle.repo_object.specs.Publication.{shape_stated}
 use Rattle.repo_object.proofs.Publications.{shape_again}
 use Rattle.repo_member.specs.Groups.{GroupKeys, publisher_at}
-use Rattle.repo_member.specs.Alone.{Alone, alone_plan}
-use Rattle.repo_member.specs.InGroup.{AreLogs, StoresTruly, true_packet, in_group, SoundStoresTruly, PlansAlike}
+use Rattle.repo_member.specs.MemberState.{MemberState, member_plan}
+use Rattle.repo_member.specs.InGroup.{AreLogs, StoresConsistently, published_packet, in_group, SoundStoresConsistently}
+use Rattle.repo_member.specs.InGroup.{PlansAlike}
 use Rattle.repo_member.specs.InGroup.{WantsAlike}
 use Rattle.repo_member.proofs.FoundLemmas.{value_in}
-use Rattle.repo_member.proofs.TruePackets.{record_says, published_post, published_by, published_low}
+use Rattle.repo_member.proofs.ConsistentPackets.{record_says, published_post, published_by, published_low}
 
-pub sound_stores_truly : SoundStoresTruly
-sound_stores_truly g logs a s packets = record {
+pub sound_stores_consistently : SoundStoresConsistently
+sound_stores_consistently g logs a s packets = record {
   in_order = s.in_order.held;
   published = λ t h.
       let known = (s.held t h).known in
@@ -42,12 +43,12 @@ sound_stores_truly g logs a s packets = record {
 -- records that tell the shapes of what was published
 shapes_alike : (logs : Logs) (es : List Packet)
     → ((e : Packet) → In e es → e.0.part ≡ 0
-    → option_map shape_said (said_in e.1) ≡ Some (shape_at logs (pair_of e.0)))
-    → shapes_in es ≡ told_by logs (keys es)
+    → option_map shape_stated (stated_in e.1) ≡ Some (shape_at logs (pair_of e.0)))
+    → shapes_in es ≡ reported_by logs (keys es)
 shapes_alike logs [] h = refl
 shapes_alike logs (e ∷ es) h = go (e.0.part == 0) refl (shapes_alike logs es (λ x i. h x (inr i))) where
-  go : (b : Bool) → (e.0.part == 0) ≡ b → shapes_in es ≡ told_by logs (keys es)
-      → kept_values (λ pair octets. option_map shape_said (said_in octets))
+  go : (b : Bool) → (e.0.part == 0) ≡ b → shapes_in es ≡ reported_by logs (keys es)
+      → kept_values (λ pair octets. option_map shape_stated (stated_in octets))
       (cond b ((pair_of e.0, e.1) ∷ records_in es) (records_in es))
       ≡ map (λ (t : Part). (pair_of t, shape_at logs (pair_of t)))
       (cond b (e.0 ∷ filter (λ t. t.part == 0) (keys es)) (filter (λ t. t.part == 0) (keys es)))
@@ -56,30 +57,31 @@ shapes_alike logs (e ∷ es) h = go (e.0.part == 0) refl (shapes_alike logs es (
       ∙ ap (λ (shapes : List (Pair × Shape)). (pair_of e.0, shape_at logs (pair_of e.0)) ∷ shapes) rest
   go false p rest = rest
 
-module _ (g : GroupKeys) (logs : Logs) (a : Alone) (are : AreLogs g logs) (truly : StoresTruly g logs a) where
+module _ (g : GroupKeys) (logs : Logs) (a : MemberState) (are : AreLogs g logs)
+    (consistent : StoresConsistently g logs a) where
   pub stored_published : (e : Packet) → In e a.store → IsPublished logs (pair_of e.0)
   stored_published e i =
-      truly.published e.0 (contains_in exact_parts (keys a.store) e.0 (in_map (λ (x : Packet). x.0) a.store e i))
+      consistent.published e.0 (contains_in exact_parts (keys a.store) e.0 (in_map (λ (x : Packet). x.0) a.store e i))
 
-  shapes_told : shapes_in a.store ≡ told_by logs (keys a.store)
-  shapes_told = shapes_alike logs a.store (λ e i first.
+  shapes_reported : shapes_in a.store ≡ reported_by logs (keys a.store)
+  shapes_reported = shapes_alike logs a.store (λ e i first.
       let there = stored_published e i in
       let publisher = publisher_at g e.0.publisher in
       let post = post_at logs (pair_of e.0) in
-      let made : true_packet g logs e.0 ≡ Some e.1 =
-      truly.packets e.0 e.1 (value_in exact_parts a.store e truly.in_order i) in
+      let made : published_packet g logs e.0 ≡ Some e.1 =
+      consistent.packets e.0 e.1 (value_in exact_parts a.store e consistent.in_order i) in
       let made_first = rw first at made in
-      ap (option_map shape_said)
+      ap (option_map shape_stated)
       (record_says publisher e.0.seq post (published_by g logs are (pair_of e.0) there)
       (published_post g logs are (pair_of e.0) there) (published_low g logs are (pair_of e.0) there) e.1 made_first)
       ∙ ap (λ (shape : Shape). Some shape) (shape_again publisher e.0.seq post))
 
 pub plans_alike : PlansAlike
-plans_alike g logs a are truly =
-    ap (λ (shapes : List (Pair × Shape)). let p : PlanState = record (alone_plan a) { shapes = shapes } in p)
-    (shapes_told g logs a are truly)
+plans_alike g logs a are consistent =
+    ap (λ (shapes : List (Pair × Shape)). let p : PlanState = record (member_plan a) { shapes = shapes } in p)
+    (shapes_reported g logs a are consistent)
 
 pub wants_alike : WantsAlike
-wants_alike g logs a t are truly records =
+wants_alike g logs a t are consistent records =
     subst (λ (p : PlanState). (contains part_cmp (wanted p) t ≡ true) ↔ IsWantedPart logs (in_group a) t)
-    (sym (plans_alike g logs a are truly)) (wants_those logs (in_group a) t records)
+    (sym (plans_alike g logs a are consistent)) (wants_those logs (in_group a) t records)

@@ -17,7 +17,7 @@ use Rattle.ndn_data.specs.Data.{Data}
 use Rattle.repo_plan.specs.declared.part.Part.{Part}
 use Rattle.sorted_lists.specs.SortedList.{keys, contains, value_of}
 use Rattle.repo_plan.specs.declared.shape.Shape.{Shape}
-use Rattle.repo_plan.specs.Parts.{Pair, part_cmp, pair_of, part_of, parts_behind, parent, parent_number}
+use Rattle.repo_plan.specs.Parts.{Pair, part_cmp, pair_of, part_of, parts_after, parent, parent_number}
 use Rattle.repo_plan.specs.Plan.{knows, holds, hides, is_asked, can_be_asked, shape_of}
 use Rattle.repo_plan.specs.Sound.{PlanIsSound, CanBeHeld}
 use Rattle.repo_plan.proofs.Orders.{exact_parts}
@@ -28,24 +28,25 @@ use Rattle.repo_object.specs.Objects.{Post, IsPost, Publisher, IsPublisher, shap
 use Rattle.repo_object.specs.Publication.{Listed, RecordSays, published_record, packets}
 use Rattle.repo_object.specs.Records.{record_of, index_of}
 use Rattle.repo_object.specs.Wants.{WantedPart, want_record, want_index, want_segment, listed_in}
-use Rattle.repo_object.specs.Verdict.{Passes, may_say, said_in, index_in, content_in, content_within, ring_verdict}
+use Rattle.repo_object.specs.Verdict.{Passes, may_say, stated_in, index_in, content_in, content_within, ring_verdict}
 use Rattle.repo_object.specs.Verdict.{publisher_key}
 use Rattle.repo_object.proofs.Passing.{passes}
-use Rattle.repo_object.proofs.Publications.{packets-length, record_said, shape_again}
+use Rattle.repo_object.proofs.Publications.{packets-length, record_stated, shape_again}
 use Rattle.group_model.specs.Publications.{no_post}
 use Rattle.repo_process.specs.Insertions.{Insertions}
 use Rattle.repo_store.specs.StoreList.{with_packet}
 use Rattle.repo_holdings.specs.Records.{Packet}
-use Rattle.repo_holdings.specs.Listed.{stored_at, said_at, listing_in, listing_at, listed_shape}
-use Rattle.repo_object.specs.Publication.{shape_said}
+use Rattle.repo_holdings.specs.Listed.{stored_at, stated_at, listing_in, listing_at, listed_shape}
+use Rattle.repo_object.specs.Publication.{shape_stated}
 use Rattle.repo_holdings.specs.StoredParents.{index_at, digests_at, place_listed, lists_at, ListsAsMany}
 use Rattle.repo_member.specs.Groups.{GroupKeys, IsGroup, node_at, publisher_at}
-use Rattle.repo_member.specs.Alone.{Alone, IsAlone, ArePosts, IsOfGroup, alone_plan, alone_opening, logged}
-use Rattle.repo_holdings.specs.Wanting.{nothing_listed, want_behind}
-use Rattle.repo_member.specs.Alone.{want_of, alone_learns}
-use Rattle.repo_holdings.specs.Gaining.{AreTied, told_shape}
+use Rattle.repo_member.specs.MemberState.{MemberState, IsMemberState, ArePosts, IsOfGroup, member_plan, member_opening}
+use Rattle.repo_member.specs.MemberState.{logged}
+use Rattle.repo_holdings.specs.Wanting.{nothing_listed, want_after}
+use Rattle.repo_member.specs.MemberState.{want_of, member_learns}
+use Rattle.repo_holdings.specs.Gaining.{AreTied, shape_in_summary}
 use Rattle.repo_holdings.proofs.CatalogueLemmas.{fun_ext}
-use Rattle.repo_holdings.proofs.GainingLemmas.{told_shape_is, shape_stored}
+use Rattle.repo_holdings.proofs.GainingLemmas.{reported_shape_is, shape_stored}
 use Rattle.repo_member.specs.Blocks.{AreWithinLimits}
 use Rattle.repo_holdings.proofs.GainingLemmas.{contains-value, put_elsewhere, value_of-put}
 use Rattle.repo_holdings.proofs.AskedLemmas.{asked_segment}
@@ -58,15 +59,15 @@ use Rattle.repo_member.proofs.PlanChanges.{sound_known, gains, tied_gained, soun
 abbrev pub PassesNow : GroupKeys → List Packet → Part → List ℕ → Type 0
 PassesNow g stored t octets = IsOk (ring_verdict (want_of g stored t) g.members.ring octets)
 
-pub record IsReached (g : GroupKeys) (a : Alone) : Type 0 where
+pub record IsReached (g : GroupKeys) (a : MemberState) : Type 0 where
   pub group : IsGroup g
-  pub alone : IsAlone a
+  pub member_state : IsMemberState a
   pub of : IsOfGroup g a
-  pub sound : PlanIsSound (alone_plan a)
+  pub sound : PlanIsSound (member_plan a)
   pub few : length a.log ≤ 65535
-  pub tied : AreTied (alone_plan a) a.store
+  pub tied : AreTied (member_plan a) a.store
   pub posts : ArePosts a.log
-  pub own : (t : Part) → t.publisher ≡ a.number → hides (alone_plan a) (pair_of t) ≡ false
+  pub own : (t : Part) → t.publisher ≡ a.number → hides (member_plan a) (pair_of t) ≡ false
       → value_of part_cmp a.store t ≡ logged g a t
   pub others : (t : Part) (octets : List ℕ) → t.publisher ≢ a.number → value_of part_cmp a.store t ≡ Some octets
       → PassesNow g a.store t octets
@@ -74,15 +75,15 @@ pub record IsReached (g : GroupKeys) (a : Alone) : Type 0 where
 
 -- ---- the beginning
 
-pub reached_opening : (g : GroupKeys) (number moment draw : ℕ) → IsGroup g → number < length g.members.names
-    → IsReached g (alone_opening (length g.members.names) number moment draw)
-reached_opening g number moment draw group inside =
+pub reached_opening : (g : GroupKeys) (number time draw : ℕ) → IsGroup g → number < length g.members.names
+    → IsReached g (member_opening (length g.members.names) number time draw)
+reached_opening g number time draw group inside =
     let n = length g.members.names in
     let zero_number : ℕ = 0 in
     let wide : length (replicate n zero_number) ≡ n = length-replicate n zero_number in
     record {
       group = group;
-      alone = record {
+      member_state = record {
         member = omega (arith, inside, wide);
         own = get_or-replicate n number zero_number 0 inside;
         width = sym wide;
@@ -112,19 +113,19 @@ reached_opening g number moment draw group inside =
 -- ---- changes that store nothing
 
 -- claims, attempts and the machine
-pub reached_with : (g : GroupKeys) (a : Alone) (claims : List (Option Part)) (attempts : List (Part × ℕ))
+pub reached_with : (g : GroupKeys) (a : MemberState) (claims : List (Option Part)) (attempts : List (Part × ℕ))
     (machine : Keeper)
     → machine.members ≡ a.machine.members
-    → PlanIsSound (alone_plan (record a { claims = claims; attempts = attempts })) → IsReached g a
+    → PlanIsSound (member_plan (record a { claims = claims; attempts = attempts })) → IsReached g a
     → IsReached g (record a { claims = claims; attempts = attempts; machine = machine })
 reached_with g a claims attempts machine wide sound r = record {
   group = r.group;
-  alone = record {
-    member = r.alone.member;
-    own = r.alone.own;
-    width = wide ∙ r.alone.width;
-    in_order = r.alone.in_order;
-    hidden = r.alone.hidden;
+  member_state = record {
+    member = r.member_state.member;
+    own = r.member_state.own;
+    width = wide ∙ r.member_state.width;
+    in_order = r.member_state.in_order;
+    hidden = r.member_state.hidden;
   };
   of = r.of;
   sound = sound;
@@ -143,16 +144,17 @@ reached_with g a claims attempts machine wide sound r = record {
 }
 
 -- insertion processes
-pub reached_insertions : (g : GroupKeys) (a : Alone) (insertions : Insertions) → AreWithinLimits insertions.processes
+pub reached_insertions : (g : GroupKeys) (a : MemberState) (insertions : Insertions)
+    → AreWithinLimits insertions.processes
     → IsReached g a → IsReached g (record a { insertions = insertions })
 reached_insertions g a insertions each r = record {
   group = r.group;
-  alone = record {
-    member = r.alone.member;
-    own = r.alone.own;
-    width = r.alone.width;
-    in_order = r.alone.in_order;
-    hidden = r.alone.hidden;
+  member_state = record {
+    member = r.member_state.member;
+    own = r.member_state.own;
+    width = r.member_state.width;
+    in_order = r.member_state.in_order;
+    hidden = r.member_state.hidden;
   };
   of = r.of;
   sound = r.sound;
@@ -170,28 +172,29 @@ reached_insertions g a insertions each r = record {
   insertions = each;
 }
 
-few_members : (g : GroupKeys) (a : Alone) → IsReached g a → length a.known ≤ 2 ^ 32
+few_members : (g : GroupKeys) (a : MemberState) → IsReached g a → length a.known ≤ 2 ^ 32
 few_members g a r = omega (arith, r.group.members.roster.few, r.of)
 
--- what is told
-pub reached_learns : (g : GroupKeys) (a : Alone) (told : List ℕ) → length told ≡ length g.members.names
-    → slice_index told a.number ≤ length a.log → IsReached g a → IsReached g (alone_learns told a)
-reached_learns g a told wide not_ahead r =
-    let long : length (join a.known told) ≡ length a.known = length-join a.known told (sym r.of ∙ sym wide) in
-    let at = join-at a.known told in
-    let more : (q : ℕ) → slice_index a.known q ≤ slice_index (join a.known told) q = λ q. omega (arith, at q) in
+-- what is reported
+pub reached_learns : (g : GroupKeys) (a : MemberState) (reported : List ℕ) → length reported ≡ length g.members.names
+    → slice_index reported a.number ≤ length a.log → IsReached g a → IsReached g (member_learns reported a)
+reached_learns g a reported wide not_ahead r =
+    let long : length (join a.known reported) ≡ length a.known = length-join a.known reported (sym r.of ∙ sym wide) in
+    let at = join-at a.known reported in
+    let more : (q : ℕ) → slice_index a.known q ≤ slice_index (join a.known reported) q = λ q. omega (arith, at q) in
     record {
       group = r.group;
-      alone = record {
-        member = omega (arith, long, r.alone.member);
-        own = at a.number ∙ omega (arith, r.alone.own, not_ahead);
-        width = r.alone.width ∙ sym long;
-        in_order = r.alone.in_order;
+      member_state = record {
+        member = omega (arith, long, r.member_state.member);
+        own = at a.number ∙ omega (arith, r.member_state.own, not_ahead);
+        width = r.member_state.width ∙ sym long;
+        in_order = r.member_state.in_order;
         hidden =
-            λ pair h. knows_more (alone_plan a) (alone_plan (alone_learns told a)) pair more (r.alone.hidden pair h);
+            λ pair h. knows_more (member_plan a) (member_plan (member_learns reported a)) pair more
+            (r.member_state.hidden pair h);
       };
       of = r.of ∙ sym long;
-      sound = sound_known (alone_plan a) (join a.known told) (omega (arith, long, few_members g a r)) more r.sound;
+      sound = sound_known (member_plan a) (join a.known reported) (omega (arith, long, few_members g a r)) more r.sound;
       few = r.few;
       tied = record {
         in_order = r.tied.in_order;
@@ -209,16 +212,16 @@ reached_learns g a told wide not_ahead r =
 -- ---- own parts
 
 -- an own part that is asked for and not hidden was published
-module _ (g : GroupKeys) (a : Alone) (t : Part) (r : IsReached g a) (own : t.publisher ≡ a.number)
-    (asked : is_asked (alone_plan a) t ≡ true) (shown : hides (alone_plan a) (pair_of t) ≡ false) where
+module _ (g : GroupKeys) (a : MemberState) (t : Part) (r : IsReached g a) (own : t.publisher ≡ a.number)
+    (asked : is_asked (member_plan a) t ≡ true) (shown : hides (member_plan a) (pair_of t) ≡ false) where
   known : (1 ≤ t.seq) × (t.seq ≤ length a.log)
   known =
       let both =
       and_parts (nat_le 1 t.seq) (nat_le t.seq (slice_index a.known t.publisher))
-      (and_parts (knows (alone_plan a) (pair_of t))
-      (can_be_asked (keys a.store) (shape_of (alone_plan a) (pair_of t)) t) asked).0 in
+      (and_parts (knows (member_plan a) (pair_of t))
+      (can_be_asked (keys a.store) (shape_of (member_plan a) (pair_of t)) t) asked).0 in
       let high = leb-true t.seq (slice_index a.known t.publisher) both.1 in
-      (leb-true 1 t.seq both.0, omega (arith, high, ap (slice_index a.known) own, r.alone.own))
+      (leb-true 1 t.seq both.0, omega (arith, high, ap (slice_index a.known) own, r.member_state.own))
 
   abbrev post : Post
   post = slice_index_or a.log (t.seq - 1) no_post
@@ -235,20 +238,20 @@ module _ (g : GroupKeys) (a : Alone) (t : Part) (r : IsReached g a) (own : t.pub
   by = publisher_at g a.number
 
   publishes_it : IsPublisher by
-  publishes_it = is_publisher g a.number r.group (omega (arith, r.alone.member, r.of))
+  publishes_it = is_publisher g a.number r.group (omega (arith, r.member_state.member, r.of))
 
-  -- its record is stored, and tells of its parts
-  said : said_at a.store (pair_of t) ≡ Some (published_record by t.seq post)
-  said =
-      ap (option_and_then said_in)
+  -- its record is stored, and reports its parts
+  stated : stated_at a.store (pair_of t) ≡ Some (published_record by t.seq post)
+  stated =
+      ap (option_and_then stated_in)
       (r.own (part_of (pair_of t) 0) own shown
       ∙ logged_own g a (part_of (pair_of t) 0) post own (omega (arith, known.0)) there)
-      ∙ record_said by publishes_it t.seq post is_post (omega (arith, known.1, r.few))
+      ∙ record_stated by publishes_it t.seq post is_post (omega (arith, known.1, r.few))
 
-  shaped : shape_of (alone_plan a) (pair_of t) ≡ Some (shape_in post)
+  shaped : shape_of (member_plan a) (pair_of t) ≡ Some (shape_in post)
   shaped =
-      shape_stored (alone_plan a) a.store (pair_of t) r.tied
-      ∙ ap (option_map shape_said) said
+      shape_stored (member_plan a) a.store (pair_of t) r.tied
+      ∙ ap (option_map shape_stated) stated
       ∙ ap (λ (shape : Shape). Some shape) (shape_again by t.seq post)
 
   within : t.part < length (packets by t.seq post)
@@ -256,17 +259,17 @@ module _ (g : GroupKeys) (a : Alone) (t : Part) (r : IsReached g a) (own : t.pub
       let long = packets-length by t.seq post in
       let can : can_be_asked (keys a.store) (Some (shape_in post)) t ≡ true =
       ap (λ (o : Option Shape). can_be_asked (keys a.store) o t) (sym shaped)
-      ∙ (and_parts (knows (alone_plan a) (pair_of t))
-      (can_be_asked (keys a.store) (shape_of (alone_plan a) (pair_of t)) t) asked).1 in
+      ∙ (and_parts (knows (member_plan a) (pair_of t))
+      (can_be_asked (keys a.store) (shape_of (member_plan a) (pair_of t)) t) asked).1 in
       elim (or_cases (t.part == 0)
-      (nat_le t.part (parts_behind (shape_in post))
+      (nat_le t.part (parts_after (shape_in post))
       && contains part_cmp (keys a.store) (parent (shape_in post) t)) can) [
         | inl first ↦ omega (arith, eqb-true t.part 0 first, long)
-        | inr behind ↦
+        | inr after ↦
             let low =
-            leb-true t.part (parts_behind (shape_in post))
-            (and_parts (nat_le t.part (parts_behind (shape_in post)))
-            (contains part_cmp (keys a.store) (parent (shape_in post) t)) behind).0 in
+            leb-true t.part (parts_after (shape_in post))
+            (and_parts (nat_le t.part (parts_after (shape_in post)))
+            (contains part_cmp (keys a.store) (parent (shape_in post) t)) after).0 in
             omega (arith, low, long)
       ]
 
@@ -338,30 +341,30 @@ want_same g old new t h =
     ap (want_from g t) (fun_ext (stored_at new (pair_of t)) (stored_at old (pair_of t)) h)
 
 -- so the want of a part that could be asked for stays the same
-pub want_stays : (g : GroupKeys) (a : Alone) (new : List Packet) (t : Part) → AreTied (alone_plan a) a.store
-    → StaysStored a.store new → is_asked (alone_plan a) t ≡ true → want_of g new t ≡ want_of g a.store t
+pub want_stays : (g : GroupKeys) (a : MemberState) (new : List Packet) (t : Part) → AreTied (member_plan a) a.store
+    → StaysStored a.store new → is_asked (member_plan a) t ≡ true → want_of g new t ≡ want_of g a.store t
 want_stays g a new t tied stays asked = go (t.part == 0) refl where
-  behind : List Packet → Listed → WantedPart
-  behind stored l = want_behind (node_at g t.publisher) g.name stored t l
+  after : List Packet → Listed → WantedPart
+  after stored l = want_after (node_at g t.publisher) g.name stored t l
 
   go : (b : Bool) → (t.part == 0) ≡ b
       → cond b (want_record t (node_at g t.publisher) g.name)
-      (behind new (unwrap_or (listing_at new (pair_of t)) nothing_listed))
+      (after new (unwrap_or (listing_at new (pair_of t)) nothing_listed))
       ≡ cond b (want_record t (node_at g t.publisher) g.name)
-      (behind a.store (unwrap_or (listing_at a.store (pair_of t)) nothing_listed))
+      (after a.store (unwrap_or (listing_at a.store (pair_of t)) nothing_listed))
   go true p = refl
   go false p =
-      let segment = asked_segment (alone_plan a) a.store t tied asked p in
+      let segment = asked_segment (member_plan a) a.store t tied asked p in
       let l = segment.listing in
       let k = parent_number (listed_shape l) t.part in
-      ap (λ (o : Option Listed). behind new (unwrap_or o nothing_listed))
+      ap (λ (o : Option Listed). after new (unwrap_or o nothing_listed))
       (read_still listing_in a.store new (pair_of t) 0 l stays segment.listed)
       ∙ ap (λ (digests : List (List ℕ)). cond (nat_le t.part (listed_shape l).index)
       (want_index t l (node_at g t.publisher) g.name)
       (want_segment t (listed_shape l) l.name
       (unwrap_or (slice_get digests (place_listed (listed_shape l) t.part)) [])))
       (listed k refl l (λ some. segment.index some))
-      ∙ sym (ap (λ (o : Option Listed). behind a.store (unwrap_or o nothing_listed)) segment.listed) where
+      ∙ sym (ap (λ (o : Option Listed). after a.store (unwrap_or o nothing_listed)) segment.listed) where
         listed : (k : ℕ) → k ≡ k → (l : Listed) → (0 < k → IsSome (index_at a.store (pair_of t) l.segments k))
             → digests_at new (pair_of t) l k ≡ digests_at a.store (pair_of t) l k
         listed zero e l there = refl
@@ -388,19 +391,19 @@ module _ (g : GroupKeys) (stored : List Packet) (t : Part) (octets : List ℕ)
   content : content_in octets ≡ Some ok.0.content
   content = ap content_within all.read
 
-  -- a packet that passes for a record's want tells of its publication
-  pub passed_told : is_some (told_shape t octets) ≡ (t.part == 0)
-  passed_told = ap is_some (told_shape_is t octets) ∙ go (t.part == 0) refl where
-    some : (o : Option RecordSays) → IsTrue (may_say want.part.seq o) → is_some (option_map shape_said o) ≡ true
+  -- a packet that passes for a record's want reports its publication
+  pub passed_reported : is_some (shape_in_summary t octets) ≡ (t.part == 0)
+  passed_reported = ap is_some (reported_shape_is t octets) ∙ go (t.part == 0) refl where
+    some : (o : Option RecordSays) → IsTrue (may_say want.part.seq o) → is_some (option_map shape_stated o) ≡ true
     some None h = absurd (true≢false (sym h))
     some (Some says) h = refl
 
-    go : (b : Bool) → (t.part == 0) ≡ b → is_some (cond b (option_map shape_said (said_in octets)) None) ≡ b
+    go : (b : Bool) → (t.part == 0) ≡ b → is_some (cond b (option_map shape_stated (stated_in octets)) None) ≡ b
     go false p = refl
     go true p =
-        ap (λ (o : Option (List ℕ)). is_some (option_map shape_said (option_and_then record_of o))) content
+        ap (λ (o : Option (List ℕ)). is_some (option_map shape_stated (option_and_then record_of o))) content
         ∙ some (record_of ok.0.content)
-        (all.said (ap (λ (u : Part). u.part) (want_part g stored t) ∙ eqb-true t.part 0 p))
+        (all.stated (ap (λ (u : Part). u.part) (want_part g stored t) ∙ eqb-true t.part 0 p))
 
   -- an index packet that passes lists as many digests as it has to
   pub passed_lists : ListsAsMany octets (lists_at stored t)
@@ -411,8 +414,9 @@ module _ (g : GroupKeys) (stored : List Packet) (t : Part) (octets : List ℕ)
         go (Some count) h =
             ap (λ (c : Option (List ℕ)). is_some (option_and_then (λ x. index_of x count) c)) content ∙ h
 
-module _ (g : GroupKeys) (a : Alone) (t : Part) (octets : List ℕ) (r : IsReached g a) (can : CanBeHeld (alone_plan a) t)
-    (fresh : holds (alone_plan a) t ≡ false) where
+module _ (g : GroupKeys) (a : MemberState) (t : Part) (octets : List ℕ) (r : IsReached g a)
+    (can : CanBeHeld (member_plan a) t)
+    (fresh : holds (member_plan a) t ≡ false) where
   pub stays_stored : StaysStored a.store (with_packet t octets a.store)
   stays_stored = record { still = λ q found h. go q found (eq_by_cmp part_cmp q t) refl h } where
     go : (q : Part) (found : List ℕ) (b : Bool) → eq_by_cmp part_cmp q t ≡ b → value_of part_cmp a.store q ≡ Some found
@@ -428,20 +432,20 @@ module _ (g : GroupKeys) (a : Alone) (t : Part) (octets : List ℕ) (r : IsReach
   pub reached_gains : PassesNow g a.store t octets → IsReached g (gains t octets a)
   reached_gains passed = record {
     group = r.group;
-    alone = record {
-      member = r.alone.member;
-      own = r.alone.own;
-      width = r.alone.width;
-      in_order = rises_put a.store t octets r.alone.in_order;
-      hidden = r.alone.hidden;
+    member_state = record {
+      member = r.member_state.member;
+      own = r.member_state.own;
+      width = r.member_state.width;
+      in_order = rises_put a.store t octets r.member_state.in_order;
+      hidden = r.member_state.hidden;
     };
     of = r.of;
     sound =
-        sound_gained a t octets r.tied fresh can.asked (passed_told g a.store t octets passed)
+        sound_gained a t octets r.tied fresh can.asked (passed_reported g a.store t octets passed)
         (passed_lists g a.store t octets passed) can r.sound;
     few = r.few;
     tied =
-        tied_gained a t octets r.tied fresh can.asked (passed_told g a.store t octets passed)
+        tied_gained a t octets r.tied fresh can.asked (passed_reported g a.store t octets passed)
         (passed_lists g a.store t octets passed);
     posts = r.posts;
     own =
@@ -456,7 +460,7 @@ module _ (g : GroupKeys) (a : Alone) (t : Part) (octets : List ℕ) (r : IsReach
     other q own true p = absurd (not_own (sym (ap (λ (u : Part). u.publisher) (eq_same exact_parts q t p)) ∙ own))
     other q own false p = refl
 
-    now : (q : Part) (found : List ℕ) → is_asked (alone_plan a) q ≡ true → PassesNow g a.store q found
+    now : (q : Part) (found : List ℕ) → is_asked (member_plan a) q ≡ true → PassesNow g a.store q found
         → PassesNow g (with_packet t octets a.store) q found
     now q found asked before =
         subst (λ (want : WantedPart). IsOk (ring_verdict want g.members.ring found))

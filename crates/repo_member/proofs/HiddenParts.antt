@@ -20,10 +20,10 @@ use Rattle.repo_catalog.specs.declared.entry.Entry.{Entry}
 use Rattle.repo_catalog.specs.Entries.{publication_of, entry_has_name, all_named}
 use Rattle.group_model.proofs.Lists.{from_filter}
 use Rattle.repo_holdings.specs.Records.{Packet}
-use Rattle.repo_holdings.specs.Listed.{alone_catalogue}
+use Rattle.repo_holdings.specs.Listed.{member_catalogue}
 use Rattle.repo_member.specs.Groups.{GroupKeys}
-use Rattle.repo_member.specs.Alone.{Alone, alone_plan, want_of}
-use Rattle.repo_member.specs.Deleting.{catalogued_named, alone_hides, alone_deletes}
+use Rattle.repo_member.specs.MemberState.{MemberState, member_plan, want_of}
+use Rattle.repo_member.specs.Deleting.{catalogued_named, member_state_hides, member_deletes}
 use Rattle.repo_holdings.proofs.HidingLemmas.{value_outside, rises_outside, keys_outside, shapes_outside}
 use Rattle.repo_holdings.proofs.HidingLemmas.{others_stay, tied_hides}
 use Rattle.repo_member.proofs.FoundLemmas.{IsReadFrom, entry_listed_whole, whole_known, whole_unclaimed}
@@ -38,11 +38,11 @@ pub record CanHide (p : PlanState) (pair : Pair) : Type 0 where
 
 pub named_can_hide : (p : PlanState) (packets : List Packet) (name : List Component) → PlanIsSound p
     → IsReadFrom packets p
-    → (pair : Pair) → In pair (all_named name (alone_catalogue packets)) → CanHide p pair
+    → (pair : Pair) → In pair (all_named name (member_catalogue packets)) → CanHide p pair
 named_can_hide p packets name s read pair i =
-    let e : (e : Entry) × (In e (filter (entry_has_name name) (alone_catalogue packets))) × (pair ≡ publication_of e) =
-    from_map publication_of (filter (entry_has_name name) (alone_catalogue packets)) pair i in
-    let there = from_filter (entry_has_name name) (alone_catalogue packets) e.0 e.1 in
+    let e : (e : Entry) × (In e (filter (entry_has_name name) (member_catalogue packets))) × (pair ≡ publication_of e) =
+    from_map publication_of (filter (entry_has_name name) (member_catalogue packets)) pair i in
+    let there = from_filter (entry_has_name name) (member_catalogue packets) e.0 e.1 in
     let whole = entry_listed_whole packets e.0 read.in_order there.0 in
     subst (CanHide p) (sym e.2) (record {
       known = whole_known p packets (publication_of e.0) e.0.segments s read whole;
@@ -52,19 +52,19 @@ named_can_hide p packets name s read pair i =
 -- ---- one publication
 
 -- a member that has hidden one publication more
-abbrev pub hidden_one : Pair → Alone → Alone
+abbrev pub hidden_one : Pair → MemberState → MemberState
 hidden_one pair a = record a { store = packets_outside pair a.store; hidden = insert_key pair_cmp pair a.hidden }
 
-pub plan_hidden : (pair : Pair) (a : Alone) → Rises part_cmp (keys a.store)
-    → hides_too pair (alone_plan a) ≡ alone_plan (hidden_one pair a)
+pub plan_hidden : (pair : Pair) (a : MemberState) → Rises part_cmp (keys a.store)
+    → hides_too pair (member_plan a) ≡ member_plan (hidden_one pair a)
 plan_hidden pair a order =
-    same_holdings (hides_too pair (alone_plan a)) (alone_plan (hidden_one pair a)) refl
+    same_holdings (hides_too pair (member_plan a)) (member_plan (hidden_one pair a)) refl
     (sym (keys_outside pair a.store)) (shapes_outside pair a.store order) refl refl refl refl
 
-shown_before : (pair : Pair) (a : Alone) (q : Pair) → hides (alone_plan (hidden_one pair a)) q ≡ false
-    → (eq_by_cmp pair_cmp q pair ≡ false) × (hides (alone_plan a) q ≡ false)
+shown_before : (pair : Pair) (a : MemberState) (q : Pair) → hides (member_plan (hidden_one pair a)) q ≡ false
+    → (eq_by_cmp pair_cmp q pair ≡ false) × (hides (member_plan a) q ≡ false)
 shown_before pair a q h =
-    or_parts (eq_by_cmp pair_cmp q pair) (hides (alone_plan a) q)
+    or_parts (eq_by_cmp pair_cmp q pair) (hides (member_plan a) q)
     (sym (contains-insert_key exact_pairs pair a.hidden q) ∙ h)
 
 value_other : (pair : Pair) (packets : List Packet) (t : Part) → is_in pair t ≡ false
@@ -80,28 +80,29 @@ want_other g pair packets t other =
 no_packet : (octets : List ℕ) → (let o : Option (List ℕ) = None in o) ≡ Some octets → ⊥
 no_packet octets h = cc
 
-pub reached_hides : (g : GroupKeys) (pair : Pair) (a : Alone) → CanHide (alone_plan a) pair → IsReached g a
+pub reached_hides : (g : GroupKeys) (pair : Pair) (a : MemberState) → CanHide (member_plan a) pair → IsReached g a
     → IsReached g (hidden_one pair a)
 reached_hides g pair a can r = record {
   group = r.group;
-  alone = record {
-    member = r.alone.member;
-    own = r.alone.own;
-    width = r.alone.width;
-    in_order = rises_outside pair a.store r.alone.in_order;
+  member_state = record {
+    member = r.member_state.member;
+    own = r.member_state.own;
+    width = r.member_state.width;
+    in_order = rises_outside pair a.store r.member_state.in_order;
     hidden = λ q h. elim
-        (or_cases (eq_by_cmp pair_cmp q pair) (hides (alone_plan a) q)
+        (or_cases (eq_by_cmp pair_cmp q pair) (hides (member_plan a) q)
         (sym (contains-insert_key exact_pairs pair a.hidden q) ∙ h)) [
-          | inl same ↦ ap (knows (alone_plan a)) (eq_same exact_pairs q pair same) ∙ can.known
-          | inr before ↦ r.alone.hidden q before
+          | inl same ↦ ap (knows (member_plan a)) (eq_same exact_pairs q pair same) ∙ can.known
+          | inr before ↦ r.member_state.hidden q before
         ];
   };
   of = r.of;
   sound =
-      subst PlanIsSound (plan_hidden pair a r.alone.in_order) (sound_hides pair (alone_plan a) can.unclaimed r.sound);
+      subst PlanIsSound (plan_hidden pair a r.member_state.in_order)
+      (sound_hides pair (member_plan a) can.unclaimed r.sound);
   few = r.few;
   tied =
-      let hidden = tied_hides pair (alone_plan a) a.store r.tied in
+      let hidden = tied_hides pair (member_plan a) a.store r.tied in
       record {
         in_order = hidden.in_order;
         held = refl;
@@ -126,17 +127,18 @@ reached_hides g pair a can r = record {
 
 -- ---- one after another
 
-pub reached_hides_all : (g : GroupKeys) (pairs : List Pair) (a : Alone)
-    → ((pair : Pair) → In pair pairs → CanHide (alone_plan a) pair) → IsReached g a → IsReached g (alone_hides pairs a)
+pub reached_hides_all : (g : GroupKeys) (pairs : List Pair) (a : MemberState)
+    → ((pair : Pair) → In pair pairs → CanHide (member_plan a) pair) → IsReached g a
+    → IsReached g (member_state_hides pairs a)
 reached_hides_all g [] a each r = r
 reached_hides_all g (pair ∷ pairs) a each r =
     reached_hides_all g pairs (hidden_one pair a)
     (λ q i. let can = each q (inr i) in record { known = can.known; unclaimed = can.unclaimed })
     (reached_hides g pair a (each pair (inl refl)) r)
 
-pub reached_deletes : (g : GroupKeys) (name : List Component) (a : Alone) → IsReached g a
-    → IsReached g (alone_deletes name a)
+pub reached_deletes : (g : GroupKeys) (name : List Component) (a : MemberState) → IsReached g a
+    → IsReached g (member_deletes name a)
 reached_deletes g name a r =
     reached_hides_all g (catalogued_named name a) a
-    (named_can_hide (alone_plan a) a.store name r.sound
-    (record { in_order = r.alone.in_order; held = refl; shapes = refl })) r
+    (named_can_hide (member_plan a) a.store name r.sound
+    (record { in_order = r.member_state.in_order; held = refl; shapes = refl })) r

@@ -20,13 +20,14 @@ use Rattle.group_model.specs.Sound.{IsHeldSoundly}
 use Rattle.group_model.proofs.Lists.{at_in}
 use Rattle.group_model.proofs.Parents.{record_lists_itself}
 use Rattle.repo_member.specs.Groups.{GroupKeys}
-use Rattle.repo_member.specs.Alone.{Alone, alone_takes}
-use Rattle.repo_member.specs.InGroup.{AreLogs, StoresTruly, CameTruly, that_came}
-use Rattle.repo_member.specs.TrueHolders.{IsTrueHolder, IsHiddenFrom, alone_with, ArrivesTruly, FetchedAreStored}
-use Rattle.repo_member.specs.TrueHolders.{HoldersTakeTruly}
-use Rattle.repo_member.proofs.LastingPackets.{takes_truly, stays_true}
+use Rattle.repo_member.specs.MemberState.{MemberState, member_takes}
+use Rattle.repo_member.specs.InGroup.{AreLogs, StoresConsistently, CameConsistently, that_came}
+use Rattle.repo_member.specs.ConsistentHolders.{IsConsistentHolder, IsHiddenFrom, member_with, ArrivesConsistently}
+use Rattle.repo_member.specs.ConsistentHolders.{FetchedAreStored}
+use Rattle.repo_member.specs.ConsistentHolders.{HoldersTakeConsistently}
+use Rattle.repo_member.proofs.LastingPackets.{takes_consistently, stays_consistent}
 use Rattle.repo_member.proofs.OutcomeLemmas.{members_take_all}
-use Rattle.repo_member.proofs.TrueHolders.{holder_stores_truly, wanted_in_group, wanted_published}
+use Rattle.repo_member.proofs.ConsistentHolders.{holder_stores_consistently, wanted_in_group, wanted_published}
 
 abbrev pub is_stored : List Packet → Part → Bool
 is_stored stored t = contains part_cmp (keys stored) t
@@ -107,18 +108,19 @@ from_there (y ∷ ys) stored u h = elim (from_there ys (with_fetched y.part y.pa
 ]
 
 -- the packets of a member that took all that came
-pub store_taken : (xs : List Fetched) (a : Alone) → (alone_takes xs a).store ≡ with_all_fetched xs a.store
-store_taken xs a = ap (λ (x : Alone). x.store) (members_take_all xs a)
+pub store_taken : (xs : List Fetched) (a : MemberState) → (member_takes xs a).store ≡ with_all_fetched xs a.store
+store_taken xs a = ap (λ (x : MemberState). x.store) (members_take_all xs a)
 
 -- ---- packets of wanted parts
 
 module _ (g : GroupKeys) (logs : Logs) (xs : List Fetched) (h : HoldingsState) (are : AreLogs g logs)
-    (came : All (λ x. IfSome x.packet (ArrivesTruly g logs h x.part)) xs) (truly : IsTrueHolder g logs h) where
+    (came : All (λ x. IfSome x.packet (ArrivesConsistently g logs h x.part)) xs)
+    (consistent : IsConsistentHolder g logs h) where
   abbrev next : HoldingsState
   next = takes_too xs h
 
   -- a part whose packet came is wanted
-  wanted_if : (o : Option (List ℕ)) (t : Part) → IfSome o (ArrivesTruly g logs h t) → is_some o ≡ true
+  wanted_if : (o : Option (List ℕ)) (t : Part) → IfSome o (ArrivesConsistently g logs h t) → is_some o ≡ true
       → is_wanted (held_plan h) t ≡ true
   wanted_if None t is some = absurd (true≢false (sym some))
   wanted_if (Some octets) t is some =
@@ -128,29 +130,32 @@ module _ (g : GroupKeys) (logs : Logs) (xs : List Fetched) (h : HoldingsState) (
   wanted x i some =
       let at = at_in xs x x i in
       wanted_if x.packet x.part
-      (subst (λ (y : Fetched). IfSome y.packet (ArrivesTruly g logs h y.part)) (sym at.2) (came at.0 x at.1)) some
+      (subst (λ (y : Fetched). IfSome y.packet (ArrivesConsistently g logs h y.part)) (sym at.2) (came at.0 x at.1))
+      some
 
-  came_truly : (o : Option (List ℕ)) (t : Part) → IfSome o (ArrivesTruly g logs h t) → CameTruly g logs t o
-  came_truly None t is = tt
-  came_truly (Some octets) t is = record {
-    published = (wanted_published g logs h are truly t (wanted_if (Some octets) t is refl)).there;
+  came_consistently : (o : Option (List ℕ)) (t : Part) → IfSome o (ArrivesConsistently g logs h t)
+      → CameConsistently g logs t o
+  came_consistently None t is = tt
+  came_consistently (Some octets) t is = record {
+    published = (wanted_published g logs h are consistent t (wanted_if (Some octets) t is refl)).there;
     packet = is.packet;
   }
 
-  stored : StoresTruly g logs (alone_with next)
+  stored : StoresConsistently g logs (member_with next)
   stored =
-      stays_true g logs (alone_takes xs (alone_with h)) (alone_with next) (sym (store_taken xs (alone_with h)))
-      (takes_truly g logs xs (alone_with h)
-      (All-weaker (λ (x : Fetched). IfSome x.packet (ArrivesTruly g logs h x.part))
-      (λ (x : Fetched). CameTruly g logs x.part x.packet) (λ x is. came_truly x.packet x.part is) xs came)
-      (holder_stores_truly g logs h truly))
+      stays_consistent g logs (member_takes xs (member_with h)) (member_with next)
+      (sym (store_taken xs (member_with h)))
+      (takes_consistently g logs xs (member_with h)
+      (All-weaker (λ (x : Fetched). IfSome x.packet (ArrivesConsistently g logs h x.part))
+      (λ (x : Fetched). CameConsistently g logs x.part x.packet) (λ x is. came_consistently x.packet x.part is) xs came)
+      (holder_stores_consistently g logs h consistent))
 
   more : (u : Part) → is_stored h.store u ≡ true → is_stored next.store u ≡ true
   more u is = still_there xs h.store u is
 
   held_new : (x : Fetched) → In x xs → is_some x.packet ≡ true → IsHeldSoundly logs h.known (keys next.store) x.part
   held_new x i some =
-      let w = wanted_in_group g logs h are truly x.part (wanted x i some) in
+      let w = wanted_in_group g logs h are consistent x.part (wanted x i some) in
       let here = then_there xs h.store x i some in
       record {
         known = w.known;
@@ -172,7 +177,7 @@ module _ (g : GroupKeys) (logs : Logs) (xs : List Fetched) (h : HoldingsState) (
   held_now : (t : Part) → is_stored next.store t ≡ true → IsHeldSoundly logs h.known (keys next.store) t
   held_now t is = elim (from_there xs h.store t is) [
     | inl old ↦
-        let s = truly.held t old in
+        let s = consistent.held t old in
         record {
           known = s.known;
           counted = s.counted;
@@ -184,26 +189,26 @@ module _ (g : GroupKeys) (logs : Logs) (xs : List Fetched) (h : HoldingsState) (
 
   hidden_now : (pair : Pair) → contains pair_cmp h.hidden pair ≡ true → IsHiddenFrom next pair
   hidden_now pair is = record {
-    known = (truly.hidden pair is).known;
+    known = (consistent.hidden pair is).known;
     none_held = λ x. false_from_ne_true (is_stored next.store (part_of pair x)) (λ there.
         elim (from_there xs h.store (part_of pair x) there) [
-          | inl old ↦ true≢false (sym old ∙ (truly.hidden pair is).none_held x)
+          | inl old ↦ true≢false (sym old ∙ (consistent.hidden pair is).none_held x)
           | inr r ↦
               true≢false
               (sym is
               ∙ ap (λ (t : Part). contains pair_cmp h.hidden (pair_of t)) (sym r.2)
-              ∙ (wanted_in_group g logs h are truly r.0.part (wanted r.0 r.1 r.3)).not_hidden)
+              ∙ (wanted_in_group g logs h are consistent r.0.part (wanted r.0 r.1 r.3)).not_hidden)
         ]);
   }
 
-  pub taken_truly : IsTrueHolder g logs next
-  taken_truly = record {
-    vector = truly.vector;
+  pub taken_consistently : IsConsistentHolder g logs next
+  taken_consistently = record {
+    vector = consistent.vector;
     in_order = stored.in_order;
     held = held_now;
     hidden = hidden_now;
     packets = stored.packets;
   }
 
-pub holders_take_truly : HoldersTakeTruly
-holders_take_truly g logs xs h are came truly = taken_truly g logs xs h are came truly
+pub holders_take_consistently : HoldersTakeConsistently
+holders_take_consistently g logs xs h are came consistent = taken_consistently g logs xs h are came consistent

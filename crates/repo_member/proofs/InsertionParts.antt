@@ -23,10 +23,10 @@ use Rattle.repo_process.specs.Processes.BlockState.{Unknown, Already, Waiting, W
 use Rattle.repo_process.specs.Insertions.{Insertions, next_number, starts, with_process}
 use Rattle.group_model.proofs.Lists.{each_all}
 use Rattle.repo_member.specs.Groups.{GroupKeys}
-use Rattle.repo_member.specs.Alone.{Alone, alone_publishes, alone_clears}
-use Rattle.repo_member.specs.Commanded.{order_of, alone_starts, alone_obeys, alone_after_order}
-use Rattle.repo_member.specs.Blocks.{IsWithinLimits, AreWithinLimits, alone_block, alone_keeps, after_block}
-use Rattle.repo_member.specs.Blocks.{alone_blocks}
+use Rattle.repo_member.specs.MemberState.{MemberState, member_publishes, member_clears}
+use Rattle.repo_member.specs.Commanded.{order_of, member_state_starts, member_obeys, member_after_order}
+use Rattle.repo_member.specs.Blocks.{IsWithinLimits, AreWithinLimits, member_block, member_keeps, after_block}
+use Rattle.repo_member.specs.Blocks.{member_blocks}
 use Rattle.repo_member.proofs.OrderLemmas.{orders_within}
 use Rattle.repo_member.proofs.HeldParts.{IsReached, reached_insertions}
 use Rattle.repo_member.proofs.PublishedParts.{reached_publishes}
@@ -184,53 +184,54 @@ object_within p is whole = record {
 
 -- ---- a member that calls reach
 
-reached_starts : (g : GroupKeys) (name : List Component) (first last : ℕ) (a : Alone) → IsName name
+reached_starts : (g : GroupKeys) (name : List Component) (first last : ℕ) (a : MemberState) → IsName name
     → is_command (Insert name first last) ≡ true → IsReached g a
-    → IsReached g (alone_starts name first last a (next_number a.insertions))
+    → IsReached g (member_state_starts name first last a (next_number a.insertions))
 reached_starts g name first last a valid is r = go (next_number a.insertions) where
-  go : (o : Option ℕ) → IsReached g (alone_starts name first last a o)
+  go : (o : Option ℕ) → IsReached g (member_state_starts name first last a o)
   go None = r
   go (Some number) =
       reached_insertions g a (starts name first last a.insertions)
       (within_with a.insertions a.insertions.next_process (starting name first last)
       (begun_within name first last valid is) r.insertions) r
 
-reached_obeys : (g : GroupKeys) (command : Command) (a : Alone) → CommandIsSpelled command → is_command command ≡ true
-    → IsReached g a → IsReached g (alone_obeys command a)
+reached_obeys : (g : GroupKeys) (command : Command) (a : MemberState) → CommandIsSpelled command → is_command command
+    ≡ true
+    → IsReached g a → IsReached g (member_obeys command a)
 reached_obeys g (Insert name first last) a spelled is r = reached_starts g name first last a spelled.0 is r
 reached_obeys g (Check process) a spelled is r = r
 reached_obeys g (Delete name) a spelled is r = reached_deletes g name a r
 
-pub reached_order : (g : GroupKeys) (octets : List ℕ) (a : Alone)
+pub reached_order : (g : GroupKeys) (octets : List ℕ) (a : MemberState)
     → IfOk (order_of g a.number octets) (λ order. CommandIsSpelled order.1) → IsReached g a
-    → IsReached g (alone_after_order (order_of g a.number octets) a)
+    → IsReached g (member_after_order (order_of g a.number octets) a)
 reached_order g octets a spelled r = go (order_of g a.number octets) refl spelled where
   go : (order : Result (ℕ × Command) ℕ) → order_of g a.number octets ≡ order → IfOk order (λ o. CommandIsSpelled o.1)
-      → IsReached g (alone_after_order order a)
+      → IsReached g (member_after_order order a)
   go (Ok order) e k = reached_obeys g order.1 a k (orders_within g a.number octets order.0 order.1 e) r
   go (Err code) e k = r
 
-pub reached_blocks : (g : GroupKeys) (process index : ℕ) (content : List ℕ) (moment draw : ℕ) (a : Alone)
-    → IsContent content → IsReached g a → IsReached g (alone_blocks g process index content moment draw a)
-reached_blocks g process index content moment draw a is r = go (alone_block a process index content) refl where
+pub reached_blocks : (g : GroupKeys) (process index : ℕ) (content : List ℕ) (time draw : ℕ) (a : MemberState)
+    → IsContent content → IsReached g a → IsReached g (member_blocks g process index content time draw a)
+reached_blocks g process index content time draw a is r = go (member_block a process index content) refl where
   processes : List (ℕ × Process)
   processes = a.insertions.processes
 
-  kept : (p : Process) → IsWithinLimits p → IsReached g (alone_keeps process p a)
+  kept : (p : Process) → IsWithinLimits p → IsReached g (member_keeps process p a)
   kept p within =
       reached_insertions g a (with_process process p a.insertions)
       (within_with a.insertions process p within r.insertions) r
 
   publishes : (p : Process) → IsWithinLimits p → is_whole p ≡ true → (b : Bool) → nat_lt (length a.log) 65535 ≡ b
-      → IsReached g (cond b (alone_publishes g (Offers (object_of p)) moment draw (alone_keeps process (closed p) a)) a)
+      → IsReached g (cond b (member_publishes g (Offers (object_of p)) time draw (member_keeps process (closed p) a)) a)
   publishes p within whole true q =
-      reached_publishes g (Offers (object_of p)) moment draw (alone_keeps process (closed p) a)
+      reached_publishes g (Offers (object_of p)) time draw (member_keeps process (closed p) a)
       (object_within p within whole)
       (ltb-true (length a.log) 65535 q) (kept (closed p) (closed_within p within))
   publishes p within whole false q = r
 
-  go : (state : BlockState) → alone_block a process index content ≡ state
-      → IsReached g (after_block g process moment draw a state)
+  go : (state : BlockState) → member_block a process index content ≡ state
+      → IsReached g (after_block g process time draw a state)
   go Unknown h = r
   go Already h = r
   go (Waiting p) h =
@@ -241,5 +242,5 @@ reached_blocks g process index content moment draw a is r = go (alone_block a pr
       publishes p (comes_within processes process index content p true is r.insertions comes) comes.has_all
       (nat_lt (length a.log) 65535) refl
 
-pub reached_clears : (g : GroupKeys) (a : Alone) → IsReached g a → IsReached g (alone_clears a)
+pub reached_clears : (g : GroupKeys) (a : MemberState) → IsReached g a → IsReached g (member_clears a)
 reached_clears g a r = reached_insertions g a (record a.insertions { processes = [] }) (λ number p found. absurd cc) r

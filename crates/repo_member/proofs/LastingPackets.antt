@@ -22,37 +22,40 @@ use Rattle.group_model.specs.Sound.{IsPublished}
 use Rattle.repo_holdings.specs.Records.{Packet}
 use Rattle.repo_member.specs.Groups.{GroupKeys, publisher_at}
 use Rattle.group_model.specs.Member.{with_tries}
-use Rattle.repo_member.specs.Alone.{Alone, ArePosts, alone_publishes, alone_accepts, next_seq}
+use Rattle.repo_member.specs.MemberState.{MemberState, ArePosts, member_publishes, member_accepts, next_seq}
 use Rattle.repo_holdings.specs.Taking.{Fetched}
 use Rattle.repo_holdings.specs.NewPublications.{as_parts, with_packets}
 use Rattle.repo_holdings.specs.Taking.{with_fetched}
 use Rattle.repo_member.proofs.PostLemmas.{are_posts_more}
-use Rattle.repo_member.specs.InGroup.{StoresTruly, IsItsPacket, CameTruly, true_packet, GrowInto, BeginsTruly}
-use Rattle.repo_member.specs.InGroup.{GrowsTruly, PublishesTruly, AcceptsTruly, TakesTruly, StaysTrue, LogsBegin}
+use Rattle.repo_member.specs.InGroup.{StoresConsistently, IsItsPacket, CameConsistently, published_packet, GrowInto}
+use Rattle.repo_member.specs.InGroup.{BeginsConsistently}
+use Rattle.repo_member.specs.InGroup.{GrowsConsistently, PublishesConsistently, AcceptsConsistently, TakesConsistently}
+use Rattle.repo_member.specs.InGroup.{StaysConsistent, LogsBegin}
 use Rattle.repo_member.specs.InGroup.{LogsGrow}
 use Rattle.repo_holdings.proofs.GainingLemmas.{contains-value, value_of-put}
 use Rattle.repo_member.proofs.ChangeLemmas.{keys_put, rises_put}
 
-pub begins_truly : BeginsTruly
-begins_truly g logs members number moment draw =
+pub begins_consistently : BeginsConsistently
+begins_consistently g logs members number time draw =
     record { in_order = tt; published = λ t h. absurd cc; packets = λ t octets h. absurd cc }
 
-pub stays_true : StaysTrue
-stays_true g logs a b same s =
-    let with_store : List Packet → Alone = λ stored. record a { store = stored } in
-    let as_before : StoresTruly g logs (with_store a.store) =
+pub stays_consistent : StaysConsistent
+stays_consistent g logs a b same s =
+    let with_store : List Packet → MemberState = λ stored. record a { store = stored } in
+    let as_before : StoresConsistently g logs (with_store a.store) =
     record { in_order = s.in_order; published = s.published; packets = s.packets } in
-    let moved : StoresTruly g logs (with_store b.store) =
-    subst (λ (stored : List Packet). StoresTruly g logs (with_store stored)) (sym same) as_before in
+    let moved : StoresConsistently g logs (with_store b.store) =
+    subst (λ (stored : List Packet). StoresConsistently g logs (with_store stored)) (sym same) as_before in
     record { in_order = moved.in_order; published = moved.published; packets = moved.packets }
 
 -- ---- packets that are put
 
-abbrev with_store : Alone → List Packet → Alone
+abbrev with_store : MemberState → List Packet → MemberState
 with_store a stored = record a { store = stored }
 
-pub one_more : (g : GroupKeys) (logs : Logs) (t : Part) (octets : List ℕ) (a : Alone) → IsItsPacket g logs t octets
-    → StoresTruly g logs a → StoresTruly g logs (with_store a (with_packet t octets a.store))
+pub one_more : (g : GroupKeys) (logs : Logs) (t : Part) (octets : List ℕ) (a : MemberState)
+    → IsItsPacket g logs t octets
+    → StoresConsistently g logs a → StoresConsistently g logs (with_store a (with_packet t octets a.store))
 one_more g logs t octets a its s = record {
   in_order = rises_put a.store t octets s.in_order;
   published = λ q h.
@@ -68,37 +71,38 @@ one_more g logs t octets a its s = record {
   packets = λ q found h. at q found (contains part_cmp (keys a.store) t) refl h;
 } where
   new : (q : Part) (found : List ℕ) (b : Bool) → eq_by_cmp part_cmp q t ≡ b
-      → cond b (Some octets) (value_of part_cmp a.store q) ≡ Some found → true_packet g logs q ≡ Some found
+      → cond b (Some octets) (value_of part_cmp a.store q) ≡ Some found → published_packet g logs q ≡ Some found
   new q found true p h =
-      ap (true_packet g logs) (eq_same exact_parts q t p) ∙ its.packet ∙ h
+      ap (published_packet g logs) (eq_same exact_parts q t p) ∙ its.packet ∙ h
   new q found false p h = s.packets q found h
 
   at : (q : Part) (found : List ℕ) (b : Bool) → contains part_cmp (keys a.store) t ≡ b
-      → value_of part_cmp (with_packet t octets a.store) q ≡ Some found → true_packet g logs q ≡ Some found
+      → value_of part_cmp (with_packet t octets a.store) q ≡ Some found → published_packet g logs q ≡ Some found
   at q found true p h =
       s.packets q found
       (sym (ap (λ (c : Bool). value_of part_cmp (cond c a.store (with_value part_cmp t octets a.store)) q) p) ∙ h)
   at q found false p h = new q found (eq_by_cmp part_cmp q t) refl (sym (value_of-put a.store t octets p q) ∙ h)
 
-pub accepts_truly : AcceptsTruly
-accepts_truly g logs f t octets a its s =
-    stays_true g logs (with_store a (with_packet t octets a.store)) (alone_accepts f t octets a) refl
+pub accepts_consistently : AcceptsConsistently
+accepts_consistently g logs f t octets a its s =
+    stays_consistent g logs (with_store a (with_packet t octets a.store)) (member_accepts f t octets a) refl
     (one_more g logs t octets a its s)
 
-fetched_truly : (g : GroupKeys) (logs : Logs) (t : Part) (o : Option (List ℕ)) (a : Alone) → CameTruly g logs t o
-    → StoresTruly g logs a → StoresTruly g logs (with_store a (with_fetched t o a.store))
-fetched_truly g logs t None a came s = stays_true g logs a (with_store a a.store) refl s
-fetched_truly g logs t (Some octets) a came s = one_more g logs t octets a came s
+fetched_consistently : (g : GroupKeys) (logs : Logs) (t : Part) (o : Option (List ℕ)) (a : MemberState)
+    → CameConsistently g logs t o
+    → StoresConsistently g logs a → StoresConsistently g logs (with_store a (with_fetched t o a.store))
+fetched_consistently g logs t None a came s = stays_consistent g logs a (with_store a a.store) refl s
+fetched_consistently g logs t (Some octets) a came s = one_more g logs t octets a came s
 
-pub takes_truly : TakesTruly
-takes_truly g logs [] a came s = s
-takes_truly g logs (x ∷ xs) a came s =
-    let next : Alone =
+pub takes_consistently : TakesConsistently
+takes_consistently g logs [] a came s = s
+takes_consistently g logs (x ∷ xs) a came s =
+    let next : MemberState =
     record a { store = with_fetched x.part x.packet a.store; attempts = with_tries x.part x.attempts a.attempts } in
-    let P : Fetched → Type 0 = λ y. CameTruly g logs y.part y.packet in
-    takes_truly g logs xs next (All-tail P x xs came)
-    (stays_true g logs (with_store a (with_fetched x.part x.packet a.store)) next refl
-    (fetched_truly g logs x.part x.packet a (All-head P x xs came) s))
+    let P : Fetched → Type 0 = λ y. CameConsistently g logs y.part y.packet in
+    takes_consistently g logs xs next (All-tail P x xs came)
+    (stays_consistent g logs (with_store a (with_fetched x.part x.packet a.store)) next refl
+    (fetched_consistently g logs x.part x.packet a (All-head P x xs came) s))
 
 -- ---- what is published
 
@@ -115,8 +119,8 @@ grown_post logs later pair grows there =
     (omega (arith, there.from_one, there.to_last)))
     ∙ ap (λ (log : List Post). get_or log (pair.1 - 1) no_post) (grows pair.0)
 
-pub grows_truly : GrowsTruly
-grows_truly g logs later a grows s = record {
+pub grows_consistently : GrowsConsistently
+grows_consistently g logs later a grows s = record {
   in_order = s.in_order;
   published = λ t h.
       let there = s.published t h in
@@ -132,18 +136,19 @@ grows_truly g logs later a grows s = record {
 }
 
 -- the packets of a publication, from part `x` on
-puts_truly : (g : GroupKeys) (logs : Logs) (pair : Pair) (x : ℕ) (made : List (List ℕ)) (a : Alone)
+puts_consistently : (g : GroupKeys) (logs : Logs) (pair : Pair) (x : ℕ) (made : List (List ℕ)) (a : MemberState)
     → ((k : ℕ) (octets : List ℕ) → slice_get made k ≡ Some octets → IsItsPacket g logs (part_of pair (x + k)) octets)
-    → StoresTruly g logs a → StoresTruly g logs (with_store a (with_packets (as_parts pair x made) a.store))
-puts_truly g logs pair x [] a its s = stays_true g logs a (with_store a a.store) refl s
-puts_truly g logs pair x (octets ∷ made) a its s =
+    → StoresConsistently g logs a → StoresConsistently g logs
+    (with_store a (with_packets (as_parts pair x made) a.store))
+puts_consistently g logs pair x [] a its s = stays_consistent g logs a (with_store a a.store) refl s
+puts_consistently g logs pair x (octets ∷ made) a its s =
     let here : x + 0 ≡ x = omega arith in
     let first : IsItsPacket g logs (part_of pair x) octets =
     subst (λ (n : ℕ). IsItsPacket g logs (part_of pair n) octets) here (its 0 octets refl) in
-    let next : Alone = with_store a (with_packet (part_of pair x) octets a.store) in
-    stays_true g logs (with_store next (with_packets (as_parts pair (x + 1) made) next.store))
+    let next : MemberState = with_store a (with_packet (part_of pair x) octets a.store) in
+    stays_consistent g logs (with_store next (with_packets (as_parts pair (x + 1) made) next.store))
     (with_store a (with_packets (as_parts pair x (octets ∷ made)) a.store)) refl
-    (puts_truly g logs pair (x + 1) made next (λ k found h.
+    (puts_consistently g logs pair (x + 1) made next (λ k found h.
     let there : x + suc k ≡ (x + 1) + k = omega arith in
     subst (λ (n : ℕ). IsItsPacket g logs (part_of pair n) found) there (its (suc k) found h))
     (one_more g logs (part_of pair x) octets a first s))
@@ -179,8 +184,8 @@ module _ (logs : Logs) (number : ℕ) (log : List Post) (post : Post) (inside : 
       ap (λ (l : List Post). get_or l (length log + 1 - 1) no_post) at_own
       ∙ get_or_push log post no_post (length log + 1 - 1) (omega arith)
 
-pub publishes_truly : PublishesTruly
-publishes_truly g post moment draw logs a inside own s =
+pub publishes_consistently : PublishesConsistently
+publishes_consistently g post time draw logs a inside own s =
     let later_logs : Logs = slice_set logs a.number (a.log ++ post ∷ []) in
     let pair : Pair = (a.number, next_seq a) in
     let made : List (List ℕ) = packets (publisher_at g a.number) (next_seq a) post in
@@ -191,15 +196,15 @@ publishes_truly g post moment draw logs a inside own s =
     record {
       published = published_next logs a.number a.log post inside own;
       packet =
-          ap (λ (n : ℕ). true_packet g later_logs (part_of pair n)) same
+          ap (λ (n : ℕ). published_packet g later_logs (part_of pair n)) same
           ∙ ap (λ (o : Post). packet_at (publisher_at g a.number) (next_seq a) o k)
           (post_next logs a.number a.log post inside own)
           ∙ h;
     } in
-    stays_true g later_logs (with_store a (with_packets (as_parts pair 0 made) a.store))
-    (alone_publishes g post moment draw a) refl
-    (puts_truly g later_logs pair 0 made a its
-    (grows_truly g logs later_logs a (published_grows logs a.number a.log post inside own) s))
+    stays_consistent g later_logs (with_store a (with_packets (as_parts pair 0 made) a.store))
+    (member_publishes g post time draw a) refl
+    (puts_consistently g later_logs pair 0 made a its
+    (grows_consistently g logs later_logs a (published_grows logs a.number a.log post inside own) s))
 
 -- ---- what can have been published
 

@@ -5,7 +5,7 @@ mod PostLemmas
 mod OwnLemmas
 mod VectorLemmas
 mod ChangeLemmas
-pub mod TruePackets
+pub mod ConsistentPackets
 mod FoundLemmas
 mod ReplyLemmas
 mod GroupPlans
@@ -29,10 +29,10 @@ mod CallReach
 mod CallPackets
 mod SegmentDigests
 mod PassingPackets
-mod TrueHolders
+mod ConsistentHolders
 pub mod HolderTakes
-mod TrueMembers
-mod TrueChanges
-mod TrueSyncs
+mod ConsistentMembers
+mod ConsistentChanges
+mod ConsistentSyncs
 mod OrderLemmas
 pub mod PublicLaws

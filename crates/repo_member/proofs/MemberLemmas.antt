@@ -18,7 +18,7 @@ use Rattle.repo_member.specs.declared.member.Member.TheInside.{Inside}
 use Rattle.repo_holdings.specs.Listed.{listing_at, listed_shape}
 use Rattle.repo_holdings.specs.StoredParents.{digest_at, index_count, lists_at}
 use Rattle.repo_holdings.specs.HoldingsState.{HoldingsState, held_plan, claims_too}
-use Rattle.repo_holdings.specs.Wanting.{AreShortNames, want_behind, want_at, job_at}
+use Rattle.repo_holdings.specs.Wanting.{AreShortNames, want_after, want_at, job_at}
 use Rattle.repo_member.specs.Outcomes.{job_for}
 use Rattle.repo_object.specs.Limits.{node_name_limit}
 use Rattle.std.specs.List.{slice_get}
@@ -31,39 +31,39 @@ use Rattle.repo_object.specs.Wants.{WantedPart, want_record, want_index, want_se
 use Rattle.repo_object.specs.Verdict.{ring_verdict}
 use Rattle.repo_holdings.specs.Records.{Packet}
 use Rattle.repo_member.specs.Groups.{GroupKeys, HaveKeys, IsGroup, IsPlainNodeName}
-use Rattle.repo_member.specs.Alone.{Alone, IsOfGroup, alone_plan, want_of}
+use Rattle.repo_member.specs.MemberState.{MemberState, IsOfGroup, member_plan, want_of}
 use Rattle.repo_holdings.specs.Wanting.{nothing_listed}
 use Rattle.repo_member.specs.Posts.{posts_of}
-use Rattle.repo_member.specs.Members.{alone, IsMember}
+use Rattle.repo_member.specs.Members.{member_state, IsMember}
 use Rattle.repo_holdings.proofs.AskedLemmas.{asked_member}
 use Rattle.repo_member.proofs.GroupLemmas.{ring_length}
 
 -- the plan of what is held is that of the member's value
-pub plan_is : (m : Inside) → IsMember m → held_plan m.held ≡ alone_plan (alone m)
-plan_is m is = λ i. record (alone_plan (alone m)) { known = is.known i }
+pub plan_is : (m : Inside) → IsMember m → held_plan m.held ≡ member_plan (member_state m)
+plan_is m is = λ i. record (member_plan (member_state m)) { known = is.known i }
 
 -- a reading of it is that of the member's value
-pub reading : {A : Type 0} (f : PlanState → A) (m : Inside) (a : Alone) → IsMember m → alone m ≡ a
-    → f (held_plan m.held) ≡ f (alone_plan a)
-reading f m a is view = ap f (plan_is m is) ∙ ap (λ (x : Alone). f (alone_plan x)) view
+pub reading : {A : Type 0} (f : PlanState → A) (m : Inside) (a : MemberState) → IsMember m → member_state m ≡ a
+    → f (held_plan m.held) ≡ f (member_plan a)
+reading f m a is view = ap f (plan_is m is) ∙ ap (λ (x : MemberState). f (member_plan x)) view
 
 -- ---- what is learnt
 
-hears_members : (now : ℕ) (told known : List ℕ) (draw : ℕ) (k : Keeper) (heard : Option (List ℕ))
-    → (hears_kept now told known draw k heard).members ≡ k.members
-hears_members now told known draw k (Some vector) = refl
-hears_members now told known draw k None = go (covers told known) where
+hears_members : (now : ℕ) (reported known : List ℕ) (draw : ℕ) (k : Keeper) (heard : Option (List ℕ))
+    → (hears_kept now reported known draw k heard).members ≡ k.members
+hears_members now reported known draw k (Some vector) = refl
+hears_members now reported known draw k None = go (covers reported known) where
   go : (b : Bool)
       → (cond b (steady_kept now draw k)
-      (record k { heard = Some told; deadline = now + suppression draw; draws = k.draws + 1 })).members
+      (record k { heard = Some reported; deadline = now + suppression draw; draws = k.draws + 1 })).members
       ≡ k.members
   go true = refl
   go false = refl
 
-pub still_wide : (now : ℕ) (told known : List ℕ) (draw : ℕ) (k new : Keeper)
-    → new ≡ hears_kept now told known draw k k.heard → new.members ≡ k.members
-still_wide now told known draw k new is =
-    ap (λ (x : Keeper). x.members) is ∙ hears_members now told known draw k k.heard
+pub still_wide : (now : ℕ) (reported known : List ℕ) (draw : ℕ) (k new : Keeper)
+    → new ≡ hears_kept now reported known draw k k.heard → new.members ≡ k.members
+still_wide now reported known draw k new is =
+    ap (λ (x : Keeper). x.members) is ∙ hears_members now reported known draw k k.heard
 
 -- numbers that grow are known still
 pub knows_more : (old new : PlanState) (pair : Pair) → ((p : ℕ) → slice_index old.known p ≤ slice_index new.known p)
@@ -75,27 +75,33 @@ knows_more old new pair more h =
     and_from (nat_le 1 pair.1) (nat_le pair.1 (slice_index new.known pair.0)) both.0
     (le-leb pair.1 (slice_index new.known pair.0) (omega (arith, high, grown)))
 
--- a member that learns a vector, which tells of no more publications of it than it made
-pub learns_is : (m : Inside) (told vector : List ℕ) (held : HoldingsState) (machine : Keeper) → IsMember m
-    → length told ≡ length m.vector → slice_index told m.number ≤ length (posts_of m.log.items)
-    → vector ≡ join m.vector told → held ≡ record m.held { known = join m.vector told }
+-- a member that learns a vector, which reports no more publications of it than it made
+pub learns_is : (m : Inside) (reported vector : List ℕ) (held : HoldingsState) (machine : Keeper) → IsMember m
+    → length reported ≡ length m.vector → slice_index reported m.number ≤ length (posts_of m.log.items)
+    → vector ≡ join m.vector reported → held ≡ record m.held { known = join m.vector reported }
     → machine.members ≡ m.machine.members
     → IsMember (record m { vector = vector; held = held; machine = machine })
-learns_is m told vector held machine is width few joined learnt wide =
-    let long = length-join m.vector told (sym width) in
-    let at = join-at m.vector told in
-    let own = is.alone.own in
+learns_is m reported vector held machine is width few joined learnt wide =
+    let long = length-join m.vector reported (sym width) in
+    let at = join-at m.vector reported in
+    let own = is.member_state.own in
     let next : Inside =
-    record m { vector = join m.vector told; held = record m.held { known = join m.vector told }; machine = machine } in
+    record m {
+      vector = join m.vector reported;
+      held = record m.held { known = join m.vector reported };
+      machine =
+          machine;
+    } in
     let made : IsMember next = record {
-      alone = record {
-        member = omega (arith, long, is.alone.member);
+      member_state = record {
+        member = omega (arith, long, is.member_state.member);
         own = at m.number ∙ omega (arith, own, few);
-        width = wide ∙ is.alone.width ∙ sym long;
-        in_order = is.alone.in_order;
+        width = wide ∙ is.member_state.width ∙ sym long;
+        in_order = is.member_state.in_order;
         hidden =
-            λ pair h. knows_more (alone_plan (alone m)) (alone_plan (alone next)) pair (λ p. omega (arith, at p))
-            (is.alone.hidden pair h);
+            λ pair h. knows_more (member_plan (member_state m)) (member_plan (member_state next)) pair
+            (λ p. omega (arith, at p))
+            (is.member_state.hidden pair h);
       };
       known = refl;
       log = is.log;
@@ -121,22 +127,22 @@ want_at_part publishers group packets t = go (t.part == 0) (nat_le t.part (liste
   go false true = refl
   go false false = refl
 
--- how many digests its packet has to list
+-- how many digests its packet must list
 pub want_at_lists : (publishers : List (List Component)) (group : List Component) (packets : List Packet) (t : Part)
     → (want_at publishers group packets t).lists ≡ lists_at packets t
 want_at_lists publishers group packets t = go (t.part == 0) refl (listing_at packets (pair_of t)) where
   node : List Component
   node = unwrap_or (slice_get publishers t.publisher) []
 
-  -- what lies behind a record lists none where nothing is listed
+  -- what lies after a record lists none where nothing is listed
   past : (t.part == 0) ≡ false → nat_le t.part 0 ≡ false
   past p = false_from_ne_true (nat_le t.part 0) (λ h. omega (arith, leb-true t.part 0 h, eqb-false t.part 0 p))
 
-  behind : Listed → WantedPart
-  behind l = want_behind node group packets t l
+  after : Listed → WantedPart
+  after l = want_after node group packets t l
 
   go : (b : Bool) → (t.part == 0) ≡ b → (o : Option Listed)
-      → (cond b (want_record t node group) (behind (unwrap_or o nothing_listed))).lists
+      → (cond b (want_record t node group) (after (unwrap_or o nothing_listed))).lists
       ≡ option_and_then (index_count t.part) o
   go true p None = refl
   go true p (Some l) = sym (ap (λ (b : Bool). cond b None (counted l)) p) where
@@ -175,19 +181,19 @@ module _ (g : GroupKeys) (publishers : List (List Component)) (group : List Comp
     group = is.name.short;
   })
 
-  module _ (m : Inside) (a : Alone) (is : IsMember m) (view : alone m ≡ a) where
+  module _ (m : Inside) (a : MemberState) (is : IsMember m) (view : member_state m ≡ a) where
     pub wide_as_known : IsOfGroup g a → length publishers ≡ length m.held.known
     wide_as_known of =
         ap (λ (n : List (List Component)). length n) names
         ∙ of
-        ∙ sym (ap (λ (x : Alone). length x.known) view)
+        ∙ sym (ap (λ (x : MemberState). length x.known) view)
         ∙ sym (ap (λ (known : List ℕ). length known) is.known)
 
     pub want_is : (t : Part) → want_at publishers group m.held.store t ≡ want_of g a.store t
     want_is t =
         ap (λ (n : List (List Component)). want_at n group m.held.store t) names
         ∙ ap (λ (n : List Component). want_at g.members.names n m.held.store t) name
-        ∙ ap (λ (x : Alone). want_of g x.store t) view
+        ∙ ap (λ (x : MemberState). want_of g x.store t) view
 
     -- octets that pass for what is expected of a part pass for the member's want of it
     pub passes_for : (t : Part) (want : WantedPart) (ring : List NamedKey) (octets : List ℕ)
@@ -199,18 +205,19 @@ module _ (g : GroupKeys) (publishers : List (List Component)) (group : List Comp
 
     -- the jobs of the next parts
     pub jobs_are : (parts : PlanState → List Part)
-        → map (job_at publishers group m.held) (parts (held_plan m.held)) ≡ map (job_for g a) (parts (alone_plan a))
+        → map (job_at publishers group m.held) (parts (held_plan m.held)) ≡ map (job_for g a) (parts (member_plan a))
     jobs_are parts =
         ap (λ (n : List (List Component)). map (job_at n group m.held) (parts (held_plan m.held))) names
         ∙ ap (λ (n : List Component). map (job_at g.members.names n m.held) (parts (held_plan m.held))) name
         ∙ ap (λ (p : PlanState). map (job_at g.members.names g.name m.held) (parts p)) (plan_is m is)
-        ∙ ap (λ (x : Alone). map (job_for g x) (parts (alone_plan x))) view
+        ∙ ap (λ (x : MemberState). map (job_for g x) (parts (member_plan x))) view
 
 -- the key of a publisher that is asked for is in the ring
-pub publisher_in_ring : (g : GroupKeys) (m : Inside) (a : Alone) (t : Part) → IsMember m → alone m ≡ a → IsOfGroup g a
-    → HaveKeys g.members → is_asked (alone_plan a) t ≡ true → t.publisher < length g.members.ring
+pub publisher_in_ring : (g : GroupKeys) (m : Inside) (a : MemberState) (t : Part) → IsMember m → member_state m ≡ a
+    → IsOfGroup g a
+    → HaveKeys g.members → is_asked (member_plan a) t ≡ true → t.publisher < length g.members.ring
 publisher_in_ring g m a t is view of keys asked =
-    let known = asked_member (alone_plan a) t asked in
+    let known = asked_member (member_plan a) t asked in
     let ring = ring_length g.members keys in
     omega (arith, known, of, ring)
 

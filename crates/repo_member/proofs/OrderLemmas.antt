@@ -24,7 +24,7 @@ use Rattle.repo_command.proofs.TakenLemmas.{taken_commands}
 use Rattle.repo_member.specs.Groups.{GroupKeys, IsGroup, IsPlainNodeName, node_at, client_at, client_key_at}
 use Rattle.repo_member.specs.Commanded.{coded, order_of, order_made, MadeOrdersAreTaken, OrdersBeyondAreMalformed}
 use Rattle.repo_member.proofs.GroupLemmas.{client_is, client_plain, ring_length}
-use Rattle.repo_member.proofs.TrueSyncs.{number_at, ring_at}
+use Rattle.repo_member.proofs.ConsistentSyncs.{number_at, ring_at}
 
 -- a command within the limits has a short name
 within_short : (command : Command) → is_command command ≡ true → named_length command ≤ 400
@@ -33,7 +33,7 @@ within_short (Insert name first last) is =
 within_short (Check process) is = omega arith
 within_short (Delete name) is = named_short name is
 
--- No command is answered by the code of want of memory, since there is none.
+-- No command is answered by the code of running out of memory, since there is none.
 no_code : (verdict : Result (ℕ × Command) CommandRefusal) → IfErr verdict (λ r. r ≢ refused.NoMemory)
     → coded (Err refused.NoMemory) ≡ coded verdict → ⊥
 no_code (Ok order) of_octets e = cc

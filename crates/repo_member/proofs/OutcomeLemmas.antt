@@ -23,31 +23,31 @@ use Rattle.repo_plan.proofs.Changes.{wanted_parts}
 use Rattle.repo_plan.proofs.Known.{unclaimed_rises}
 use Rattle.repo_plan.proofs.Orders.{exact_parts}
 use Rattle.sorted_lists.proofs.Sets.{rises_filter}
-use Rattle.sorted_lists.proofs.SameSets.{not_behind}
+use Rattle.sorted_lists.proofs.SameSets.{not_after}
 use Rattle.sorted_lists.proofs.Inserted.{rises_parts}
 use Rattle.repo_object.specs.declared.job.Job.{Job}
 use Rattle.repo_object.specs.declared.part_refusal.PartRefusal.{PartRefusal}
 use Rattle.repo_object.specs.Publication.{RecordSays}
 use Rattle.repo_object.specs.Records.{record_of, index_of}
-use Rattle.repo_object.specs.Verdict.{CheckedPart, IsChecked, Passes, part_verdict, content_within, said_in, may_say}
+use Rattle.repo_object.specs.Verdict.{CheckedPart, IsChecked, Passes, part_verdict, content_within, stated_in, may_say}
 use Rattle.repo_object.proofs.Passing.{passes}
 use Rattle.repo_member.specs.Groups.{GroupKeys, HaveKeys}
 use Rattle.repo_holdings.specs.Records.{Packet}
 use Rattle.group_model.specs.Member.{with_tries}
-use Rattle.repo_member.specs.Alone.{Alone, alone_holdings, alone_plan, want_of, alone_takes}
+use Rattle.repo_member.specs.MemberState.{MemberState, member_holdings, member_plan, want_of, member_takes}
 use Rattle.repo_holdings.specs.Taking.{Fetched, with_fetched, with_all_fetched, with_what_came}
 use Rattle.repo_holdings.specs.StoredParents.{lists_at, ListsAsMany}
 use Rattle.repo_holdings.specs.Gaining.{IsArrival}
-use Rattle.repo_holdings.specs.declared.told.Told.{Told}
+use Rattle.repo_holdings.specs.declared.record_summary.RecordSummary.{RecordSummary}
 use Rattle.repo_object.specs.Wants.{WantedPart}
-use Rattle.repo_holdings.specs.declared.told.Arrival.{Arrival}
-use Rattle.repo_member.specs.Members.{alone, IsMember}
+use Rattle.repo_holdings.specs.declared.record_summary.Arrival.{Arrival}
+use Rattle.repo_member.specs.Members.{member_state, IsMember}
 use Rattle.repo_member.specs.declared.member.Member.TheInside.{Inside}
 use Rattle.repo_holdings.specs.declared.holdings.taking.Tried.{Tried}
 use Rattle.repo_member.specs.Outcomes.{IsJobOf, AreFetchedOf, WereTried, HolderJobsArePlanned, RisingJobsArePlanned}
 use Rattle.repo_member.specs.Outcomes.{JobsArePlanned, PlannedJobsAreOutcomes, IsOutcome, outcome_of, IsFetched}
 use Rattle.repo_member.specs.Outcomes.{AreFetched, HolderJobsAreOutcomes}
-use Rattle.repo_member.specs.TrueHolders.{MembersTakeAll}
+use Rattle.repo_member.specs.ConsistentHolders.{MembersTakeAll}
 use Rattle.repo_holdings.specs.Taking.{PartsDiffer, CanBeTaken}
 use Rattle.repo_holdings.specs.Taking.{AreTakable, came, arrival_octets}
 use Rattle.repo_member.specs.Outcomes.{octets_in}
@@ -87,48 +87,50 @@ checked_lists c passed =
     lists_so c.octets all.0 all.1.read c.want.lists all.1.listing
 
 -- and what passed for a record says something
-said_so : (seq : ℕ) (octets : List ℕ) (d : Data) → data_of octets ≡ Ok d → IsTrue (may_say seq (record_of d.content))
-    → IsSome (said_in octets)
-said_so seq octets d read may =
+stated_so : (seq : ℕ) (octets : List ℕ) (d : Data) → data_of octets ≡ Ok d → IsTrue (may_say seq (record_of d.content))
+    → IsSome (stated_in octets)
+stated_so seq octets d read may =
     ap (λ (r : Result Data PacketFault). is_some (option_and_then record_of (content_within r))) read
     ∙ some (record_of d.content) may where
       some : (o : Option RecordSays) → IsTrue (may_say seq o) → is_some o ≡ true
       some None h = absurd (true≢false (sym h))
       some (Some says) h = refl
 
-pub checked_says : (c : CheckedPart) → IsChecked c → c.want.part.part ≡ 0 → IsSome (said_in c.octets)
+pub checked_says : (c : CheckedPart) → IsChecked c → c.want.part.part ≡ 0 → IsSome (stated_in c.octets)
 checked_says c passed zero =
     let all = checked_passes c passed in
-    said_so c.want.part.seq c.octets all.0 all.1.read (all.1.said zero)
+    stated_so c.want.part.seq c.octets all.0 all.1.read (all.1.stated zero)
 
 -- so it comes as the part of its want, where it was copied or shared
 pub comes_so : {E : Type 0} (c : CheckedPart) (t : Part) (octets : List ℕ) (r : Result Arrival E) → t ≡ c.want.part
     → octets ≡ c.octets → IsChecked c
     → IfOk r (λ a. (packets : List Packet) → ListsAsMany octets (lists_at packets t)
-    → IsArrival packets t a.packet a.told)
+    → IsArrival packets t a.packet a.summary)
     → IfOk r (λ a. (packets : List Packet) → c.want.lists ≡ lists_at packets c.want.part
-    → IsArrival packets c.want.part a.packet a.told)
+    → IsArrival packets c.want.part a.packet a.summary)
 comes_so c t octets (Err e) part same passed comes = tt
 comes_so c t octets (Ok a) part same passed comes = λ packets lists.
-    subst (λ (u : Part). IsArrival packets u a.packet a.told) part
+    subst (λ (u : Part). IsArrival packets u a.packet a.summary) part
     (comes packets
     (subst (ListsAsMany octets) (lists ∙ ap (lists_at packets) (sym part))
     (subst (λ (o : List ℕ). ListsAsMany o c.want.lists) (sym same) (checked_lists c passed))))
 
 -- what was checked for a want of the member comes as its part
-pub arrives : (g : GroupKeys) (a : Alone) (t : Part) (c : CheckedPart) (octets : List ℕ) (told : Option Told)
+pub arrives : (g : GroupKeys) (a : MemberState) (t : Part) (c : CheckedPart) (octets : List ℕ)
+    (reported : Option RecordSummary)
     → c.want ≡ want_of g a.store t
     → ((packets : List Packet) → c.want.lists ≡ lists_at packets c.want.part
-    → IsArrival packets c.want.part octets told)
-    → IsArrival a.store t octets told
-arrives g a t c octets told same comes =
+    → IsArrival packets c.want.part octets reported)
+    → IsArrival a.store t octets reported
+arrives g a t c octets reported same comes =
     let part : c.want.part ≡ t = ap (λ (w : WantedPart). w.part) same ∙ want_part g a.store t in
     let lists : c.want.lists ≡ lists_at a.store c.want.part =
     ap (λ (w : WantedPart). w.lists) same ∙ want_lists g a.store t ∙ ap (lists_at a.store) (sym part) in
-    subst (λ (u : Part). IsArrival a.store u octets told) part (comes a.store lists)
+    subst (λ (u : Part). IsArrival a.store u octets reported) part (comes a.store lists)
 
 -- and lists as many digests as the part has to
-pub lists_for : (g : GroupKeys) (a : Alone) (t : Part) (c : CheckedPart) → IsChecked c → c.want ≡ want_of g a.store t
+pub lists_for : (g : GroupKeys) (a : MemberState) (t : Part) (c : CheckedPart) → IsChecked c → c.want
+    ≡ want_of g a.store t
     → ListsAsMany c.octets (lists_at a.store t)
 lists_for g a t c passed same =
     subst (ListsAsMany c.octets) (ap (λ (w : WantedPart). w.lists) same ∙ want_lists g a.store t)
@@ -145,47 +147,49 @@ nothing_left (job ∷ jobs) (part ∷ parts) (n ∷ ns) (inl h) = absurd (omega 
 nothing_left (job ∷ jobs) (part ∷ parts) (n ∷ ns) (inr (inl h)) = absurd (omega (arith, h))
 nothing_left (job ∷ jobs) (part ∷ parts) (n ∷ ns) (inr (inr h)) = absurd (omega (arith, h))
 
-module _ (g : GroupKeys) (a : Alone) (job : Job) (part : Option CheckedPart) (n : ℕ) where
-  pub first_fetched : (jobs later : List Job) (parts behind : List (Option CheckedPart)) (ns rest : List ℕ)
-      → jobs ≡ job ∷ later → parts ≡ part ∷ behind → ns ≡ n ∷ rest
-      → AreFetched g a jobs parts ns → IsFetched g a job part n × AreFetched g a later behind rest
-  first_fetched jobs later parts behind ns rest j p t are = rw (j, p, t) at are
+module _ (g : GroupKeys) (a : MemberState) (job : Job) (part : Option CheckedPart) (n : ℕ) where
+  pub first_fetched : (jobs later : List Job) (parts after : List (Option CheckedPart)) (ns rest : List ℕ)
+      → jobs ≡ job ∷ later → parts ≡ part ∷ after → ns ≡ n ∷ rest
+      → AreFetched g a jobs parts ns → IsFetched g a job part n × AreFetched g a later after rest
+  first_fetched jobs later parts after ns rest j p t are = rw (j, p, t) at are
 
   -- the fetched part of a job, with a copy of its packet
-  pub one_more : (x : Tried) (jobs later : List Job) (parts behind : List (Option CheckedPart)) (ns rest : List ℕ)
+  pub one_more : (x : Tried) (jobs later : List Job) (parts after : List (Option CheckedPart)) (ns rest : List ℕ)
       (xs : List Tried)
-      → jobs ≡ job ∷ later → parts ≡ part ∷ behind → ns ≡ n ∷ rest
+      → jobs ≡ job ∷ later → parts ≡ part ∷ after → ns ≡ n ∷ rest
       → x.part ≡ job.want.part
       → option_map (λ (y : Arrival). y.packet) x.arrival ≡ option_map (λ (c : CheckedPart). c.octets) part
       → x.attempts ≡ n
-      → map came (xs ++ x ∷ []) ++ outcome_of later behind rest ≡ map came xs ++ outcome_of jobs parts ns
-  one_more x jobs later parts behind ns rest xs j p t same packet tried =
-      ap (λ (ys : List Fetched). ys ++ outcome_of later behind rest) (map-append came xs (x ∷ []))
-      ∙ append_assoc (map came xs) (came x ∷ []) (outcome_of later behind rest)
-      ∙ rw (j, p, t) (ap (λ (y : Fetched). map came xs ++ y ∷ outcome_of later behind rest) is)
+      → map came (xs ++ x ∷ []) ++ outcome_of later after rest ≡ map came xs ++ outcome_of jobs parts ns
+  one_more x jobs later parts after ns rest xs j p t same packet tried =
+      ap (λ (ys : List Fetched). ys ++ outcome_of later after rest) (map-append came xs (x ∷ []))
+      ∙ append_assoc (map came xs) (came x ∷ []) (outcome_of later after rest)
+      ∙ rw (j, p, t) (ap (λ (y : Fetched). map came xs ++ y ∷ outcome_of later after rest) is)
     where
       is : came x
           ≡ record { part = job.want.part; packet = option_map (λ (c : CheckedPart). c.octets) part; attempts = n }
       is = λ i. record { part = same i; packet = packet i; attempts = tried i }
 
-  pub fetched_asked : (t : Part) → IsFetched g a job part n → t ≡ job.want.part → is_asked (alone_plan a) t ≡ true
+  pub fetched_asked : (t : Part) → IsFetched g a job part n → t ≡ job.want.part → is_asked (member_plan a) t ≡ true
   fetched_asked t is same =
       let free =
-      and_parts (is_wanted (alone_plan a) job.want.part) (not (is_claimed (alone_plan a) job.want.part)) is.unclaimed in
-      ap (is_asked (alone_plan a)) same ∙ (wanted_parts (alone_plan a) job.want.part free.0).asked
+      and_parts (is_wanted (member_plan a) job.want.part) (not (is_claimed (member_plan a) job.want.part))
+      is.unclaimed in
+      ap (is_asked (member_plan a)) same ∙ (wanted_parts (member_plan a) job.want.part free.0).asked
 
   pub can_be_taken : (x : Tried) → IsFetched g a job part n → x.part ≡ job.want.part → x.attempts ≡ n
-      → IfSome x.arrival (λ y. IsArrival a.store x.part y.packet y.told)
-      → CanBeTaken (alone_plan a) a.store x
+      → IfSome x.arrival (λ y. IsArrival a.store x.part y.packet y.summary)
+      → CanBeTaken (member_plan a) a.store x
   can_be_taken x is same tried arrived =
       let free =
-      and_parts (is_wanted (alone_plan a) job.want.part) (not (is_claimed (alone_plan a) job.want.part)) is.unclaimed in
-      let wanted = wanted_parts (alone_plan a) job.want.part free.0 in
+      and_parts (is_wanted (member_plan a) job.want.part) (not (is_claimed (member_plan a) job.want.part))
+      is.unclaimed in
+      let wanted = wanted_parts (member_plan a) job.want.part free.0 in
       record {
         asked = fetched_asked x.part is same;
-        not_held = ap (holds (alone_plan a)) same ∙ wanted.not_held;
-        not_hidden = ap (λ (t : Part). hides (alone_plan a) (pair_of t)) same ∙ wanted.not_hidden;
-        not_claimed = ap (is_claimed (alone_plan a)) same ∙ not-true (is_claimed (alone_plan a) job.want.part) free.1;
+        not_held = ap (holds (member_plan a)) same ∙ wanted.not_held;
+        not_hidden = ap (λ (t : Part). hides (member_plan a) (pair_of t)) same ∙ wanted.not_hidden;
+        not_claimed = ap (is_claimed (member_plan a)) same ∙ not-true (is_claimed (member_plan a) job.want.part) free.1;
         arrived = arrived;
         few = rw (same, tried) is.few;
       }
@@ -216,7 +220,7 @@ some_made : {A B : Type 0} (f : A → B) (o : Option A) → is_some o ≡ is_som
 some_made f None = refl
 some_made f (Some x) = refl
 
-module _ (g : GroupKeys) (a : Alone) where
+module _ (g : GroupKeys) (a : MemberState) where
   parts_fetched : (jobs : List Job) (parts : List (Option CheckedPart)) (ns : List ℕ) → AreFetched g a jobs parts ns
       → map (λ (y : Fetched). y.part) (outcome_of jobs parts ns) ≡ map (λ (job : Job). job.want.part) jobs
   parts_fetched [] [] [] are = refl
@@ -290,42 +294,42 @@ module _ (g : GroupKeys) (a : Alone) where
     pub all_octets : sum_by arrival_octets xs ≡ sum_by octets_in parts
     all_octets = came_sum (λ o. length (unwrap_or o []))
 
-module _ (m : Inside) (a : Alone) (view : alone m ≡ a) (mid : HoldingsState) (n : ℕ)
+module _ (m : Inside) (a : MemberState) (view : member_state m ≡ a) (mid : HoldingsState) (n : ℕ)
     (room : mid ≡ record m.held { spare = n }) where
-  pub takable_still : IsMember m → (xs : List Tried) → AreTakable (alone_plan a) a.store xs
+  pub takable_still : IsMember m → (xs : List Tried) → AreTakable (member_plan a) a.store xs
       → AreTakable (held_plan mid) mid.store xs
   takable_still is xs are =
-      let here : AreTakable (alone_plan (alone m)) m.held.store xs =
-      subst (λ (x : Alone). AreTakable (alone_plan x) x.store xs) (sym view) are in
+      let here : AreTakable (member_plan (member_state m)) m.held.store xs =
+      subst (λ (x : MemberState). AreTakable (member_plan x) x.store xs) (sym view) are in
       let there : AreTakable (held_plan m.held) m.held.store xs =
       subst (λ (p : PlanState). AreTakable p m.held.store xs) (sym (plan_is m is)) here in
       subst (λ (h : HoldingsState). AreTakable (held_plan h) h.store xs) (sym room) there
 
   pub stored_still : mid.store ≡ a.store
-  stored_still = ap (λ (h : HoldingsState). h.store) room ∙ ap (λ (x : Alone). x.store) view
+  stored_still = ap (λ (h : HoldingsState). h.store) room ∙ ap (λ (x : MemberState). x.store) view
 
   pub taken_is : (after : HoldingsState) (xs : List Fetched) → after ≡ takes_too xs mid
-      → record (alone m) {
+      → record (member_state m) {
         store = after.store;
         hidden = after.hidden;
         claims = after.claims;
         attempts = after.attempts;
       }
-      ≡ alone_takes xs a
+      ≡ member_takes xs a
   taken_is after xs taken =
-      ap (λ (h : HoldingsState). record (alone m) {
+      ap (λ (h : HoldingsState). record (member_state m) {
         store = h.store;
         hidden = h.hidden;
         claims = h.claims;
         attempts = h.attempts;
       }) (taken ∙ ap (takes_too xs) room)
-      ∙ sym (members_take_all xs (alone m)) ∙ ap (alone_takes xs) view
+      ∙ sym (members_take_all xs (member_state m)) ∙ ap (member_takes xs) view
 
 -- ---- what is planned can be taken, whatever came of it
 
 pub apart_in_order : (ts : List Part) → Rises part_cmp ts → PartsDiffer ts
 apart_in_order [] rises = tt
-apart_in_order (t ∷ ts) rises = (not_behind exact_parts t ts rises.0, apart_in_order ts rises.1)
+apart_in_order (t ∷ ts) rises = (not_after exact_parts t ts rises.0, apart_in_order ts rises.1)
 
 pub parts_of_jobs : (publishers : List (List Component)) (group : List Component) (h : HoldingsState) (ts : List Part)
     → map (λ (job : Job). job.want.part) (map (job_at publishers group h) ts) ≡ ts
@@ -404,8 +408,8 @@ holder_jobs_are_outcomes g h jobs parts attempts planned were = record {
 }
 
 pub jobs_are_planned : JobsArePlanned
-jobs_are_planned g a after most have of = holder_jobs_are_planned g (alone_holdings a) after most have of
+jobs_are_planned g a after most have of = holder_jobs_are_planned g (member_holdings a) after most have of
 
 pub planned_jobs_are_outcomes : PlannedJobsAreOutcomes
 planned_jobs_are_outcomes g a jobs parts attempts planned were =
-    holder_jobs_are_outcomes g (alone_holdings a) jobs parts attempts planned were
+    holder_jobs_are_outcomes g (member_holdings a) jobs parts attempts planned were

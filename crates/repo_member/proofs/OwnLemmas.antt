@@ -18,26 +18,26 @@ use Rattle.repo_plan.specs.Sound.{PlanIsSound}
 use Rattle.repo_plan.proofs.Orders.{exact_parts}
 use Rattle.sorted_lists.proofs.Sets.{eq_same}
 use Rattle.repo_plan.proofs.Known.{wanted_is_asked}
-use Rattle.repo_plan.specs.Parts.{index_packets, parts_behind}
+use Rattle.repo_plan.specs.Parts.{index_packets, parts_after}
 use Rattle.repo_object.specs.Objects.{Post, IsPost, Publisher, IsPublisher, shape_in}
 use Rattle.repo_object.specs.Objects.Post.{Offers, Withdraws}
-use Rattle.repo_object.specs.Publication.{Listed, packets, packet_at, packets_behind, record_packet, published_record}
+use Rattle.repo_object.specs.Publication.{Listed, packets, packet_at, packets_after, record_packet, published_record}
 use Rattle.repo_object.specs.Publication.{published_listing}
 use Rattle.repo_object.specs.Wants.{listed_in}
-use Rattle.repo_object.specs.Verdict.{said_in, index_in}
-use Rattle.repo_object.proofs.Publications.{record_said, index_again}
+use Rattle.repo_object.specs.Verdict.{stated_in, index_in}
+use Rattle.repo_object.proofs.Publications.{record_stated, index_again}
 use Rattle.repo_object.proofs.Publications.{packets-length}
 use Rattle.repo_member.specs.declared.member.Member.TheInside.{Inside}
 use Rattle.repo_member.specs.Groups.{GroupKeys, IsGroup, IsPlainNodeName, node_at, publisher_at}
-use Rattle.repo_holdings.specs.declared.told.Told.{Told}
-use Rattle.repo_holdings.specs.Listed.{listing_in, object_said}
+use Rattle.repo_holdings.specs.declared.record_summary.RecordSummary.{RecordSummary}
+use Rattle.repo_holdings.specs.Listed.{listing_in, object_stated}
 use Rattle.repo_holdings.specs.StoredParents.{index_count, ListsAsMany}
-use Rattle.repo_holdings.specs.Gaining.{told_of, shape_told}
-use Rattle.repo_member.specs.Alone.{Alone, alone_plan, logged, packet_in}
+use Rattle.repo_holdings.specs.Gaining.{summary_of, summary_shape}
+use Rattle.repo_member.specs.MemberState.{MemberState, member_plan, logged, packet_in}
 use Rattle.repo_holdings.specs.HoldingsState.{HoldingsState, held_plan, knows_too, AreInOrder}
 use Rattle.repo_holdings.specs.NewPublications.{IsNew, ArePackets, ListInTurn}
 use Rattle.repo_member.specs.Posts.{posts_of, IsKeptLog}
-use Rattle.repo_member.specs.Members.{alone, AreWaiting, IsMember}
+use Rattle.repo_member.specs.Members.{member_state, AreWaiting, IsMember}
 use Rattle.repo_member.proofs.MemberLemmas.{knows_more}
 
 -- ---- who publishes
@@ -71,11 +71,11 @@ in_turn l x (octets ∷ made) each = (
   later i o e = subst (λ (n : ℕ). ListsAsMany o (option_and_then (index_count n) l)) e
 
 module _ (publisher : Publisher) (seq : ℕ) (is_publisher : IsPublisher publisher) (low : seq < 2 ^ 16) where
-  behind_listed : (post : Post) → IsPost seq post → (i : ℕ) (octets : List ℕ)
-      → slice_get (packets_behind publisher seq post) i ≡ Some octets
-      → ListsAsMany octets (option_and_then (index_count (1 + i)) (object_said (published_record publisher seq post)))
-  behind_listed (Withdraws withdrawn) is i octets there = tt
-  behind_listed (Offers object) is i octets there =
+  after_listed : (post : Post) → IsPost seq post → (i : ℕ) (octets : List ℕ)
+      → slice_get (packets_after publisher seq post) i ≡ Some octets
+      → ListsAsMany octets (option_and_then (index_count (1 + i)) (object_stated (published_record publisher seq post)))
+  after_listed (Withdraws withdrawn) is i octets there = tt
+  after_listed (Offers object) is i octets there =
       subst (ListsAsMany octets) (sym counted) (go (nat_le (1 + i) (index_packets (length object.contents))) refl) where
         counted : index_count (1 + i) (published_listing publisher seq object)
             ≡ cond (nat_le (1 + i) (index_packets (length object.contents)))
@@ -100,40 +100,41 @@ module _ (publisher : Publisher) (seq : ℕ) (is_publisher : IsPublisher publish
             ∙ ap is_some (index_again publisher is_publisher object is seq i octets low (omega (arith, below))
             (ap (packet_at publisher seq (Offers object)) next ∙ there))
 
-  pub packets_are : (post : Post) → IsPost seq post → (told : Told)
-      → told ≡ told_of (published_record publisher seq post)
-      → (made : List (List ℕ)) → made ≡ packets publisher seq post → ArePackets told made
-  packets_are post is told says made same = subst (ArePackets told) (sym same) (
-    said,
+  pub packets_are : (post : Post) → IsPost seq post → (reported : RecordSummary)
+      → reported ≡ summary_of (published_record publisher seq post)
+      → (made : List (List ℕ)) → made ≡ packets publisher seq post → ArePackets reported made
+  packets_are post is reported says made same = subst (ArePackets reported) (sym same) (
+    stated,
     (
       many,
       in_turn (listing_in (record_packet publisher seq (published_record publisher seq post))) 1
-          (packets_behind publisher seq post)
+          (packets_after publisher seq post)
           (λ i octets there.
           subst (λ (l : Option Listed). ListsAsMany octets (option_and_then (index_count (1 + i)) l))
-          (sym (ap (option_and_then object_said) record_is)) (behind_listed post is i octets there)),
+          (sym (ap (option_and_then object_stated) record_is)) (after_listed post is i octets there)),
     ),
   ) where
-    record_is : said_in (record_packet publisher seq (published_record publisher seq post))
+    record_is : stated_in (record_packet publisher seq (published_record publisher seq post))
         ≡ Some (published_record publisher seq post)
-    record_is = record_said publisher is_publisher seq post is low
+    record_is = record_stated publisher is_publisher seq post is low
 
-    said : option_map told_of (said_in (record_packet publisher seq (published_record publisher seq post))) ≡ Some told
-    said = ap (option_map told_of) record_is ∙ ap (λ (t : Told). Some t) (sym says)
+    stated : option_map summary_of (stated_in (record_packet publisher seq (published_record publisher seq post)))
+        ≡ Some reported
+    stated = ap (option_map summary_of) record_is ∙ ap (λ (t : RecordSummary). Some t) (sym says)
 
-    shape : (post : Post) → shape_told (told_of (published_record publisher seq post)) ≡ shape_in post
+    shape : (post : Post) → summary_shape (summary_of (published_record publisher seq post)) ≡ shape_in post
     shape (Offers object) = refl
     shape (Withdraws withdrawn) = refl
 
-    many : length (packets_behind publisher seq post) ≡ parts_behind (shape_told told)
+    many : length (packets_after publisher seq post) ≡ parts_after (summary_shape reported)
     many =
         omega (arith, packets-length publisher seq post)
-        ∙ ap parts_behind (sym (shape post) ∙ ap shape_told (sym says))
+        ∙ ap parts_after (sym (shape post) ∙ ap summary_shape (sym says))
 
 -- ---- what is logged
 
 -- an own part is looked up among what was published
-pub logged_own : (g : GroupKeys) (a : Alone) (t : Part) (post : Post) → t.publisher ≡ a.number → 0 < t.seq
+pub logged_own : (g : GroupKeys) (a : MemberState) (t : Part) (post : Post) → t.publisher ≡ a.number → 0 < t.seq
     → slice_get a.log (t.seq - 1) ≡ Some post
     → logged g a t ≡ packet_in (publisher_at g a.number) t post
 logged_own g a t post own above there =
@@ -165,7 +166,7 @@ asked_known_up_to : (p : PlanState) (t : Part) → is_asked p t ≡ true → t.s
 asked_known_up_to p t h =
     known_up_to p (pair_of t) (and_parts (knows p (pair_of t)) (can_be_asked p.held (shape_of p (pair_of t)) t) h).0
 
--- nothing is held, hidden or claimed of the publication behind the last one that is known
+-- nothing is held, hidden or claimed of the publication after the last one that is known
 pub next_to_last : (p : PlanState) (number last : ℕ) → PlanIsSound p → number < length p.known
     → slice_index p.known number ≡ last
     → (hides p (number, last + 1) ≡ true → knows p (number, last + 1) ≡ true)
@@ -203,10 +204,11 @@ next_is_new m held n log is sound long raised =
     let pair : Pair = (m.number, seq) in
     subst (λ (h : HoldingsState). IsNew (held_plan h) pair) (sym raised)
     (next_to_last (held_plan m.held) m.number log sound
-    (omega (arith, is.alone.member, ap (λ (known : List ℕ). length known) is.known))
-    (ap (λ (known : List ℕ). slice_index known m.number) is.known ∙ is.alone.own ∙ sym long)
+    (omega (arith, is.member_state.member, ap (λ (known : List ℕ). length known) is.known))
+    (ap (λ (known : List ℕ). slice_index known m.number) is.known ∙ is.member_state.own ∙ sym long)
     (λ h.
-    ap (λ (known : List ℕ). nat_le 1 seq && nat_le seq (slice_index known m.number)) is.known ∙ is.alone.hidden pair h))
+    ap (λ (known : List ℕ). nat_le 1 seq && nat_le seq (slice_index known m.number)) is.known
+    ∙ is.member_state.hidden pair h))
 
 -- ---- the member afterwards
 
@@ -221,7 +223,7 @@ module _ (m : Inside) (is : IsMember m) where
         (omega (
           arith,
           get_or-set_same m.vector m.number (max (slice_index m.vector m.number) (length (posts_of m.log.items) + 1)) 0
-              is.alone.member,
+              is.member_state.member,
         ))
     | inr other ↦
         omega (
@@ -245,21 +247,21 @@ module _ (m : Inside) (is : IsMember m) where
       let long =
       length-set m.vector m.number (max (slice_index m.vector m.number) (length (posts_of m.log.items) + 1)) in
       let wide : length next.vector ≡ length m.vector = ap (λ (v : List ℕ). length v) vector ∙ long in
-      let own = is.alone.own in
+      let own = is.member_state.own in
       let at =
       get_or-set_same m.vector m.number (max (slice_index m.vector m.number) (length (posts_of m.log.items) + 1)) 0
-      is.alone.member in
+      is.member_state.member in
       let here : slice_index next.vector next.number ≡ slice_index (greater m.vector) m.number =
       ap (λ (v : List ℕ). slice_index v next.number) vector ∙ ap (slice_index (greater m.vector)) number in
       record {
-        alone = record {
-          member = omega (arith, number, wide, is.alone.member);
+        member_state = record {
+          member = omega (arith, number, wide, is.member_state.member);
           own = omega (arith, here, at, own, more);
-          width = members ∙ is.alone.width ∙ sym wide;
+          width = members ∙ is.member_state.width ∙ sym wide;
           in_order = in_order;
-          hidden = λ pair h. knows_more (alone_plan (alone m)) (alone_plan (alone next)) pair
+          hidden = λ pair h. knows_more (member_plan (member_state m)) (member_plan (member_state next)) pair
               (λ p. subst (λ (v : List ℕ). slice_index m.vector p ≤ slice_index v p) (sym vector) (raised_at p))
-              (is.alone.hidden pair
+              (is.member_state.hidden pair
               (ap (λ (pairs : List Pair). hides (record (held_plan m.held) { hidden = pairs }) pair) (sym hidden) ∙ h));
         };
         known = known ∙ ap greater is.known ∙ sym vector;

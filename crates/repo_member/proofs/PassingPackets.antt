@@ -10,21 +10,21 @@ use Rattle.ndn_name.specs.Names.{Component, encoding}
 use Rattle.ndn_sign.specs.Ring
 use Rattle.ndn_sign.specs.Ring.{pair}
 use Rattle.repo_plan.specs.declared.part.Part.{Part}
-use Rattle.repo_plan.specs.Parts.{pair_of, parts_behind, index_packets}
+use Rattle.repo_plan.specs.Parts.{pair_of, parts_after, index_packets}
 use Rattle.repo_object.specs.Objects.{Post, IsPost, IsPublisher, offered, shape_in, key_name}
 use Rattle.repo_object.specs.Objects.Post.{Offers, Withdraws}
 use Rattle.repo_object.specs.Publication.{Listed, packets, packet_at, published_listing}
 use Rattle.repo_object.specs.Wants.{WantedPart, want_record, want_index, want_segment}
 use Rattle.repo_object.specs.Verdict.{part_verdict, key_at, ring_verdict}
 use Rattle.repo_object.proofs.Publications.{packets-length, record_passes, index_passes, segment_passes}
-use Rattle.repo_object.proofs.Telling.{part_fits}
+use Rattle.repo_object.proofs.Report.{part_fits}
 use Rattle.group_model.specs.Publications.{Logs, no_object, post_at}
 use Rattle.group_model.specs.Sound.{IsPublishedPart}
 use Rattle.repo_member.specs.Groups.{GroupKeys, IsGroup, node_at, member_key, publisher_at}
-use Rattle.repo_member.specs.InGroup.{AreLogs, true_packet}
-use Rattle.repo_member.specs.TrueMembers.{true_want, PacketsAreThere, PacketsPass}
+use Rattle.repo_member.specs.InGroup.{AreLogs, published_packet}
+use Rattle.repo_member.specs.ConsistentMembers.{published_want, PacketsAreThere, PacketsPass}
 use Rattle.repo_member.proofs.GroupLemmas.{ring_length}
-use Rattle.repo_member.proofs.TruePackets.{published_post, published_by, published_low, log_there}
+use Rattle.repo_member.proofs.ConsistentPackets.{published_post, published_by, published_low, log_there}
 
 -- the key under a member's number has its key's name
 ring_name : (g : GroupKeys) (p : ℕ) → IsGroup g → p < length g.members.names
@@ -37,7 +37,7 @@ ring_name g p is inside =
     ∙ get_or-map (λ (node : List Component). encoding (key_name node)) g.members.names p [] [] inside
     ∙ ap (λ (node : List Component). encoding (key_name node)) (sym (unwrap_or-slice_get g.members.names p []))
 
--- the want of a part behind the record of a publication, whose packet is this
+-- the want of a part after the record of a publication, whose packet is this
 abbrev pub want_of_post : GroupKeys → Part → Post → Option (List ℕ) → WantedPart
 want_of_post g t post made =
     let l = published_listing (publisher_at g t.publisher) t.seq (unwrap_or (offered post) no_object) in
@@ -66,12 +66,12 @@ want_published_part g t post made = go (t.part == 0) (nat_le t.part (shape_in po
 
 -- the packet passes for it, under its publisher's key
 packet_for : (g : GroupKeys) (t : Part) (post : Post) (octets : List ℕ) → IsPublisher (publisher_at g t.publisher)
-    → IsPost t.seq post → t.seq < 2 ^ 16 → t.part ≤ parts_behind (shape_in post)
+    → IsPost t.seq post → t.seq < 2 ^ 16 → t.part ≤ parts_after (shape_in post)
     → packet_at (publisher_at g t.publisher) t.seq post t.part ≡ Some octets
     → IsOk (part_verdict (want_published g t post (Some octets)) (encoding (key_name (node_at g t.publisher)))
     (member_key g t.publisher) octets)
 packet_for g t post octets publishes_it is low counted its = first (t.part == 0) refl where
-  behind : (post : Post) → IsPost t.seq post → t.part ≤ parts_behind (shape_in post)
+  after : (post : Post) → IsPost t.seq post → t.part ≤ parts_after (shape_in post)
       → packet_at (publisher_at g t.publisher) t.seq post t.part ≡ Some octets → 0 < t.part → (b : Bool)
       → nat_le t.part (shape_in post).index ≡ b
       → IsOk (part_verdict
@@ -81,11 +81,11 @@ packet_for g t post octets publishes_it is low counted its = first (t.part == 0)
       (want_segment t (shape_in post)
       (published_listing (publisher_at g t.publisher) t.seq (unwrap_or (offered post) no_object)).name (sha256 octets)))
       (encoding (key_name (node_at g t.publisher))) (member_key g t.publisher) octets)
-  behind (Withdraws withdrawn) is counted its above b p = absurd (omega (arith, counted, above))
-  behind (Offers object) is counted its above true p =
+  after (Withdraws withdrawn) is counted its above b p = absurd (omega (arith, counted, above))
+  after (Offers object) is counted its above true p =
       index_passes (publisher_at g t.publisher) publishes_it object is t octets low above
       (leb-true t.part (index_packets (length object.contents)) p) its
-  behind (Offers object) is counted its above false p =
+  after (Offers object) is counted its above false p =
       segment_passes (publisher_at g t.publisher) publishes_it object is t octets
       (omega (arith, leb-false t.part (index_packets (length object.contents)) p)) its
 
@@ -103,16 +103,16 @@ packet_for g t post octets publishes_it is low counted its = first (t.part == 0)
       record_passes (publisher_at g t.publisher) publishes_it t post octets is low
       (subst (λ (n : ℕ). packet_at (publisher_at g t.publisher) t.seq post n ≡ Some octets) (eqb-true t.part 0 p) its)
   first false p =
-      behind post is counted its (omega (arith, eqb-false t.part 0 p)) (nat_le t.part (shape_in post).index) refl
+      after post is counted its (omega (arith, eqb-false t.part 0 p)) (nat_le t.part (shape_in post).index) refl
 
 module _ (g : GroupKeys) (logs : Logs) (t : Part) (are : AreLogs g logs) (is : IsPublishedPart logs t) where
   abbrev post : Post
   post = post_at logs (pair_of t)
 
-  pub packet_there : IsSomeAnd (true_packet g logs t) (λ octets. length octets ≤ 8800)
+  pub packet_there : IsSomeAnd (published_packet g logs t) (λ octets. length octets ≤ 8800)
   packet_there =
       let made : List (List ℕ) = packets (publisher_at g t.publisher) t.seq post in
-      let many : length made ≡ parts_behind (shape_in post) + 1 =
+      let many : length made ≡ parts_after (shape_in post) + 1 =
       packets-length (publisher_at g t.publisher) t.seq post in
       let inside : t.part < length made = omega (arith, many, is.counted) in
       let there = slice_get-get_or made t.part [] inside in
@@ -128,14 +128,14 @@ module _ (g : GroupKeys) (logs : Logs) (t : Part) (are : AreLogs g logs) (is : I
       ≡ encoding (key_name (node_at g t.publisher))
   named = ring_name g t.publisher are.group publisher_there
 
-  pub packet_passes : (octets : List ℕ) → true_packet g logs t ≡ Some octets
-      → IsOk (ring_verdict (true_want g logs t) g.members.ring octets)
+  pub packet_passes : (octets : List ℕ) → published_packet g logs t ≡ Some octets
+      → IsOk (ring_verdict (published_want g logs t) g.members.ring octets)
   packet_passes octets its =
-      subst (λ (u : Part). IsOk (part_verdict (true_want g logs t) (key_at g.members.ring u.publisher).name
+      subst (λ (u : Part). IsOk (part_verdict (published_want g logs t) (key_at g.members.ring u.publisher).name
       (key_at g.members.ring u.publisher).key octets))
-      (sym (want_published_part g t post (true_packet g logs t)))
+      (sym (want_published_part g t post (published_packet g logs t)))
       (subst (λ (name : List ℕ).
-      IsOk (part_verdict (true_want g logs t) name (member_key g t.publisher) octets)) (sym named)
+      IsOk (part_verdict (published_want g logs t) name (member_key g t.publisher) octets)) (sym named)
       (subst (λ (made : Option (List ℕ)).
       IsOk (part_verdict (want_published g t post made) (encoding (key_name (node_at g t.publisher)))
       (member_key g t.publisher) octets)) (sym its)

@@ -7,25 +7,25 @@ use Rattle.std.proofs.lemmas.List.{get_or_past}
 use Rattle.repo_plan.specs.declared.part.Part.{Part}
 use Rattle.repo_plan.specs.declared.shape.Shape.{Shape}
 use Rattle.sorted_lists.specs.SortedList.{insert_key, with_value}
-use Rattle.repo_plan.specs.Parts.{Pair, IsShape, part_cmp, pair_of, part_of, parts_behind}
+use Rattle.repo_plan.specs.Parts.{Pair, IsShape, part_cmp, pair_of, part_of, parts_after}
 use Rattle.repo_plan.specs.Plan.{PlanState, holds, holds_too, with_shape, uses_room, is_asked, attempts_of}
 use Rattle.repo_plan.specs.Sound.{PlanIsSound, CanBeHeld}
 use Rattle.repo_plan.proofs.Changes.{Keeps, IsWanted, wanted_parts, wanted_from, asked_kept, same_holdings, sound_room}
 use Rattle.repo_plan.proofs.Changes.{sound_holds, sound_attempts}
 use Rattle.repo_object.specs.Publication.{Listed, RecordSays}
-use Rattle.repo_object.specs.Verdict.{said_in}
+use Rattle.repo_object.specs.Verdict.{stated_in}
 use Rattle.repo_store.specs.StoreList.{with_packet}
 use Rattle.group_model.specs.Member.{with_tries}
-use Rattle.repo_holdings.specs.declared.told.Told.{Told}
-use Rattle.repo_object.specs.Publication.{shape_said}
+use Rattle.repo_holdings.specs.declared.record_summary.RecordSummary.{RecordSummary}
+use Rattle.repo_object.specs.Publication.{shape_stated}
 use Rattle.repo_holdings.specs.StoredParents.{lists_at, ListsAsMany}
-use Rattle.repo_holdings.specs.Gaining.{AreTied, shape_told, told_shape}
+use Rattle.repo_holdings.specs.Gaining.{AreTied, summary_shape, shape_in_summary}
 use Rattle.repo_holdings.specs.NewPublications.{as_parts, with_packets, IsNew}
-use Rattle.repo_holdings.proofs.GainingLemmas.{told_shape_is, tied_too, others_kept}
-use Rattle.repo_holdings.proofs.AskedLemmas.{told_sized}
-use Rattle.repo_holdings.proofs.PublishLemmas.{HasGained, AreToCome, told_first, can_ask, not_hidden, not_claimed}
-use Rattle.repo_holdings.proofs.PublishLemmas.{gained_more, tells_shape, lists_many, come_later}
-use Rattle.repo_member.specs.Alone.{Alone, alone_plan}
+use Rattle.repo_holdings.proofs.GainingLemmas.{reported_shape_is, tied_too, others_kept}
+use Rattle.repo_holdings.proofs.AskedLemmas.{reported_sized}
+use Rattle.repo_holdings.proofs.PublishLemmas.{HasGained, AreToCome, reported_first, can_ask, not_hidden, not_claimed}
+use Rattle.repo_holdings.proofs.PublishLemmas.{gained_more, reports_shape, lists_many, come_later}
+use Rattle.repo_member.specs.MemberState.{MemberState, member_plan}
 use Rattle.repo_member.proofs.MemberLemmas.{knows_more}
 
 -- ---- numbers that grow
@@ -73,42 +73,44 @@ sound_known p known few more s = record {
 -- ---- a part that comes
 
 -- the member stores this packet too
-abbrev pub gains : Part → List ℕ → Alone → Alone
+abbrev pub gains : Part → List ℕ → MemberState → MemberState
 gains t octets a = record a { store = with_packet t octets a.store }
 
--- what is told is one that a record may tell
-told_is_shape : (t : Part) (octets : List ℕ) → IfSome (told_shape t octets) IsShape
-told_is_shape t octets =
-    subst (λ (o : Option Shape). IfSome o IsShape) (sym (told_shape_is t octets))
-    (go (t.part == 0) (said_in octets) refl) where
-      go : (b : Bool) (o : Option RecordSays) → said_in octets ≡ o
-          → IfSome (cond b (option_map shape_said o) None) IsShape
+-- what is reported is one that a record may tell
+reported_is_shape : (t : Part) (octets : List ℕ) → IfSome (shape_in_summary t octets) IsShape
+reported_is_shape t octets =
+    subst (λ (o : Option Shape). IfSome o IsShape) (sym (reported_shape_is t octets))
+    (go (t.part == 0) (stated_in octets) refl) where
+      go : (b : Bool) (o : Option RecordSays) → stated_in octets ≡ o
+          → IfSome (cond b (option_map shape_stated o) None) IsShape
       go true None p = tt
-      go true (Some says) p = told_sized octets says p
+      go true (Some says) p = reported_sized octets says p
       go false o p = tt
 
-module _ (a : Alone) (t : Part) (octets : List ℕ) (tied : AreTied (alone_plan a) a.store)
-    (fresh : holds (alone_plan a) t ≡ false) (asked : is_asked (alone_plan a) t ≡ true)
-    (told : is_some (told_shape t octets) ≡ (t.part == 0)) (lists : ListsAsMany octets (lists_at a.store t)) where
-  all_tied : AreTied (holds_too t (told_shape t octets) (alone_plan a)) (with_packet t octets a.store)
-  all_tied = tied_too (alone_plan a) a.store t octets (told_shape t octets) tied fresh asked told refl lists
+module _ (a : MemberState) (t : Part) (octets : List ℕ) (tied : AreTied (member_plan a) a.store)
+    (fresh : holds (member_plan a) t ≡ false) (asked : is_asked (member_plan a) t ≡ true)
+    (reported : is_some (shape_in_summary t octets) ≡ (t.part == 0))
+    (lists : ListsAsMany octets (lists_at a.store t)) where
+  all_tied : AreTied (holds_too t (shape_in_summary t octets) (member_plan a)) (with_packet t octets a.store)
+  all_tied = tied_too (member_plan a) a.store t octets (shape_in_summary t octets) tied fresh asked reported refl lists
 
-  pub plan_gained : alone_plan (gains t octets a) ≡ uses_room (holds_too t (told_shape t octets) (alone_plan a))
+  pub plan_gained : member_plan (gains t octets a) ≡ uses_room (holds_too t (shape_in_summary t octets) (member_plan a))
   plan_gained =
-      let others = others_kept t (told_shape t octets) (alone_plan a) in
-      same_holdings (alone_plan (gains t octets a)) (uses_room (holds_too t (told_shape t octets) (alone_plan a)))
+      let others = others_kept t (shape_in_summary t octets) (member_plan a) in
+      same_holdings (member_plan (gains t octets a))
+      (uses_room (holds_too t (shape_in_summary t octets) (member_plan a)))
       (sym others.known) (sym all_tied.held) (sym all_tied.shapes) (sym others.claims) (sym others.hidden)
-      (sym others.attempts) (spare_gained (holds (alone_plan a) t)) where
+      (sym others.attempts) (spare_gained (holds (member_plan a) t)) where
         spare_gained : (b : Bool)
             → 0
-            ≡ (uses_room (cond b (alone_plan a) (record (alone_plan a) {
-              held = insert_key part_cmp t (alone_plan a).held;
-              shapes = with_shape (pair_of t) (told_shape t octets) (alone_plan a).shapes;
+            ≡ (uses_room (cond b (member_plan a) (record (member_plan a) {
+              held = insert_key part_cmp t (member_plan a).held;
+              shapes = with_shape (pair_of t) (shape_in_summary t octets) (member_plan a).shapes;
             }))).spare
         spare_gained true = refl
         spare_gained false = refl
 
-  pub tied_gained : AreTied (alone_plan (gains t octets a)) (with_packet t octets a.store)
+  pub tied_gained : AreTied (member_plan (gains t octets a)) (with_packet t octets a.store)
   tied_gained = record {
     in_order = all_tied.in_order;
     held = refl;
@@ -117,65 +119,66 @@ module _ (a : Alone) (t : Part) (octets : List ℕ) (tied : AreTied (alone_plan 
     indexed = all_tied.indexed;
   }
 
-  pub sound_gained : CanBeHeld (alone_plan a) t → PlanIsSound (alone_plan a)
-      → PlanIsSound (alone_plan (gains t octets a))
+  pub sound_gained : CanBeHeld (member_plan a) t → PlanIsSound (member_plan a)
+      → PlanIsSound (member_plan (gains t octets a))
   sound_gained can s =
-      let p = holds_too t (told_shape t octets) (alone_plan a) in
+      let p = holds_too t (shape_in_summary t octets) (member_plan a) in
       subst PlanIsSound (sym plan_gained)
       (sound_room (p.spare - 1) p
-      (sound_holds t (told_shape t octets) (alone_plan a) told (told_is_shape t octets) can s))
+      (sound_holds t (shape_in_summary t octets) (member_plan a) reported (reported_is_shape t octets) can s))
 
 -- ---- attempts
 
-pub sound_tried : (a : Alone) (t : Part) (n : ℕ) → PlanIsSound (alone_plan a)
-    → PlanIsSound (alone_plan (record a { attempts = with_tries t n a.attempts }))
-sound_tried a t n s = subst PlanIsSound (go (n == 0)) (sound_attempts t n (alone_plan a) s) where
+pub sound_tried : (a : MemberState) (t : Part) (n : ℕ) → PlanIsSound (member_plan a)
+    → PlanIsSound (member_plan (record a { attempts = with_tries t n a.attempts }))
+sound_tried a t n s = subst PlanIsSound (go (n == 0)) (sound_attempts t n (member_plan a) s) where
   more : List (Part × ℕ)
-  more = with_value part_cmp t (attempts_of (alone_plan a) t + n) a.attempts
+  more = with_value part_cmp t (attempts_of (member_plan a) t + n) a.attempts
 
   go : (b : Bool)
-      → cond b (alone_plan a) (record (alone_plan a) { attempts = more })
-      ≡ alone_plan (record a { attempts = cond b a.attempts more })
+      → cond b (member_plan a) (record (member_plan a) { attempts = more })
+      ≡ member_plan (record a { attempts = cond b a.attempts more })
   go true = refl
   go false = refl
 
 -- ---- the parts of a new publication
 
-first_told : (shape : Shape) (x : ℕ) → is_some (told_first shape x) ≡ (x == 0)
-first_told shape x = go (x == 0) where
+first_reported : (shape : Shape) (x : ℕ) → is_some (reported_first shape x) ≡ (x == 0)
+first_reported shape x = go (x == 0) where
   go : (b : Bool) → is_some (cond b (Some shape) None) ≡ b
   go true = refl
   go false = refl
 
 -- they leave a sound plan, of what is stored
-pub sound_puts : (start : PlanState) (pair : Pair) (told : Told) (l : Option Listed) → IsShape (shape_told told)
+pub sound_puts : (start : PlanState) (pair : Pair) (reported : RecordSummary) (l : Option Listed)
+    → IsShape (summary_shape reported)
     → IsNew start pair
-    → (x : ℕ) (made : List (List ℕ)) (a : Alone) → x + length made ≡ parts_behind (shape_told told) + 1
-    → AreToCome told l pair x made a.store → AreTied (alone_plan a) a.store
-    → HasGained start (alone_plan a) pair (shape_told told) x → PlanIsSound (alone_plan a)
-    → PlanIsSound (alone_plan (record a { store = with_packets (as_parts pair x made) a.store }))
-    × AreTied (alone_plan (record a { store = with_packets (as_parts pair x made) a.store }))
+    → (x : ℕ) (made : List (List ℕ)) (a : MemberState) → x + length made ≡ parts_after (summary_shape reported) + 1
+    → AreToCome reported l pair x made a.store → AreTied (member_plan a) a.store
+    → HasGained start (member_plan a) pair (summary_shape reported) x → PlanIsSound (member_plan a)
+    → PlanIsSound (member_plan (record a { store = with_packets (as_parts pair x made) a.store }))
+    × AreTied (member_plan (record a { store = with_packets (as_parts pair x made) a.store }))
     (with_packets (as_parts pair x made) a.store)
-sound_puts start pair told l sized new x [] a count come tied so_far s = (s, tied)
-sound_puts start pair told l sized new x (octets ∷ made) a count come tied so_far s =
-    let shape : Shape = shape_told told in
+sound_puts start pair reported l sized new x [] a count come tied so_far s = (s, tied)
+sound_puts start pair reported l sized new x (octets ∷ made) a count come tied so_far s =
+    let shape : Shape = summary_shape reported in
     let t = part_of pair x in
     let fresh = so_far.fresh x (omega arith) in
-    let shape_is : told_shape t octets ≡ told_first shape x =
-    sym (tells_shape told l pair x octets made a.store come (told_first shape x) refl) in
-    let tells : is_some (told_shape t octets) ≡ (t.part == 0) = ap is_some shape_is ∙ first_told shape x in
-    let lists : ListsAsMany octets (lists_at a.store t) = lists_many told l pair x octets made a.store come in
-    let asked : is_asked (alone_plan a) t ≡ true =
-    can_ask start (alone_plan a) pair shape x new so_far sized (omega (arith, count)) in
-    let can : CanBeHeld (alone_plan a) t = record {
+    let shape_is : shape_in_summary t octets ≡ reported_first shape x =
+    sym (reports_shape reported l pair x octets made a.store come (reported_first shape x) refl) in
+    let tells : is_some (shape_in_summary t octets) ≡ (t.part == 0) = ap is_some shape_is ∙ first_reported shape x in
+    let lists : ListsAsMany octets (lists_at a.store t) = lists_many reported l pair x octets made a.store come in
+    let asked : is_asked (member_plan a) t ≡ true =
+    can_ask start (member_plan a) pair shape x new so_far sized (omega (arith, count)) in
+    let can : CanBeHeld (member_plan a) t = record {
       asked = asked;
-      not_hidden = not_hidden start (alone_plan a) pair shape x new so_far;
-      not_claimed = not_claimed start (alone_plan a) pair shape x new so_far;
+      not_hidden = not_hidden start (member_plan a) pair shape x new so_far;
+      not_claimed = not_claimed start (member_plan a) pair shape x new so_far;
     } in
     let next = gains t octets a in
-    sound_puts start pair told l sized new (x + 1) made next (omega (arith, count))
-    (come_later told l pair x octets made a.store come next.store refl fresh)
+    sound_puts start pair reported l sized new (x + 1) made next (omega (arith, count))
+    (come_later reported l pair x octets made a.store come next.store refl fresh)
     (tied_gained a t octets tied fresh asked tells lists)
-    (gained_more start (alone_plan a) pair shape x new so_far (told_shape t octets) (alone_plan next) shape_is
+    (gained_more start (member_plan a) pair shape x new so_far (shape_in_summary t octets) (member_plan next) shape_is
     (plan_gained a t octets tied fresh asked tells lists))
     (sound_gained a t octets tied fresh asked tells lists can s)

@@ -13,12 +13,12 @@ use Rattle.std.proofs.lemmas.List.Folds.{list_any-append}
 use Rattle.std.proofs.lemmas.Option.{same_Some, slice_get_within, get_or_from_slice_get}
 use Rattle.repo_object.specs.Objects.{Post as Published, IsPost, offered, withdraws_number}
 use Rattle.repo_object.specs.Objects.Post.{Offers, Withdraws}
-use Rattle.repo_object.proofs.Places.{slice_get-front}
+use Rattle.repo_object.proofs.Places.{slice_get-prefix}
 use Rattle.ndn_packet.proofs.Ends.{slice_get-push}
 use Rattle.group_model.specs.Publications.{has_unwithdrawn, no_post}
 use Rattle.repo_member.specs.declared.post.Post.{Post}
 use Rattle.repo_member.specs.declared.post.Post.TheVariants.{Object, Withdrawal}
-use Rattle.repo_member.specs.Alone.{ArePosts}
+use Rattle.repo_member.specs.MemberState.{ArePosts}
 use Rattle.repo_member.specs.Posts.{post_of, posts_of, IsMarked, IsKeptLog, IsNew, marked, with_mark}
 
 -- ---- places of lists
@@ -93,7 +93,7 @@ posts_more log post =
 pub are_posts_more : (posts : List Published) (post : Published) → ArePosts posts → IsPost (length posts + 1) post
     → ArePosts (posts ++ post ∷ [])
 are_posts_more posts post are is i x h = elim (cases_lt i (length posts)) [
-  | inl inside ↦ are i x (sym (slice_get-front posts (post ∷ []) i inside) ∙ h)
+  | inl inside ↦ are i x (sym (slice_get-prefix posts (post ∷ []) i inside) ∙ h)
   | inr past ↦
       let within = slice_get_within (posts ++ post ∷ []) i x h in
       let e : i ≡ length posts = omega (arith, past, within, length_push posts post) in
@@ -101,7 +101,7 @@ are_posts_more posts post are is i x h = elim (cases_lt i (length posts)) [
       subst (λ (n : ℕ). IsPost (n + 1) x) (sym e) (subst (IsPost (length posts + 1)) same is)
 ]
 
--- nothing withdraws a number behind the log's
+-- nothing withdraws a number after the log's
 none_withdraws : (posts : List Published) (n : ℕ) → ArePosts posts → length posts < n
     → list_any (λ o. withdraws_number o n) posts ≡ false
 none_withdraws posts n are past = false_from_ne_true (list_any (λ o. withdraws_number o n) posts) (λ h.
@@ -182,7 +182,7 @@ kept_more log post kept new is = record {
   at i x h = elim (cases_lt i (length log)) [
     | inl inside ↦
         before_marked log post i x kept inside is
-        (sym (slice_get-front (marks post log) (post ∷ []) i (omega (arith, inside, marks_long post log))) ∙ h)
+        (sym (slice_get-prefix (marks post log) (post ∷ []) i (omega (arith, inside, marks_long post log))) ∙ h)
     | inr past ↦
         let within = slice_get_within (marks post log ++ post ∷ []) i x h in
         let e : i ≡ length log = omega (arith, past, within, length_push (marks post log) post, marks_long post log) in

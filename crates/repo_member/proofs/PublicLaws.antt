@@ -1,23 +1,30 @@
 -- The laws that crates above may cite: each is what its public function states. The changes that are missing here are
 -- the group's by computing.
 pub use Rattle.repo_member.proofs.ChangeLemmas.{begins_alike, publishes_alike, accepts_alike, takes_alike}
-pub use Rattle.repo_member.proofs.GroupPlans.{sound_stores_truly, plans_alike, wants_alike}
+pub use Rattle.repo_member.proofs.GroupPlans.{sound_stores_consistently, plans_alike, wants_alike}
 pub use Rattle.repo_member.proofs.GroupCatalogues.{lists_alike}
 pub use Rattle.repo_member.proofs.DeletionLemmas.{deletes_alike}
-pub use Rattle.repo_member.proofs.LastingPackets.{begins_truly, grows_truly, publishes_truly, accepts_truly}
-pub use Rattle.repo_member.proofs.LastingPackets.{takes_truly, stays_true, logs_begin, logs_grow}
-pub use Rattle.repo_member.proofs.TrueMembers.{true_is_alone, true_is_of, true_stores, stores_those, logs_those}
+pub use Rattle.repo_member.proofs.LastingPackets.{begins_consistently, grows_consistently, publishes_consistently}
+pub use Rattle.repo_member.proofs.LastingPackets.{accepts_consistently}
+pub use Rattle.repo_member.proofs.LastingPackets.{takes_consistently, stays_consistent, logs_begin, logs_grow}
+pub use Rattle.repo_member.proofs.ConsistentMembers.{consistent_is_member_state, consistent_is_of, consistent_stores}
+pub use Rattle.repo_member.proofs.ConsistentMembers.{stores_those, logs_those}
 pub use Rattle.repo_member.proofs.PassingPackets.{packets_are_there, packets_pass}
-pub use Rattle.repo_member.proofs.TrueHolders.{member_is_holder, holder_stores_truly, holder_stores_those}
-pub use Rattle.repo_member.proofs.TrueHolders.{holders_want_published, holders_want_truly, packets_pass_for_holders}
-pub use Rattle.repo_member.proofs.HolderTakes.{fetched_are_stored, holders_take_truly}
-pub use Rattle.repo_member.proofs.TrueMembers.{wants_published, wants_are_true, packets_pass_for_members}
-pub use Rattle.repo_member.proofs.TrueMembers.{accepts_the_claimed, takes_the_true}
-pub use Rattle.repo_member.proofs.TrueChanges.{begins_true, publishes_true, others_publish, logs_have_grown}
-pub use Rattle.repo_member.proofs.TrueChanges.{learns_true, hears_true, inserts_true, blocks_true, deletes_true}
-pub use Rattle.repo_member.proofs.TrueChanges.{obeys_true, fires_true, resets_true, restarts_true, ends_claims_true}
-pub use Rattle.repo_member.proofs.TrueChanges.{claims_true, loses_true, accepts_true, takes_true}
-pub use Rattle.repo_member.proofs.TrueSyncs.{keys_are_found, syncs_are_told, syncs_are_taken}
+pub use Rattle.repo_member.proofs.ConsistentHolders.{member_is_holder, holder_stores_consistently, holder_stores_those}
+pub use Rattle.repo_member.proofs.ConsistentHolders.{holders_want_published, holders_want_consistently}
+pub use Rattle.repo_member.proofs.ConsistentHolders.{packets_pass_for_holders}
+pub use Rattle.repo_member.proofs.HolderTakes.{fetched_are_stored, holders_take_consistently}
+pub use Rattle.repo_member.proofs.ConsistentMembers.{wants_published, wants_are_consistent, packets_pass_for_members}
+pub use Rattle.repo_member.proofs.ConsistentMembers.{accepts_the_claimed, takes_the_consistent}
+pub use Rattle.repo_member.proofs.ConsistentChanges.{begins_consistent, publishes_consistent, others_publish}
+pub use Rattle.repo_member.proofs.ConsistentChanges.{logs_have_grown}
+pub use Rattle.repo_member.proofs.ConsistentChanges.{learns_consistent, hears_consistent, inserts_consistent}
+pub use Rattle.repo_member.proofs.ConsistentChanges.{blocks_consistent, deletes_consistent}
+pub use Rattle.repo_member.proofs.ConsistentChanges.{obeys_consistent, fires_consistent, resets_consistent}
+pub use Rattle.repo_member.proofs.ConsistentChanges.{restarts_consistent, ends_claims_consistent}
+pub use Rattle.repo_member.proofs.ConsistentChanges.{claims_consistent, loses_consistent, accepts_consistent}
+pub use Rattle.repo_member.proofs.ConsistentChanges.{takes_consistent}
+pub use Rattle.repo_member.proofs.ConsistentSyncs.{keys_are_found, syncs_are_reported, syncs_are_taken}
 pub use Rattle.repo_member.proofs.EventLemmas.{publish_is_event, withdraw_is_event, deliver_is_event, hear_is_event}
 pub use Rattle.repo_member.proofs.EventLemmas.{fire_is_event}
 pub use Rattle.repo_member.proofs.EventLemmas.{restart_is_event, claim_is_event, lose_is_event, answer_is_event}

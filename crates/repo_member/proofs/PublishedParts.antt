@@ -18,14 +18,14 @@ use Rattle.repo_object.specs.Publication.{published_record, packets}
 use Rattle.repo_object.specs.Wants.{WantedPart}
 use Rattle.repo_object.specs.Verdict.{ring_verdict}
 use Rattle.ndn_packet.proofs.Ends.{slice_get-push}
-use Rattle.repo_holdings.specs.declared.told.Told.{Told}
-use Rattle.repo_holdings.specs.Gaining.{AreTied, told_of, shape_told}
+use Rattle.repo_holdings.specs.declared.record_summary.RecordSummary.{RecordSummary}
+use Rattle.repo_holdings.specs.Gaining.{AreTied, summary_of, summary_shape}
 use Rattle.repo_store.specs.StoreList.{with_packet}
 use Rattle.repo_holdings.specs.Records.{Packet}
 use Rattle.repo_member.specs.Groups.{GroupKeys, publisher_at}
-use Rattle.repo_member.specs.Alone.{Alone, alone_plan, next_seq, alone_publishes, logged}
+use Rattle.repo_member.specs.MemberState.{MemberState, member_plan, next_seq, member_publishes, logged}
 use Rattle.repo_holdings.specs.NewPublications.{as_parts, with_packets}
-use Rattle.repo_member.specs.Alone.{packet_in, want_of}
+use Rattle.repo_member.specs.MemberState.{packet_in, want_of}
 use Rattle.repo_holdings.specs.NewPublications.{IsNew}
 use Rattle.repo_holdings.proofs.GainingLemmas.{put_here, put_elsewhere}
 use Rattle.repo_holdings.proofs.PublishLemmas.{puts_aside, later_part, gained_none, first_listing, packets_sized}
@@ -71,7 +71,7 @@ puts_value pair x (octets ∷ made) stored none (suc k) =
             absurd (omega arith)
         go false p = refl
 
-module _ (g : GroupKeys) (post : Post) (moment draw : ℕ) (a : Alone) (is_post : IsPost (next_seq a) post)
+module _ (g : GroupKeys) (post : Post) (time draw : ℕ) (a : MemberState) (is_post : IsPost (next_seq a) post)
     (room : length a.log < 65535) (r : IsReached g a) where
   abbrev pair : Pair
   pair = (a.number, next_seq a)
@@ -82,8 +82,8 @@ module _ (g : GroupKeys) (post : Post) (moment draw : ℕ) (a : Alone) (is_post 
   abbrev made : List (List ℕ)
   made = packets by (next_seq a) post
 
-  abbrev says : Told
-  says = told_of (published_record by (next_seq a) post)
+  abbrev says : RecordSummary
+  says = summary_of (published_record by (next_seq a) post)
 
   abbrev after : List Packet
   after = with_packets (as_parts pair 0 made) a.store
@@ -97,28 +97,31 @@ module _ (g : GroupKeys) (post : Post) (moment draw : ℕ) (a : Alone) (is_post 
   long = length-set a.known a.number (next_seq a)
 
   at_own : slice_index known a.number ≡ next_seq a
-  at_own = get_or-set_same a.known a.number (next_seq a) 0 r.alone.member
+  at_own = get_or-set_same a.known a.number (next_seq a) 0 r.member_state.member
 
   more : (q : ℕ) → slice_index a.known q ≤ slice_index known q
   more q = elim (cases_eq q a.number) [
-    | inl here ↦ omega (arith, ap (slice_index a.known) here, ap (slice_index known) here, at_own, r.alone.own)
+    | inl here ↦ omega (arith, ap (slice_index a.known) here, ap (slice_index known) here, at_own, r.member_state.own)
     | inr other ↦ omega (arith, get_or-set_other a.known a.number q (next_seq a) 0 other)
   ]
 
-  abbrev told : Alone
-  told = record a { known = known }
+  abbrev reported : MemberState
+  reported = record a { known = known }
 
-  told_sound : PlanIsSound (alone_plan told)
-  told_sound = sound_known (alone_plan a) known (omega (arith, long, r.group.members.roster.few, r.of)) more r.sound
+  reported_sound : PlanIsSound (member_plan reported)
+  reported_sound = sound_known (member_plan a) known (omega (arith, long, r.group.members.roster.few, r.of)) more
+      r.sound
 
-  new : IsNew (alone_plan told) pair
+  new : IsNew (member_plan reported) pair
   new =
-      let greater : max (slice_index a.known a.number) (length a.log + 1) ≡ next_seq a = omega (arith, r.alone.own) in
-      subst (λ (n : ℕ). IsNew (alone_plan (record a { known = slice_set a.known a.number n })) pair) greater
-      (next_to_last (alone_plan a) a.number (length a.log) r.sound r.alone.member r.alone.own (r.alone.hidden pair))
+      let greater : max (slice_index a.known a.number) (length a.log + 1)
+      ≡ next_seq a = omega (arith, r.member_state.own) in
+      subst (λ (n : ℕ). IsNew (member_plan (record a { known = slice_set a.known a.number n })) pair) greater
+      (next_to_last (member_plan a) a.number (length a.log) r.sound r.member_state.member r.member_state.own
+      (r.member_state.hidden pair))
 
-  told_tied : AreTied (alone_plan told) a.store
-  told_tied = record {
+  reported_tied : AreTied (member_plan reported) a.store
+  reported_tied = record {
     in_order = r.tied.in_order;
     held = refl;
     shapes = refl;
@@ -126,15 +129,15 @@ module _ (g : GroupKeys) (post : Post) (moment draw : ℕ) (a : Alone) (is_post 
     indexed = r.tied.indexed;
   }
 
-  all_sound : PlanIsSound (alone_plan (record told { store = after }))
-      × AreTied (alone_plan (record told { store = after })) after
+  all_sound : PlanIsSound (member_plan (record reported { store = after }))
+      × AreTied (member_plan (record reported { store = after })) after
   all_sound =
       let are =
-      packets_are by (next_seq a) (is_publisher g a.number r.group (omega (arith, r.alone.member, r.of)))
+      packets_are by (next_seq a) (is_publisher g a.number r.group (omega (arith, r.member_state.member, r.of)))
       (omega (arith, room)) post is_post says refl made refl in
-      sound_puts (alone_plan told) pair says (first_listing made) (packets_sized says made are) new 0 made told
-      (omega (arith, count_packets says made are)) (all_to_come says pair made a.store are) told_tied
-      (gained_none (alone_plan told) pair (shape_told says) new) told_sound
+      sound_puts (member_plan reported) pair says (first_listing made) (packets_sized says made are) new 0 made reported
+      (omega (arith, count_packets says made are)) (all_to_come says pair made a.store are) reported_tied
+      (gained_none (member_plan reported) pair (summary_shape says) new) reported_sound
 
   -- ---- what is stored
 
@@ -154,7 +157,7 @@ module _ (g : GroupKeys) (post : Post) (moment draw : ℕ) (a : Alone) (is_post 
     go true p = absurd (away (ap (λ (t : Part). t.seq) (eq_same exact_parts q (part_of pair y) p)))
     go false p = refl
 
-  logged_before : (q : Part) → q.seq ≢ next_seq a → logged g a q ≡ logged g (alone_publishes g post moment draw a) q
+  logged_before : (q : Part) → q.seq ≢ next_seq a → logged g a q ≡ logged g (member_publishes g post time draw a) q
   logged_before q other = go (q.publisher == a.number) (q.seq == 0) refl where
     go : (b c : Bool) → (q.seq == 0) ≡ c
         → cond b (cond c None (option_and_then (packet_in by q) (slice_get a.log (q.seq - 1)))) None
@@ -167,8 +170,8 @@ module _ (g : GroupKeys) (post : Post) (moment draw : ℕ) (a : Alone) (is_post 
           above : q.seq - 1 ≡ length a.log → (q.seq ≡ 0 → ⊥) → q.seq ≡ next_seq a
           above e ne = elim (cases_eq q.seq 0) [ inl z ↦ absurd (ne z) | inr n ↦ omega (arith, e, n) ]
 
-  own_parts : (q : Part) → q.publisher ≡ a.number → hides (alone_plan a) (pair_of q) ≡ false
-      → value_of part_cmp after q ≡ logged g (alone_publishes g post moment draw a) q
+  own_parts : (q : Part) → q.publisher ≡ a.number → hides (member_plan a) (pair_of q) ≡ false
+      → value_of part_cmp after q ≡ logged g (member_publishes g post time draw a) q
   own_parts q own shown = elim (cases_eq q.seq (next_seq a)) [
     | inl same ↦
         let is : q ≡ part_of pair q.part = λ i. record { publisher = own i; seq = same i; part = q.part } in
@@ -177,7 +180,7 @@ module _ (g : GroupKeys) (post : Post) (moment draw : ℕ) (a : Alone) (is_post 
         ap (value_of part_cmp after) (is ∙ ap (part_of pair) from_first)
         ∙ puts_value pair 0 made a.store (λ y h. new.not_held y) q.part
         ∙ ap (λ (n : ℕ). slice_get (packets by n post) q.part) (sym same)
-        ∙ sym (logged_own g (alone_publishes g post moment draw a) q post own (omega (arith, same))
+        ∙ sym (logged_own g (member_publishes g post time draw a) q post own (omega (arith, same))
         (ap (slice_get (a.log ++ post ∷ [])) last ∙ slice_get-push a.log post))
     | inr other ↦ aside q (of_another q other) ∙ r.own q own shown ∙ logged_before q other
   ]
@@ -187,15 +190,15 @@ module _ (g : GroupKeys) (post : Post) (moment draw : ℕ) (a : Alone) (is_post 
       want_same g after a.store q
       (λ x. sym (aside (part_of (pair_of q) x) (of_others (part_of (pair_of q) x) away)))
 
-  pub reached_publishes : IsReached g (alone_publishes g post moment draw a)
+  pub reached_publishes : IsReached g (member_publishes g post time draw a)
   reached_publishes = record {
     group = r.group;
-    alone = record {
-      member = omega (arith, long, r.alone.member);
+    member_state = record {
+      member = omega (arith, long, r.member_state.member);
       own = at_own ∙ sym (length_push a.log post);
-      width = r.alone.width ∙ sym long;
-      in_order = rises_puts (as_parts pair 0 made) a.store r.alone.in_order;
-      hidden = λ p h. knows_more (alone_plan a) (alone_plan told) p more (r.alone.hidden p h);
+      width = r.member_state.width ∙ sym long;
+      in_order = rises_puts (as_parts pair 0 made) a.store r.member_state.in_order;
+      hidden = λ p h. knows_more (member_plan a) (member_plan reported) p more (r.member_state.hidden p h);
     };
     of = r.of ∙ sym long;
     sound = all_sound.0;

@@ -10,7 +10,7 @@ use Rattle.std.proofs.lemmas.Bool.{eqb-true, ne_eqb, lt-leb}
 use Rattle.std.proofs.lemmas.Option.{slice_get-map}
 use Rattle.sha2.specs.Sha256.{sha256}
 use Rattle.repo_plan.specs.declared.part.Part.{Part}
-use Rattle.repo_plan.specs.Parts.{IsShape, pair_of, part_of, parts_behind, parent, parent_number, index_packets}
+use Rattle.repo_plan.specs.Parts.{IsShape, pair_of, part_of, parts_after, parent, parent_number, index_packets}
 use Rattle.repo_plan.specs.Parts.{shape_of_segments}
 use Rattle.repo_plan.proofs.Parents.{lists_in_turn}
 use Rattle.repo_object.specs.Objects.{NamedContents, Post, IsObject, IsPost, Publisher}
@@ -27,9 +27,9 @@ use Rattle.repo_holdings.specs.Listed.{stored_at}
 use Rattle.repo_holdings.specs.StoredParents.{index_at, digests_at, place_listed}
 use Rattle.repo_holdings.proofs.GainingLemmas.{contains-value}
 use Rattle.repo_member.specs.Groups.{GroupKeys, publisher_at}
-use Rattle.repo_member.specs.Alone.{Alone}
-use Rattle.repo_member.specs.InGroup.{in_group, AreLogs, StoresTruly}
-use Rattle.repo_member.proofs.TruePackets.{is_there, published_post, published_by, published_low}
+use Rattle.repo_member.specs.MemberState.{MemberState}
+use Rattle.repo_member.specs.InGroup.{in_group, AreLogs, StoresConsistently}
+use Rattle.repo_member.proofs.ConsistentPackets.{is_there, published_post, published_by, published_low}
 
 -- ---- places of lists
 
@@ -47,10 +47,11 @@ at_take (suc n) (x ∷ xs) (suc i) h = at_take n xs i (omega (arith, h))
 
 -- ---- a segment
 
-module _ (g : GroupKeys) (logs : Logs) (a : Alone) (are : AreLogs g logs) (truly : StoresTruly g logs a) (t : Part)
+module _ (g : GroupKeys) (logs : Logs) (a : MemberState) (are : AreLogs g logs)
+    (consistent : StoresConsistently g logs a) (t : Part)
     (there : IsPublished logs (pair_of t)) (object : NamedContents) (is : post_at logs (pair_of t) ≡ Offers object)
     (above : index_packets (length object.contents) < t.part)
-    (counted : t.part ≤ parts_behind (shape_of_segments (length object.contents)))
+    (counted : t.part ≤ parts_after (shape_of_segments (length object.contents)))
     (held : member_holds (in_group a) (parent (shape_of_segments (length object.contents)) t) ≡ true)
     (octets : List ℕ)
     (its : packet_at (publisher_at g t.publisher) t.seq (Offers object) t.part ≡ Some octets) where
@@ -133,7 +134,7 @@ module _ (g : GroupKeys) (logs : Logs) (a : Alone) (are : AreLogs g logs) (truly
         (published_low g logs are (pair_of t) there) (omega (arith, some, within))
         (ap (packet_at by t.seq (Offers object)) next
         ∙ ap (λ (post : Post). packet_at by t.seq post k) (sym is)
-        ∙ truly.packets (part_of (pair_of t) k) index.0 index.1)
+        ∙ consistent.packets (part_of (pair_of t) k) index.0 index.1)
 
     in_index : slice_get (digests_at a.store (pair_of t) lists k) (place_listed (shape_of_segments n) t.part)
         ≡ Some (sha256 octets)

@@ -16,11 +16,11 @@ use Rattle.repo_process.specs.Processes.{Process, starting, has_block, is_whole}
 use Rattle.repo_process.specs.Insertions.{Insertions, starts, with_process}
 use Rattle.group_model.proofs.Lists.{at_in}
 use Rattle.repo_member.specs.declared.member.Member.TheInside.{Inside}
-use Rattle.repo_member.specs.Alone.{alone_plan}
+use Rattle.repo_member.specs.MemberState.{member_plan}
 use Rattle.repo_holdings.specs.HoldingsState.{HoldingsState, AreInOrder}
 use Rattle.repo_holdings.specs.Hiding.{with_hidden, hides_all}
 use Rattle.repo_member.specs.Posts.{posts_of, IsKeptLog}
-use Rattle.repo_member.specs.Members.{alone, AreWaiting, IsMember}
+use Rattle.repo_member.specs.Members.{member_state, AreWaiting, IsMember}
 
 -- ---- insertion processes
 
@@ -52,12 +52,12 @@ waiting_starts insertions name first last order are =
 pub with_processes : (m : Inside) (processes : Insertions) → IsMember m → AreWaiting processes.processes
     → IsMember (record m { processes = processes })
 with_processes m processes is waiting = record {
-  alone = record {
-    member = is.alone.member;
-    own = is.alone.own;
-    width = is.alone.width;
-    in_order = is.alone.in_order;
-    hidden = is.alone.hidden;
+  member_state = record {
+    member = is.member_state.member;
+    own = is.member_state.own;
+    width = is.member_state.width;
+    in_order = is.member_state.in_order;
+    hidden = is.member_state.hidden;
   };
   known = is.known;
   log = is.log;
@@ -88,19 +88,19 @@ all_in P pairs q all i =
 pub hidden_is : (m next : Inside) (pairs : List Pair) → IsMember m → next.number ≡ m.number
     → next.log.items ≡ m.log.items → next.vector ≡ m.vector → next.machine ≡ m.machine → next.processes ≡ m.processes
     → next.held ≡ hides_all pairs m.held → AreInOrder next.held
-    → All (λ pair. knows (alone_plan (alone m)) pair ≡ true) pairs → IsMember next
+    → All (λ pair. knows (member_plan (member_state m)) pair ≡ true) pairs → IsMember next
 hidden_is m next pairs is number log vector machine processes hiding in_order each = record {
-  alone = record {
-    member = omega (arith, number, ap (λ (v : List ℕ). length v) vector, is.alone.member);
+  member_state = record {
+    member = omega (arith, number, ap (λ (v : List ℕ). length v) vector, is.member_state.member);
     own =
         ap (λ (v : List ℕ). get_or v next.number 0) vector
         ∙ ap (λ (n : ℕ). get_or m.vector n 0) number
-        ∙ is.alone.own
+        ∙ is.member_state.own
         ∙ sym (ap (λ l. length (posts_of l)) log);
-    width = ap (λ k. k.members) machine ∙ is.alone.width ∙ sym (ap (λ (v : List ℕ). length v) vector);
+    width = ap (λ k. k.members) machine ∙ is.member_state.width ∙ sym (ap (λ (v : List ℕ). length v) vector);
     in_order = in_order;
     hidden =
-        λ q h. ap (λ (v : List ℕ). knows (record (alone_plan (alone m)) { known = v }) q) vector
+        λ q h. ap (λ (v : List ℕ). knows (record (member_plan (member_state m)) { known = v }) q) vector
         ∙ at q (hidden_cases pairs m.held.hidden q
         (ap (λ (x : HoldingsState). contains pair_cmp x.hidden q) (sym hiding) ∙ h));
   };
@@ -108,6 +108,7 @@ hidden_is m next pairs is number log vector machine processes hiding in_order ea
   log = subst IsKeptLog (sym log) is.log;
   waiting = subst (λ (i : Insertions). AreWaiting i.processes) (sym processes) is.waiting;
 } where
-  at : (q : Pair) → ((In q pairs) ⊎ (contains pair_cmp m.held.hidden q ≡ true)) → knows (alone_plan (alone m)) q ≡ true
-  at q (inl i) = all_in (λ (pair : Pair). knows (alone_plan (alone m)) pair ≡ true) pairs q each i
-  at q (inr before) = is.alone.hidden q before
+  at : (q : Pair) → ((In q pairs) ⊎ (contains pair_cmp m.held.hidden q ≡ true)) → knows (member_plan (member_state m)) q
+      ≡ true
+  at q (inl i) = all_in (λ (pair : Pair). knows (member_plan (member_state m)) pair ≡ true) pairs q each i
+  at q (inr before) = is.member_state.hidden q before

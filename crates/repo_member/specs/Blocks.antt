@@ -11,7 +11,7 @@ use Rattle.repo_process.specs.Insertions.{with_process}
 use Rattle.repo_member.specs.declared.member.block.Blocked.{Blocked}
 use Rattle.repo_member.specs.declared.member.block.Blocked.TheVariants as blocked
 use Rattle.repo_member.specs.Groups.{GroupKeys}
-use Rattle.repo_member.specs.Alone.{Alone, publication_limit, next_seq, alone_publishes}
+use Rattle.repo_member.specs.MemberState.{MemberState, publication_limit, next_seq, member_publishes}
 use Rattle.repo_member.specs.Verdicts.{sync_of}
 
 -- ---- what every insertion process keeps
@@ -29,38 +29,38 @@ AreWithinLimits processes = (number : ℕ) (p : Process) → value_of nat_cmp pr
 -- ---- a block
 
 -- what a block comes to
-abbrev pub alone_block : Alone → (process index : ℕ) → List ℕ → BlockState
-alone_block a process index content = block_state a.insertions.processes process index content
+abbrev pub member_block : MemberState → (process index : ℕ) → List ℕ → BlockState
+member_block a process index content = block_state a.insertions.processes process index content
 
-abbrev pub alone_keeps : ℕ → Process → Alone → Alone
-alone_keeps number p a = record a { insertions = with_process number p a.insertions }
+abbrev pub member_keeps : ℕ → Process → MemberState → MemberState
+member_keeps number p a = record a { insertions = with_process number p a.insertions }
 
 -- A block that completes an object publishes it. Where numbers are spent it isn't taken.
-abbrev pub alone_publishes_whole : GroupKeys → (number moment draw : ℕ) → Process → Alone → Alone
-alone_publishes_whole g number moment draw p a =
+abbrev pub member_publishes_whole : GroupKeys → (number time draw : ℕ) → Process → MemberState → MemberState
+member_publishes_whole g number time draw p a =
     if nat_lt (length a.log) publication_limit
-    then alone_publishes g (Offers (object_of p)) moment draw (alone_keeps number (closed p) a) else a
+    then member_publishes g (Offers (object_of p)) time draw (member_keeps number (closed p) a) else a
 
-abbrev pub after_block : GroupKeys → (number moment draw : ℕ) → Alone → BlockState → Alone
-after_block g number moment draw a Unknown = a
-after_block g number moment draw a Already = a
-after_block g number moment draw a (Waiting p) = alone_keeps number p a
-after_block g number moment draw a (Whole p) = alone_publishes_whole g number moment draw p a
+abbrev pub after_block : GroupKeys → (number time draw : ℕ) → MemberState → BlockState → MemberState
+after_block g number time draw a Unknown = a
+after_block g number time draw a Already = a
+after_block g number time draw a (Waiting p) = member_keeps number p a
+after_block g number time draw a (Whole p) = member_publishes_whole g number time draw p a
 
-abbrev pub alone_blocks : GroupKeys → (process index : ℕ) → List ℕ → (moment draw : ℕ) → Alone → Alone
-alone_blocks g process index content moment draw a =
-    after_block g process moment draw a (alone_block a process index content)
+abbrev pub member_blocks : GroupKeys → (process index : ℕ) → List ℕ → (time draw : ℕ) → MemberState → MemberState
+member_blocks g process index content time draw a =
+    after_block g process time draw a (member_block a process index content)
 
 -- What a block completes is an object.
 abbrev pub CompletesAnObject : BlockState → Type 0
 CompletesAnObject (Whole p) = IsObject (object_of p)
 CompletesAnObject _ = Unit {0}
 
--- What is told of a block is what it comes to.
-abbrev pub TellsBlock : GroupKeys → (old new : Alone) → BlockState → Blocked → Type 0
-TellsBlock g old new Unknown blocked.Unknown = Unit {0}
-TellsBlock g old new Already blocked.Already = Unit {0}
-TellsBlock g old new (Waiting p) blocked.Waiting = Unit {0}
-TellsBlock g old new (Whole p) (blocked.Published published) =
+-- What is reported of a block is what it comes to.
+abbrev pub ReportsBlock : GroupKeys → (old new : MemberState) → BlockState → Blocked → Type 0
+ReportsBlock g old new Unknown blocked.Unknown = Unit {0}
+ReportsBlock g old new Already blocked.Already = Unit {0}
+ReportsBlock g old new (Waiting p) blocked.Waiting = Unit {0}
+ReportsBlock g old new (Whole p) (blocked.Published published) =
     (published.seq ≡ next_seq old) × (published.sync.items ≡ sync_of g old.number new.known)
-TellsBlock g old new _ _ = ⊥
+ReportsBlock g old new _ _ = ⊥

@@ -23,15 +23,17 @@ use Rattle.repo_holdings.specs.Taking.{with_what_came}
 use Rattle.repo_member.specs.declared.refusals.HearRefusal.{HearRefusal}
 use Rattle.repo_member.specs.declared.refusals.AcceptRefusal.{AcceptRefusal}
 use Rattle.repo_member.specs.Groups.{GroupKeys, IsGroup}
-use Rattle.repo_member.specs.Alone.{Alone, IsAlone, publication_limit, alone_plan, alone_opening, alone_publishes}
-use Rattle.repo_member.specs.Alone.{logged, alone_learns, alone_hears, alone_fires, alone_claims, want_of}
-use Rattle.repo_member.specs.Alone.{alone_accepts, alone_takes, alone_ends_claims, alone_resets, alone_restarts}
+use Rattle.repo_member.specs.MemberState.{MemberState, IsMemberState, publication_limit, member_plan, member_opening}
+use Rattle.repo_member.specs.MemberState.{member_publishes}
+use Rattle.repo_member.specs.MemberState.{logged, member_learns, member_hears, member_fires, member_claims, want_of}
+use Rattle.repo_member.specs.MemberState.{member_accepts, member_takes, member_ends_claims, member_resets}
+use Rattle.repo_member.specs.MemberState.{member_restarts}
 use Rattle.repo_member.specs.Verdicts.{hear_verdict, vector_verdict, accept_verdict}
 use Rattle.repo_member.specs.Outcomes.{outcome_of, IsOutcome, IsCheckedFor}
-use Rattle.repo_member.specs.Commanded.{coded, order_of, alone_after_order}
-use Rattle.repo_member.specs.Blocks.{alone_blocks}
+use Rattle.repo_member.specs.Commanded.{coded, order_of, member_after_order}
+use Rattle.repo_member.specs.Blocks.{member_blocks}
 
--- A public call of a member that isn't of a look alone, with what it is given: octets, vectors, fetchers, moments and
+-- A public call of a member that isn't of a look alone, with what it is given: octets, vectors, fetchers, times and
 -- draws. One that is out of memory changes nothing, so it is in no list.
 pub data MemberCall : Type 0 where
   Publish : NamedContents → ℕ → ℕ → MemberCall
@@ -57,98 +59,98 @@ pub data MemberCall : Type 0 where
 
 -- ---- what a call makes of a member: nothing, where it is refused
 
--- What is told is learnt, and the machine hears it.
-abbrev pub if_heard : ℕ → ℕ → Alone → Result (List ℕ) HearRefusal → Alone
-if_heard moment draw a (Ok told) = alone_hears told moment draw a
-if_heard moment draw a (Err refusal) = a
+-- What is reported is learnt, and the machine hears it.
+abbrev pub if_heard : ℕ → ℕ → MemberState → Result (List ℕ) HearRefusal → MemberState
+if_heard time draw a (Ok reported) = member_hears reported time draw a
+if_heard time draw a (Err refusal) = a
 
--- What is told is learnt.
-abbrev pub if_joined : Alone → Result (List ℕ) HearRefusal → Alone
-if_joined a (Ok told) = alone_learns told a
+-- What is reported is learnt.
+abbrev pub if_joined : MemberState → Result (List ℕ) HearRefusal → MemberState
+if_joined a (Ok reported) = member_learns reported a
 if_joined a (Err refusal) = a
 
 -- A fetcher that claims nothing claims the first part that is wanted and that nobody claims, if there is one.
-abbrev pub if_claimed : ℕ → Alone → Option Part → Alone
-if_claimed f a None = alone_claims f (first (unclaimed (alone_plan a))) a
+abbrev pub if_claimed : ℕ → MemberState → Option Part → MemberState
+if_claimed f a None = member_claims f (first (unclaimed (member_plan a))) a
 if_claimed f a (Some t) = a
 
 -- The claim of a fetcher that has one ends.
-abbrev pub if_lost : ℕ → Alone → Option Part → Alone
+abbrev pub if_lost : ℕ → MemberState → Option Part → MemberState
 if_lost f a None = a
-if_lost f a (Some t) = alone_claims f None a
+if_lost f a (Some t) = member_claims f None a
 
 -- A fetcher's part is held where the octets pass for it.
-abbrev pub if_accepted : ℕ → List ℕ → Alone → Result Part AcceptRefusal → Alone
-if_accepted f octets a (Ok t) = alone_accepts f t octets a
+abbrev pub if_accepted : ℕ → List ℕ → MemberState → Result Part AcceptRefusal → MemberState
+if_accepted f octets a (Ok t) = member_accepts f t octets a
 if_accepted f octets a (Err refusal) = a
 
 -- A fetcher's part is held from now on with these octets, if it claims one.
-abbrev pub if_claimed_held : ℕ → List ℕ → Alone → Option Part → Alone
+abbrev pub if_claimed_held : ℕ → List ℕ → MemberState → Option Part → MemberState
 if_claimed_held f octets a None = a
-if_claimed_held f octets a (Some t) = alone_accepts f t octets a
+if_claimed_held f octets a (Some t) = member_accepts f t octets a
 
 -- What is published, where there is a number for it.
-abbrev pub if_numbers : GroupKeys → Post → ℕ → ℕ → Alone → Alone
-if_numbers g post moment draw a =
-    if nat_lt (length a.log) publication_limit then alone_publishes g post moment draw a else a
+abbrev pub if_numbers : GroupKeys → Post → ℕ → ℕ → MemberState → MemberState
+if_numbers g post time draw a =
+    if nat_lt (length a.log) publication_limit then member_publishes g post time draw a else a
 
 -- The member after a call.
-abbrev pub after_call : GroupKeys → MemberCall → Alone → Alone
-after_call g (Publish object moment draw) a = if_numbers g (Offers object) moment draw a
-after_call g (Withdraw seq moment draw) a =
-    if has_unwithdrawn a.log seq then if_numbers g (Withdraws seq) moment draw a else a
-after_call g (Hear octets moment draw) a = if_heard moment draw a (hear_verdict g a octets)
-after_call g (HearVector told moment draw) a = if_heard moment draw a (vector_verdict a told)
+abbrev pub after_call : GroupKeys → MemberCall → MemberState → MemberState
+after_call g (Publish object time draw) a = if_numbers g (Offers object) time draw a
+after_call g (Withdraw seq time draw) a =
+    if has_unwithdrawn a.log seq then if_numbers g (Withdraws seq) time draw a else a
+after_call g (Hear octets time draw) a = if_heard time draw a (hear_verdict g a octets)
+after_call g (HearVector reported time draw) a = if_heard time draw a (vector_verdict a reported)
 after_call g (JoinFrom octets) a = if_joined a (hear_verdict g a octets)
-after_call g (JoinVector told) a = if_joined a (vector_verdict a told)
-after_call g (Fire moment draw) a = alone_fires moment draw a
-after_call g (Claim f) a = if_claimed f a (claim_of (alone_plan a) f)
-after_call g (Lose f) a = if_lost f a (claim_of (alone_plan a) f)
+after_call g (JoinVector reported) a = if_joined a (vector_verdict a reported)
+after_call g (Fire time draw) a = member_fires time draw a
+after_call g (Claim f) a = if_claimed f a (claim_of (member_plan a) f)
+after_call g (Lose f) a = if_lost f a (claim_of (member_plan a) f)
 after_call g (Accept f octets) a = if_accepted f octets a (accept_verdict g a f octets)
-after_call g (AcceptChecked f checked) a = if_claimed_held f checked.octets a (claim_of (alone_plan a) f)
-after_call g (TakeOutcome jobs parts attempts) a = alone_takes (outcome_of jobs parts attempts) a
-after_call g (TakeDigested jobs parts attempts digests) a = alone_takes (outcome_of jobs parts attempts) a
-after_call g (Command octets) a = alone_after_order (order_of g a.number octets) a
-after_call g (CommandChecked octets verdict) a = alone_after_order (order_of g a.number octets) a
-after_call g (Block process index content moment draw) a = alone_blocks g process index content moment draw a
-after_call g EndClaims a = alone_ends_claims a
-after_call g (Reset moment draw) a = alone_resets moment draw a
-after_call g (Restart moment draw) a = alone_restarts moment draw a
+after_call g (AcceptChecked f checked) a = if_claimed_held f checked.octets a (claim_of (member_plan a) f)
+after_call g (TakeOutcome jobs parts attempts) a = member_takes (outcome_of jobs parts attempts) a
+after_call g (TakeDigested jobs parts attempts digests) a = member_takes (outcome_of jobs parts attempts) a
+after_call g (Command octets) a = member_after_order (order_of g a.number octets) a
+after_call g (CommandChecked octets verdict) a = member_after_order (order_of g a.number octets) a
+after_call g (Block process index content time draw) a = member_blocks g process index content time draw a
+after_call g EndClaims a = member_ends_claims a
+after_call g (Reset time draw) a = member_resets time draw a
+after_call g (Restart time draw) a = member_restarts time draw a
 after_call g OrderNames a = a
 
 -- The member after a list of calls.
-abbrev pub after_calls : GroupKeys → List MemberCall → Alone → Alone
+abbrev pub after_calls : GroupKeys → List MemberCall → MemberState → MemberState
 after_calls g [] a = a
 after_calls g (call ∷ calls) a = after_calls g calls (after_call g call a)
 
 -- ---- which calls can be made
 
--- A vector that a member can be told: it has a number for each member, and tells of no more publications of this one
+-- A vector that a member can be reported: it has a number for each member, and reports no more publications of this one
 -- than it made.
-pub record CanBeTold (a : Alone) (told : List ℕ) : Type 0 where
-  pub width : length told ≡ length a.known
-  pub own : slice_index told a.number ≤ length a.log
+pub record CanBeReported (a : MemberState) (reported : List ℕ) : Type 0 where
+  pub width : length reported ≡ length a.known
+  pub own : slice_index reported a.number ≤ length a.log
 
 -- What was checked for the want of the part that a fetcher claims, if it claims one.
-abbrev pub IsCheckedForClaim : GroupKeys → Alone → ℕ → CheckedPart → Type 0
+abbrev pub IsCheckedForClaim : GroupKeys → MemberState → ℕ → CheckedPart → Type 0
 IsCheckedForClaim g a f checked =
-    IfSome (claim_of (alone_plan a) f) (λ part. IsCheckedFor g (want_of g a.store part) checked) × IsChecked checked
+    IfSome (claim_of (member_plan a) f) (λ part. IsCheckedFor g (want_of g a.store part) checked) × IsChecked checked
 
 -- The outcome of a fetch that the member planned, of parts that were checked.
-abbrev pub IsCheckedOutcome : GroupKeys → Alone → List Job → List (Option CheckedPart) → List ℕ → Type 0
+abbrev pub IsCheckedOutcome : GroupKeys → MemberState → List Job → List (Option CheckedPart) → List ℕ → Type 0
 IsCheckedOutcome g a jobs parts attempts =
     IsOutcome g a jobs parts attempts × All (λ part. IfSome part IsChecked) parts
 
--- The conditions of a call, but for those that keep moments and draws small. A checked part passed its checks by its
+-- The conditions of a call, but for those that keep times and draws small. A checked part passed its checks by its
 -- type, and so is the name in a command a name.
-abbrev pub IsAllowedCall : GroupKeys → Alone → MemberCall → Type 0
-IsAllowedCall g a (Publish object moment draw) = IsObject object
-IsAllowedCall g a (Withdraw seq moment draw) = Unit {0}
-IsAllowedCall g a (Hear octets moment draw) = Unit {0}
-IsAllowedCall g a (HearVector told moment draw) = CanBeTold a told
+abbrev pub IsAllowedCall : GroupKeys → MemberState → MemberCall → Type 0
+IsAllowedCall g a (Publish object time draw) = IsObject object
+IsAllowedCall g a (Withdraw seq time draw) = Unit {0}
+IsAllowedCall g a (Hear octets time draw) = Unit {0}
+IsAllowedCall g a (HearVector reported time draw) = CanBeReported a reported
 IsAllowedCall g a (JoinFrom octets) = Unit {0}
-IsAllowedCall g a (JoinVector told) = CanBeTold a told
-IsAllowedCall g a (Fire moment draw) = Unit {0}
+IsAllowedCall g a (JoinVector reported) = CanBeReported a reported
+IsAllowedCall g a (Fire time draw) = Unit {0}
 IsAllowedCall g a (Claim f) = IsFetcher f
 IsAllowedCall g a (Lose f) = IsFetcher f
 IsAllowedCall g a (Accept f octets) = IsFetcher f
@@ -159,105 +161,106 @@ IsAllowedCall g a (TakeDigested jobs parts attempts digests) =
 IsAllowedCall g a (Command octets) = IfOk (order_of g a.number octets) (λ order. CommandIsSpelled order.1)
 IsAllowedCall g a (CommandChecked octets verdict) =
     (coded verdict ≡ order_of g a.number octets) × IfOk verdict (λ order. CommandIsSpelled order.1)
-IsAllowedCall g a (Block process index content moment draw) = IsContent content
+IsAllowedCall g a (Block process index content time draw) = IsContent content
 IsAllowedCall g a EndClaims = Unit {0}
-IsAllowedCall g a (Reset moment draw) = Unit {0}
-IsAllowedCall g a (Restart moment draw) = Unit {0}
+IsAllowedCall g a (Reset time draw) = Unit {0}
+IsAllowedCall g a (Restart time draw) = Unit {0}
 IsAllowedCall g a OrderNames = Unit {0}
 
 -- Each call's conditions hold when its turn comes.
-abbrev pub AreAllowedCalls : GroupKeys → Alone → List MemberCall → Type 0
+abbrev pub AreAllowedCalls : GroupKeys → MemberState → List MemberCall → Type 0
 AreAllowedCalls g a [] = Unit {0}
 AreAllowedCalls g a (call ∷ calls) = IsAllowedCall g a call × AreAllowedCalls g (after_call g call a) calls
 
 -- It holds of every member of a group, from its beginning on and after any calls.
-abbrev pub InEveryMember : (GroupKeys → Alone → Type 0) → Type 0
-InEveryMember P = (g : GroupKeys) (number moment draw : ℕ) (calls : List MemberCall)
+abbrev pub InEveryMember : (GroupKeys → MemberState → Type 0) → Type 0
+InEveryMember P = (g : GroupKeys) (number time draw : ℕ) (calls : List MemberCall)
     → IsGroup g → number < length g.members.names →
-    let begun = alone_opening (length g.members.names) number moment draw in
+    let begun = member_opening (length g.members.names) number time draw in
     AreAllowedCalls g begun calls → P g (after_calls g calls begun)
 
 -- ---- what is published
 
--- A log has the earlier one as its front, and so is no shorter.
+-- A log has the earlier one as its prefix, and so is no shorter.
 pub record GoesOn (earlier log : List Post) : Type 0 where
-  pub front : take (length earlier) log ≡ earlier
+  pub prefix : take (length earlier) log ≡ earlier
   pub longer : length earlier ≤ length log
 
 abbrev pub LogsGoOn : Type 0
-LogsGoOn = (g : GroupKeys) (calls : List MemberCall) (a : Alone) → GoesOn a.log (after_calls g calls a).log
+LogsGoOn = (g : GroupKeys) (calls : List MemberCall) (a : MemberState) → GoesOn a.log (after_calls g calls a).log
 
 -- The object that is published after `n` publications has the number `n + 1`, and stands at place `n` from then on.
 abbrev pub PublicationsStay : Type 0
-PublicationsStay = (g : GroupKeys) (object : NamedContents) (moment draw : ℕ) (calls : List MemberCall) (a : Alone)
+PublicationsStay = (g : GroupKeys) (object : NamedContents) (time draw : ℕ) (calls : List MemberCall) (a : MemberState)
     → length a.log < publication_limit
-    → slice_get (after_calls g (Publish object moment draw ∷ calls) a).log (length a.log) ≡ Some (Offers object)
+    → slice_get (after_calls g (Publish object time draw ∷ calls) a).log (length a.log) ≡ Some (Offers object)
 
 -- So does the withdrawal of an object that was not withdrawn.
 abbrev pub WithdrawalsStay : Type 0
-WithdrawalsStay = (g : GroupKeys) (seq moment draw : ℕ) (calls : List MemberCall) (a : Alone)
+WithdrawalsStay = (g : GroupKeys) (seq time draw : ℕ) (calls : List MemberCall) (a : MemberState)
     → has_unwithdrawn a.log seq ≡ true → length a.log < publication_limit
-    → slice_get (after_calls g (Withdraw seq moment draw ∷ calls) a).log (length a.log) ≡ Some (Withdraws seq)
+    → slice_get (after_calls g (Withdraw seq time draw ∷ calls) a).log (length a.log) ≡ Some (Withdraws seq)
 
 -- The packet of a part that was published stays what it is.
 abbrev pub LoggedPacketsStay : Type 0
-LoggedPacketsStay = (g : GroupKeys) (calls : List MemberCall) (a : Alone) (t : Part) (octets : List ℕ)
+LoggedPacketsStay = (g : GroupKeys) (calls : List MemberCall) (a : MemberState) (t : Part) (octets : List ℕ)
     → logged g a t ≡ Some octets → logged g (after_calls g calls a) t ≡ Some octets
 
 -- ---- what is known
 
 abbrev pub NumbersNeverFall : Type 0
-NumbersNeverFall = (g : GroupKeys) (calls : List MemberCall) (a : Alone) (p : ℕ) → IsAlone a
+NumbersNeverFall = (g : GroupKeys) (calls : List MemberCall) (a : MemberState) (p : ℕ) → IsMemberState a
     → slice_index a.known p ≤ slice_index (after_calls g calls a).known p
 
--- The vector that a call told the member, if it took one.
+-- The vector that a call reported the member, if it took one.
 abbrev pub vector_taken : Result (List ℕ) HearRefusal → List (List ℕ)
-vector_taken (Ok told) = told ∷ []
+vector_taken (Ok reported) = reported ∷ []
 vector_taken (Err refusal) = []
 
-abbrev pub vector_of_call : GroupKeys → Alone → MemberCall → List (List ℕ)
-vector_of_call g a (Hear octets moment draw) = vector_taken (hear_verdict g a octets)
-vector_of_call g a (HearVector told moment draw) = vector_taken (vector_verdict a told)
+abbrev pub vector_of_call : GroupKeys → MemberState → MemberCall → List (List ℕ)
+vector_of_call g a (Hear octets time draw) = vector_taken (hear_verdict g a octets)
+vector_of_call g a (HearVector reported time draw) = vector_taken (vector_verdict a reported)
 vector_of_call g a (JoinFrom octets) = vector_taken (hear_verdict g a octets)
-vector_of_call g a (JoinVector told) = vector_taken (vector_verdict a told)
+vector_of_call g a (JoinVector reported) = vector_taken (vector_verdict a reported)
 vector_of_call g a _ = []
 
--- The vectors that calls told it, in order.
-abbrev pub vectors_told : GroupKeys → List MemberCall → Alone → List (List ℕ)
-vectors_told g [] a = []
-vectors_told g (call ∷ calls) a = vector_of_call g a call ++ vectors_told g calls (after_call g call a)
+-- The vectors that calls reported it, in order.
+abbrev pub vectors_reported : GroupKeys → List MemberCall → MemberState → List (List ℕ)
+vectors_reported g [] a = []
+vectors_reported g (call ∷ calls) a = vector_of_call g a call ++ vectors_reported g calls (after_call g call a)
 
--- A member knows the join of what it knew and of what it was told, and of itself how many objects it published.
+-- A member knows the join of what it knew and of what it was reported, and of itself how many objects it published.
 abbrev pub KnownIsTheJoin : Type 0
-KnownIsTheJoin = (g : GroupKeys) (calls : List MemberCall) (a : Alone) → IsAlone a
+KnownIsTheJoin = (g : GroupKeys) (calls : List MemberCall) (a : MemberState) → IsMemberState a
     → (after_calls g calls a).known
-    ≡ slice_set (join_all (a.known ∷ vectors_told g calls a)) a.number (length (after_calls g calls a).log)
+    ≡ slice_set (join_all (a.known ∷ vectors_reported g calls a)) a.number (length (after_calls g calls a).log)
 
 -- ---- what is held
 
 -- A packet that is stored stays, as long as its publication is not hidden.
 abbrev pub HeldPacketsStay : Type 0
-HeldPacketsStay = (g : GroupKeys) (calls : List MemberCall) (a : Alone) (t : Part) (octets : List ℕ)
+HeldPacketsStay = (g : GroupKeys) (calls : List MemberCall) (a : MemberState) (t : Part) (octets : List ℕ)
     → value_of part_cmp a.store t ≡ Some octets →
     let later = after_calls g calls a in
-    hides (alone_plan later) (pair_of t) ≡ false → value_of part_cmp later.store t ≡ Some octets
+    hides (member_plan later) (pair_of t) ≡ false → value_of part_cmp later.store t ≡ Some octets
 
 -- What is hidden stays hidden.
 abbrev pub HiddenForGood : Type 0
-HiddenForGood = (g : GroupKeys) (calls : List MemberCall) (a : Alone) (pair : Pair) → hides (alone_plan a) pair ≡ true
-    → hides (alone_plan (after_calls g calls a)) pair ≡ true
+HiddenForGood = (g : GroupKeys) (calls : List MemberCall) (a : MemberState) (pair : Pair) → hides (member_plan a) pair
+    ≡ true
+    → hides (member_plan (after_calls g calls a)) pair ≡ true
 
 -- No part of a hidden publication is wanted or stored.
-abbrev pub HiddenIsGone : GroupKeys → Alone → Type 0
-HiddenIsGone g a = (t : Part) → hides (alone_plan a) (pair_of t) ≡ true
-    → (is_wanted (alone_plan a) t ≡ false) × (value_of part_cmp a.store t ≡ None)
+abbrev pub HiddenIsGone : GroupKeys → MemberState → Type 0
+HiddenIsGone g a = (t : Part) → hides (member_plan a) (pair_of t) ≡ true
+    → (is_wanted (member_plan a) t ≡ false) × (value_of part_cmp a.store t ≡ None)
 
 -- Each packet of another publisher's part that is stored passes for the want that the member has of that part now.
-abbrev pub OthersPassed : GroupKeys → Alone → Type 0
+abbrev pub OthersPassed : GroupKeys → MemberState → Type 0
 OthersPassed g a = (t : Part) (octets : List ℕ) → t.publisher ≢ a.number → value_of part_cmp a.store t ≡ Some octets
     → IsOk (ring_verdict (want_of g a.store t) g.members.ring octets)
 
 -- Of its own parts a member stores those that it published and did not hide, and of each the packet that it published.
-abbrev pub OwnStored : GroupKeys → Alone → Type 0
+abbrev pub OwnStored : GroupKeys → MemberState → Type 0
 OwnStored g a = (t : Part) → t.publisher ≡ a.number
-    → value_of part_cmp a.store t ≡ (if hides (alone_plan a) (pair_of t) then None else logged g a t)
+    → value_of part_cmp a.store t ≡ (if hides (member_plan a) (pair_of t) then None else logged g a t)

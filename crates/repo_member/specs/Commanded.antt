@@ -17,12 +17,12 @@ use Rattle.repo_command.specs.declared.answer.Answer.{Answer}
 use Rattle.repo_command.specs.StatusCodes as status
 use Rattle.repo_command.specs.StatusCodes.{refusal_code}
 use Rattle.repo_command.specs.Verdict.{command_verdict}
-use Rattle.repo_command.specs.Answers.{code_alone, written_answer}
+use Rattle.repo_command.specs.Answers.{code_only, written_answer}
 use Rattle.repo_process.specs.Insertions.{next_number, starts}
 use Rattle.group_model.specs.Steps.{check_answer}
 use Rattle.repo_member.specs.Groups.{GroupKeys, IsGroup, node_at, member_key, client_at, client_key_at}
-use Rattle.repo_member.specs.Alone.{Alone}
-use Rattle.repo_member.specs.Deleting.{catalogued_named, alone_deletes, alone_drops}
+use Rattle.repo_member.specs.MemberState.{MemberState}
+use Rattle.repo_member.specs.Deleting.{catalogued_named, member_deletes, member_drops}
 
 -- ---- whose command octets are, and which
 
@@ -57,38 +57,38 @@ OrdersBeyondAreMalformed = (g : GroupKeys) (number client : ℕ) (command : Comm
 -- ---- what becomes of the member
 
 -- an insertion process begins, where there is a number for it
-abbrev pub alone_starts : List Component → ℕ → ℕ → Alone → Option ℕ → Alone
-alone_starts name first last a None = a
-alone_starts name first last a (Some number) = record a { insertions = starts name first last a.insertions }
+abbrev pub member_state_starts : List Component → ℕ → ℕ → MemberState → Option ℕ → MemberState
+member_state_starts name first last a None = a
+member_state_starts name first last a (Some number) = record a { insertions = starts name first last a.insertions }
 
-abbrev pub alone_obeys : Command → Alone → Alone
-alone_obeys (Insert name first last) a = alone_starts name first last a (next_number a.insertions)
-alone_obeys (Check process) a = a
-alone_obeys (Delete name) a = alone_deletes name a
+abbrev pub member_obeys : Command → MemberState → MemberState
+member_obeys (Insert name first last) a = member_state_starts name first last a (next_number a.insertions)
+member_obeys (Check process) a = a
+member_obeys (Delete name) a = member_deletes name a
 
-abbrev pub alone_after_order : Result (ℕ × Command) ℕ → Alone → Alone
-alone_after_order (Ok order) a = alone_obeys order.1 a
-alone_after_order (Err code) a = a
+abbrev pub member_after_order : Result (ℕ × Command) ℕ → MemberState → MemberState
+member_after_order (Ok order) a = member_obeys order.1 a
+member_after_order (Err code) a = a
 
 -- ---- what is answered
 
 abbrev pub start_answer : Option ℕ → Answer
-start_answer None = code_alone status.Malformed
-start_answer (Some number) = record (code_alone status.Accepted) { process = Some number }
+start_answer None = code_only status.Malformed
+start_answer (Some number) = record (code_only status.Accepted) { process = Some number }
 
-abbrev pub delete_answer : List Component → Alone → Answer
+abbrev pub delete_answer : List Component → MemberState → Answer
 delete_answer name a =
-    if length (catalogued_named name a) == 0 then code_alone status.NotFound
-    else record (code_alone status.Done) { deleted = Some (alone_drops name a) }
+    if length (catalogued_named name a) == 0 then code_only status.NotFound
+    else record (code_only status.Done) { deleted = Some (member_drops name a) }
 
-abbrev pub answer_to : Command → Alone → Answer
+abbrev pub answer_to : Command → MemberState → Answer
 answer_to (Insert name first last) a = start_answer (next_number a.insertions)
 answer_to (Check process) a = check_answer (value_of nat_cmp a.insertions.processes process)
 answer_to (Delete name) a = delete_answer name a
 
-abbrev pub alone_order_answer : Result (ℕ × Command) ℕ → Alone → Answer
-alone_order_answer (Ok order) a = answer_to order.1 a
-alone_order_answer (Err code) a = code_alone code
+abbrev pub member_order_answer : Result (ℕ × Command) ℕ → MemberState → Answer
+member_order_answer (Ok order) a = answer_to order.1 a
+member_order_answer (Err code) a = code_only code
 
 -- ---- the packet that says it
 

@@ -19,7 +19,7 @@ pub record NodeKeys : Type 0 where
 abbrev pub no_nodes : NodeKeys
 no_nodes = record { names = []; ring = [] }
 
--- one node more, behind the others
+-- one node more, after the others
 abbrev pub with_node : List Component → List ℕ → NodeKeys → NodeKeys
 with_node node key nodes = record {
   names = nodes.names ++ node ∷ [];

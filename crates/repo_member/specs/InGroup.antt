@@ -23,20 +23,22 @@ use Rattle.group_model.specs.Member as group_member
 use Rattle.group_model.specs.Sound.{IsPublished, IsSoundMember}
 use Rattle.group_model.specs.Wanted.{IsWantedPart, HoldsRecords}
 use Rattle.group_model.specs.Changes as group
-use Rattle.group_model.specs.World.{Outside, member, opening_world}
+use Rattle.group_model.specs.World.{Environment, member, opening_world}
 use Rattle.group_model.specs.Steps.{can_start}
 use Rattle.repo_member.specs.Groups.{GroupKeys, IsGroup, publisher_at}
-use Rattle.repo_holdings.specs.Listed.{alone_catalogue}
-use Rattle.repo_member.specs.Alone.{Alone, ArePosts, publication_limit, alone_plan, alone_opening, alone_publishes}
+use Rattle.repo_holdings.specs.Listed.{member_catalogue}
+use Rattle.repo_member.specs.MemberState.{MemberState, ArePosts, publication_limit, member_plan, member_opening}
+use Rattle.repo_member.specs.MemberState.{member_publishes}
 use Rattle.repo_holdings.specs.Taking.{Fetched}
-use Rattle.repo_member.specs.Alone.{alone_learns, alone_hears, alone_fires, alone_claims, alone_accepts, alone_takes}
-use Rattle.repo_member.specs.Alone.{alone_ends_claims, alone_resets, alone_restarts}
-use Rattle.repo_member.specs.Deleting.{alone_deletes}
-use Rattle.repo_member.specs.Commanded.{alone_starts}
-use Rattle.repo_member.specs.Blocks.{alone_keeps}
+use Rattle.repo_member.specs.MemberState.{member_learns, member_hears, member_fires, member_claims, member_accepts}
+use Rattle.repo_member.specs.MemberState.{member_takes}
+use Rattle.repo_member.specs.MemberState.{member_ends_claims, member_resets, member_restarts}
+use Rattle.repo_member.specs.Deleting.{member_deletes}
+use Rattle.repo_member.specs.Commanded.{member_state_starts}
+use Rattle.repo_member.specs.Blocks.{member_keeps}
 
 -- The member as its group has it: it holds the parts whose packets it stores.
-abbrev pub in_group : Alone → Member
+abbrev pub in_group : MemberState → Member
 in_group a = record {
   log = a.log;
   known = a.known;
@@ -50,7 +52,7 @@ in_group a = record {
 }
 
 -- What is stored is in order of the parts, each once.
-abbrev pub StoresInOrder : Alone → Type 0
+abbrev pub StoresInOrder : MemberState → Type 0
 StoresInOrder a = Rises part_cmp (keys a.store)
 
 -- ---- changes: each of the member by itself is the group's change of that member
@@ -58,44 +60,45 @@ StoresInOrder a = Rises part_cmp (keys a.store)
 -- A member begins as each does in a group in which nothing has happened.
 abbrev pub BeginsAlike : Type 0
 BeginsAlike =
-    (out : Outside) (n j : ℕ) → j < n → in_group (alone_opening n j 0 (out.draw j 0)) ≡ member (opening_world out n) j
+    (out : Environment) (n j : ℕ) → j < n → in_group (member_opening n j 0 (out.draw j 0))
+    ≡ member (opening_world out n) j
 
 -- It publishes an object or a withdrawal, and stores all its packets.
 abbrev pub PublishesAlike : Type 0
-PublishesAlike = (g : GroupKeys) (post : Post) (moment draw : ℕ) (a : Alone) → StoresInOrder a
-    → in_group (alone_publishes g post moment draw a) ≡ group.publishes draw moment a.number post (in_group a)
+PublishesAlike = (g : GroupKeys) (post : Post) (time draw : ℕ) (a : MemberState) → StoresInOrder a
+    → in_group (member_publishes g post time draw a) ≡ group.publishes draw time a.number post (in_group a)
 
--- It is told of a vector.
+-- It is informed of a vector.
 abbrev pub HearsAlike : Type 0
-HearsAlike = (told : List ℕ) (moment draw : ℕ) (a : Alone)
-    → in_group (alone_hears told moment draw a) ≡ group.learns draw moment told (in_group a)
+HearsAlike = (reported : List ℕ) (time draw : ℕ) (a : MemberState)
+    → in_group (member_hears reported time draw a) ≡ group.learns draw time reported (in_group a)
 
--- A vector that the machine isn't told of, as in a settle.
+-- A vector that the machine isn't informed of, as in a settle.
 abbrev pub LearnsAlike : Type 0
-LearnsAlike = (told : List ℕ) (a : Alone)
-    → in_group (alone_learns told a) ≡ record (in_group a) { known = join (in_group a).known told }
+LearnsAlike = (reported : List ℕ) (a : MemberState)
+    → in_group (member_learns reported a) ≡ record (in_group a) { known = join (in_group a).known reported }
 
 -- What the timer makes of a member, by what it says.
-abbrev pub after_timer : Fired → (draw moment : ℕ) → Member → Member
-after_timer fired.Early draw moment m = m
-after_timer fired.Quiet draw moment m = group.resets draw moment m
-after_timer fired.Send draw moment m = group.resets draw moment m
+abbrev pub after_timer : Fired → (draw time : ℕ) → Member → Member
+after_timer fired.Early draw time m = m
+after_timer fired.Quiet draw time m = group.resets draw time m
+after_timer fired.Send draw time m = group.resets draw time m
 
 -- Its timer fires.
 abbrev pub FiresAlike : Type 0
-FiresAlike = (moment draw : ℕ) (a : Alone)
-    → in_group (alone_fires moment draw a)
-    ≡ after_timer (fires_kept moment (in_group a).known (in_group a).machine) draw moment (in_group a)
+FiresAlike = (time draw : ℕ) (a : MemberState)
+    → in_group (member_fires time draw a)
+    ≡ after_timer (fires_kept time (in_group a).known (in_group a).machine) draw time (in_group a)
 
 -- A fetcher claims a part, or nothing.
 abbrev pub ClaimsAlike : Type 0
-ClaimsAlike = (f : ℕ) (claim : Option Part) (a : Alone)
-    → in_group (alone_claims f claim a) ≡ group.member_with_claim f claim (in_group a)
+ClaimsAlike = (f : ℕ) (claim : Option Part) (a : MemberState)
+    → in_group (member_claims f claim a) ≡ group.member_with_claim f claim (in_group a)
 
 -- A packet came for the part that a fetcher claims.
 abbrev pub AcceptsAlike : Type 0
-AcceptsAlike = (f : ℕ) (t : Part) (octets : List ℕ) (a : Alone) → StoresInOrder a
-    → in_group (alone_accepts f t octets a) ≡ group.takes f t (in_group a)
+AcceptsAlike = (f : ℕ) (t : Part) (octets : List ℕ) (a : MemberState) → StoresInOrder a
+    → in_group (member_accepts f t octets a) ≡ group.takes f t (in_group a)
 
 -- The parts that a fetch asked for, and those of them that came.
 abbrev pub asked_for : List Fetched → List Part
@@ -110,36 +113,36 @@ AreTries tries xs = All (λ x. x.attempts ≡ tries x.part) xs
 
 -- The outcome of a fetch: the parts that came are held, and the attempts of each count.
 abbrev pub TakesAlike : Type 0
-TakesAlike = (tries : Part → ℕ) (xs : List Fetched) (a : Alone) → StoresInOrder a → AreTries tries xs
-    → in_group (alone_takes xs a)
+TakesAlike = (tries : Part → ℕ) (xs : List Fetched) (a : MemberState) → StoresInOrder a → AreTries tries xs
+    → in_group (member_takes xs a)
     ≡ record (gains (that_came xs) (in_group a)) {
       attempts = with_each_tried tries (asked_for xs) (in_group a).attempts;
     }
 
 -- All claims end.
 abbrev pub EndsClaimsAlike : Type 0
-EndsClaimsAlike = (a : Alone) → in_group (alone_ends_claims a) ≡ member_without_claims (in_group a)
+EndsClaimsAlike = (a : MemberState) → in_group (member_ends_claims a) ≡ member_without_claims (in_group a)
 
 -- Its machine is Steady again.
 abbrev pub ResetsAlike : Type 0
-ResetsAlike = (moment draw : ℕ) (a : Alone)
-    → in_group (alone_resets moment draw a) ≡ group.resets draw moment (in_group a)
+ResetsAlike = (time draw : ℕ) (a : MemberState)
+    → in_group (member_resets time draw a) ≡ group.resets draw time (in_group a)
 
 -- It starts again.
 abbrev pub RestartsAlike : Type 0
-RestartsAlike = (moment draw : ℕ) (a : Alone)
-    → in_group (alone_restarts moment draw a) ≡ group.restarts draw moment (in_group a)
+RestartsAlike = (time draw : ℕ) (a : MemberState)
+    → in_group (member_restarts time draw a) ≡ group.restarts draw time (in_group a)
 
 -- An insertion process begins, where there is a number for it.
 abbrev pub StartsAlike : Type 0
-StartsAlike = (name : List Component) (first last : ℕ) (a : Alone)
-    → in_group (alone_starts name first last a (next_number a.insertions))
+StartsAlike = (name : List Component) (first last : ℕ) (a : MemberState)
+    → in_group (member_state_starts name first last a (next_number a.insertions))
     ≡ (if can_start (in_group a) then group.member_starts name first last (in_group a) else in_group a)
 
 -- A block is kept.
 abbrev pub KeepsAlike : Type 0
-KeepsAlike = (number : ℕ) (p : Process) (a : Alone)
-    → in_group (alone_keeps number p a) ≡ group.member_with_process number p (in_group a)
+KeepsAlike = (number : ℕ) (p : Process) (a : MemberState)
+    → in_group (member_keeps number p a) ≡ group.member_with_process number p (in_group a)
 
 -- ---- what is stored and what was published
 
@@ -152,95 +155,100 @@ pub record AreLogs (g : GroupKeys) (logs : Logs) : Type 0 where
   pub few : All (λ log. length log ≤ publication_limit) logs
 
 -- The packet of a part, as its publisher makes it.
-abbrev pub true_packet : GroupKeys → Logs → Part → Option (List ℕ)
-true_packet g logs t = packet_at (publisher_at g t.publisher) t.seq (post_at logs (pair_of t)) t.part
+abbrev pub published_packet : GroupKeys → Logs → Part → Option (List ℕ)
+published_packet g logs t = packet_at (publisher_at g t.publisher) t.seq (post_at logs (pair_of t)) t.part
 
 -- Each stored packet is that of its part.
-abbrev pub AreItsPackets : GroupKeys → Logs → Alone → Type 0
+abbrev pub AreItsPackets : GroupKeys → Logs → MemberState → Type 0
 AreItsPackets g logs a = (t : Part) (octets : List ℕ) → value_of part_cmp a.store t ≡ Some octets
-    → true_packet g logs t ≡ Some octets
+    → published_packet g logs t ≡ Some octets
 
 -- The member stores parts of what was published, in order, and of each the packet that its publisher made.
-pub record StoresTruly (g : GroupKeys) (logs : Logs) (a : Alone) : Type 0 where
+pub record StoresConsistently (g : GroupKeys) (logs : Logs) (a : MemberState) : Type 0 where
   pub in_order : StoresInOrder a
   pub published : (t : Part) → member_holds (in_group a) t ≡ true → IsPublished logs (pair_of t)
   pub packets : AreItsPackets g logs a
 
 -- A member that is as each is in a group that events can reach stores truly, where the packets are those of their
 -- parts.
-abbrev pub SoundStoresTruly : Type 0
-SoundStoresTruly = (g : GroupKeys) (logs : Logs) (a : Alone) → IsSoundMember logs a.number (in_group a)
-    → AreItsPackets g logs a → StoresTruly g logs a
+abbrev pub SoundStoresConsistently : Type 0
+SoundStoresConsistently = (g : GroupKeys) (logs : Logs) (a : MemberState) → IsSoundMember logs a.number (in_group a)
+    → AreItsPackets g logs a → StoresConsistently g logs a
 
 -- The plan of the member by itself, which reads what the stored records list, is the group's plan of that member.
 abbrev pub PlansAlike : Type 0
-PlansAlike = (g : GroupKeys) (logs : Logs) (a : Alone) → AreLogs g logs → StoresTruly g logs a
-    → alone_plan a ≡ group_member.plan_of logs (in_group a)
+PlansAlike = (g : GroupKeys) (logs : Logs) (a : MemberState) → AreLogs g logs → StoresConsistently g logs a
+    → member_plan a ≡ group_member.plan_of logs (in_group a)
 
 -- So it wants the records of the known publications, and the published parts that those or index packets list which it
 -- holds, that it neither holds nor hides.
 abbrev pub WantsAlike : Type 0
-WantsAlike = (g : GroupKeys) (logs : Logs) (a : Alone) (t : Part) → AreLogs g logs → StoresTruly g logs a
+WantsAlike = (g : GroupKeys) (logs : Logs) (a : MemberState) (t : Part) → AreLogs g logs → StoresConsistently g logs a
     → HoldsRecords (in_group a)
-    → (contains part_cmp (wanted (alone_plan a)) t ≡ true) ↔ IsWantedPart logs (in_group a) t
+    → (contains part_cmp (wanted (member_plan a)) t ≡ true) ↔ IsWantedPart logs (in_group a) t
 
 -- Its catalogue, which reads the stored packets, is the group's catalogue of that member.
 abbrev pub ListsAlike : Type 0
-ListsAlike = (g : GroupKeys) (logs : Logs) (a : Alone) → AreLogs g logs → StoresTruly g logs a
-    → alone_catalogue a.store ≡ catalogue logs (in_group a)
+ListsAlike = (g : GroupKeys) (logs : Logs) (a : MemberState) → AreLogs g logs → StoresConsistently g logs a
+    → member_catalogue a.store ≡ catalogue logs (in_group a)
 
 -- So the publications of a name that it hides are those that the group says.
 abbrev pub DeletesAlike : Type 0
-DeletesAlike = (g : GroupKeys) (logs : Logs) (name : List Component) (a : Alone) → AreLogs g logs → StoresTruly g logs a
-    → in_group (alone_deletes name a) ≡ member_hides_all (catalogued_under logs (in_group a) name) (in_group a)
+DeletesAlike = (g : GroupKeys) (logs : Logs) (name : List Component) (a : MemberState) → AreLogs g logs
+    → StoresConsistently g logs a
+    → in_group (member_deletes name a) ≡ member_hides_all (catalogued_under logs (in_group a) name) (in_group a)
 
 -- ---- what lasts
 
 -- A packet is that of the part, of a publication that there is.
 pub record IsItsPacket (g : GroupKeys) (logs : Logs) (t : Part) (octets : List ℕ) : Type 0 where
   pub published : IsPublished logs (pair_of t)
-  pub packet : true_packet g logs t ≡ Some octets
+  pub packet : published_packet g logs t ≡ Some octets
 
 -- So is the packet that came for a part, if one did.
-abbrev pub CameTruly : GroupKeys → Logs → Part → Option (List ℕ) → Type 0
-CameTruly g logs t None = Unit {0}
-CameTruly g logs t (Some octets) = IsItsPacket g logs t octets
+abbrev pub CameConsistently : GroupKeys → Logs → Part → Option (List ℕ) → Type 0
+CameConsistently g logs t None = Unit {0}
+CameConsistently g logs t (Some octets) = IsItsPacket g logs t octets
 
 -- What was published stays under its number, and there may be more.
 abbrev pub GrowInto : Logs → Logs → Type 0
 GrowInto logs later = (p : ℕ) → take (last_of logs p) (slice_index_or later p []) ≡ slice_index_or logs p []
 
 -- A member that has just begun stores nothing.
-abbrev pub BeginsTruly : Type 0
-BeginsTruly = (g : GroupKeys) (logs : Logs) (members number moment draw : ℕ)
-    → StoresTruly g logs (alone_opening members number moment draw)
+abbrev pub BeginsConsistently : Type 0
+BeginsConsistently = (g : GroupKeys) (logs : Logs) (members number time draw : ℕ)
+    → StoresConsistently g logs (member_opening members number time draw)
 
 -- Others may publish more.
-abbrev pub GrowsTruly : Type 0
-GrowsTruly = (g : GroupKeys) (logs later : Logs) (a : Alone) → GrowInto logs later → StoresTruly g logs a
-    → StoresTruly g later a
+abbrev pub GrowsConsistently : Type 0
+GrowsConsistently = (g : GroupKeys) (logs later : Logs) (a : MemberState) → GrowInto logs later
+    → StoresConsistently g logs a
+    → StoresConsistently g later a
 
 -- The member's log, which is the group's of its number, has the publication too from now on.
-abbrev pub PublishesTruly : Type 0
-PublishesTruly = (g : GroupKeys) (post : Post) (moment draw : ℕ) (logs : Logs) (a : Alone)
-    → a.number < length logs → slice_index_or logs a.number [] ≡ a.log → StoresTruly g logs a →
-    let published = alone_publishes g post moment draw a in
-    StoresTruly g (slice_set logs a.number published.log) published
+abbrev pub PublishesConsistently : Type 0
+PublishesConsistently = (g : GroupKeys) (post : Post) (time draw : ℕ) (logs : Logs) (a : MemberState)
+    → a.number < length logs → slice_index_or logs a.number [] ≡ a.log → StoresConsistently g logs a →
+    let published = member_publishes g post time draw a in
+    StoresConsistently g (slice_set logs a.number published.log) published
 
 -- The packet that is accepted is that of its part.
-abbrev pub AcceptsTruly : Type 0
-AcceptsTruly = (g : GroupKeys) (logs : Logs) (f : ℕ) (t : Part) (octets : List ℕ) (a : Alone)
-    → IsItsPacket g logs t octets → StoresTruly g logs a → StoresTruly g logs (alone_accepts f t octets a)
+abbrev pub AcceptsConsistently : Type 0
+AcceptsConsistently = (g : GroupKeys) (logs : Logs) (f : ℕ) (t : Part) (octets : List ℕ) (a : MemberState)
+    → IsItsPacket g logs t octets → StoresConsistently g logs a
+    → StoresConsistently g logs (member_accepts f t octets a)
 
 -- So is each that a fetch brought.
-abbrev pub TakesTruly : Type 0
-TakesTruly = (g : GroupKeys) (logs : Logs) (xs : List Fetched) (a : Alone)
-    → All (λ x. CameTruly g logs x.part x.packet) xs → StoresTruly g logs a → StoresTruly g logs (alone_takes xs a)
+abbrev pub TakesConsistently : Type 0
+TakesConsistently = (g : GroupKeys) (logs : Logs) (xs : List Fetched) (a : MemberState)
+    → All (λ x. CameConsistently g logs x.part x.packet) xs → StoresConsistently g logs a
+    → StoresConsistently g logs (member_takes xs a)
 
 -- All other changes store nothing.
-abbrev pub StaysTrue : Type 0
-StaysTrue =
-    (g : GroupKeys) (logs : Logs) (a b : Alone) → b.store ≡ a.store → StoresTruly g logs a → StoresTruly g logs b
+abbrev pub StaysConsistent : Type 0
+StaysConsistent =
+    (g : GroupKeys) (logs : Logs) (a b : MemberState) → b.store ≡ a.store → StoresConsistently g logs a
+    → StoresConsistently g logs b
 
 -- A group begins with nothing published.
 abbrev pub LogsBegin : Type 0

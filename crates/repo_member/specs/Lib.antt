@@ -35,7 +35,7 @@ pub use Rattle.repo_holdings.specs.KeptValues
 pub use Rattle.repo_holdings.specs.Records
 pub use Rattle.repo_holdings.specs.Listed
 pub use Rattle.repo_holdings.specs.Contents
-pub mod Alone
+pub mod MemberState
 pub mod Verdicts
 pub mod Fires
 pub use Rattle.repo_holdings.specs.Gaining
@@ -55,8 +55,8 @@ pub mod Posts
 pub mod Members
 pub mod InGroup
 pub mod InEvents
-pub mod TrueMembers
-pub mod TrueHolders
-pub mod TrueChanges
-pub mod TrueSyncs
+pub mod ConsistentMembers
+pub mod ConsistentHolders
+pub mod ConsistentChanges
+pub mod ConsistentSyncs
 pub mod Calls

@@ -4,12 +4,12 @@ use Rattle.std.specs.Ordering.{nat_cmp}
 use Rattle.sorted_lists.specs.SortedList.{value_of}
 use Rattle.repo_process.specs.Processes.{Process, is_whole}
 use Rattle.repo_member.specs.declared.member.Member.TheInside.{Inside}
-use Rattle.repo_member.specs.Alone.{Alone, IsAlone}
+use Rattle.repo_member.specs.MemberState.{MemberState, IsMemberState}
 use Rattle.repo_member.specs.Posts.{posts_of, IsKeptLog}
 
 -- what a member's fields say
-abbrev pub alone : Inside → Alone
-alone m = record {
+abbrev pub member_state : Inside → MemberState
+member_state m = record {
   number = m.number;
   log = posts_of m.log.items;
   known = m.vector;
@@ -29,7 +29,7 @@ AreWaiting processes = (number : ℕ) (p : Process) → value_of nat_cmp process
 -- what is held is of the publications that the member knows, its objects are marked where they are withdrawn, and what
 -- is whole is published
 pub record IsMember (m : Inside) : Type 0 where
-  pub alone : IsAlone (alone m)
+  pub member_state : IsMemberState (member_state m)
   pub known : m.held.known ≡ m.vector
   pub log : IsKeptLog m.log.items
   pub waiting : AreWaiting m.processes.processes

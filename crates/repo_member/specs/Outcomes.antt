@@ -10,14 +10,14 @@ use Rattle.repo_object.specs.declared.job.Job.{Job}
 use Rattle.repo_object.specs.Wants.{WantedPart}
 use Rattle.repo_object.specs.Verdict.{CheckedPart, publisher_key}
 use Rattle.repo_member.specs.Groups.{GroupKeys, HaveKeys}
-use Rattle.repo_member.specs.Alone.{Alone, IsOfGroup, alone_holdings}
+use Rattle.repo_member.specs.MemberState.{MemberState, IsOfGroup, member_holdings}
 use Rattle.repo_holdings.specs.HoldingsState.{HoldingsState, held_plan}
 use Rattle.repo_holdings.specs.Taking.{Fetched, PartsDiffer}
 use Rattle.repo_holdings.specs.Wanting.{want_at, job_at}
 
 -- the job of a part: its attempts go on from those that were made
-abbrev pub job_for : GroupKeys → Alone → Part → Job
-job_for g a t = job_at g.members.names g.name (alone_holdings a) t
+abbrev pub job_for : GroupKeys → MemberState → Part → Job
+job_for g a t = job_at g.members.names g.name (member_holdings a) t
 
 -- the jobs, with what came for each and how often it was tried
 abbrev pub outcome_of : List Job → List (Option CheckedPart) → List ℕ → List Fetched
@@ -61,16 +61,16 @@ pub record IsOutcomeOf (g : GroupKeys) (h : HoldingsState) (jobs : List Job) (pa
   pub each : AreFetchedOf g h jobs parts attempts
 
 -- a job of a member, with what came of it
-abbrev pub IsFetched : GroupKeys → Alone → Job → Option CheckedPart → ℕ → Type 0
-IsFetched g a job part n = IsFetchedOf g (alone_holdings a) job part n
+abbrev pub IsFetched : GroupKeys → MemberState → Job → Option CheckedPart → ℕ → Type 0
+IsFetched g a job part n = IsFetchedOf g (member_holdings a) job part n
 
 -- there are as many of each
-abbrev pub AreFetched : GroupKeys → Alone → List Job → List (Option CheckedPart) → List ℕ → Type 0
-AreFetched g a jobs parts ns = AreFetchedOf g (alone_holdings a) jobs parts ns
+abbrev pub AreFetched : GroupKeys → MemberState → List Job → List (Option CheckedPart) → List ℕ → Type 0
+AreFetched g a jobs parts ns = AreFetchedOf g (member_holdings a) jobs parts ns
 
 -- the outcome of a fetch that the member planned
-abbrev pub IsOutcome : GroupKeys → Alone → List Job → List (Option CheckedPart) → List ℕ → Type 0
-IsOutcome g a jobs parts attempts = IsOutcomeOf g (alone_holdings a) jobs parts attempts
+abbrev pub IsOutcome : GroupKeys → MemberState → List Job → List (Option CheckedPart) → List ℕ → Type 0
+IsOutcome g a jobs parts attempts = IsOutcomeOf g (member_holdings a) jobs parts attempts
 
 -- ---- jobs that were planned
 
@@ -87,18 +87,18 @@ pub record AreJobsOf (g : GroupKeys) (h : HoldingsState) (jobs : List Job) : Typ
   pub apart : PartsDiffer (map (λ (job : Job). job.want.part) jobs)
   pub each : All (IsJobOf g h) jobs
 
--- the jobs of the next parts that are wanted and unclaimed, behind a place
+-- the jobs of the next parts that are wanted and unclaimed, after a place
 abbrev pub jobs_of : GroupKeys → HoldingsState → Option Part → ℕ → List Job
 jobs_of g h after most =
     map (job_at g.members.names g.name h) (take most (filter (is_after after) (unclaimed (held_plan h))))
 
 -- jobs that a member planned, of different parts
-abbrev pub ArePlannedJobs : GroupKeys → Alone → List Job → Type 0
-ArePlannedJobs g a jobs = AreJobsOf g (alone_holdings a) jobs
+abbrev pub ArePlannedJobs : GroupKeys → MemberState → List Job → Type 0
+ArePlannedJobs g a jobs = AreJobsOf g (member_holdings a) jobs
 
--- those of its next parts, behind a place
-abbrev pub jobs_behind : GroupKeys → Alone → Option Part → ℕ → List Job
-jobs_behind g a after most = jobs_of g (alone_holdings a) after most
+-- those of its next parts, after a place
+abbrev pub jobs_after : GroupKeys → MemberState → Option Part → ℕ → List Job
+jobs_after g a after most = jobs_of g (member_holdings a) after most
 
 -- what came of jobs was checked for them, and none was tried too often
 abbrev pub WereTried : GroupKeys → List Job → List (Option CheckedPart) → List ℕ → Type 0
@@ -125,10 +125,10 @@ HolderJobsAreOutcomes = (g : GroupKeys) (h : HoldingsState) (jobs : List Job) (p
 
 -- so are those of a member
 abbrev pub JobsArePlanned : Type 0
-JobsArePlanned = (g : GroupKeys) (a : Alone) (after : Option Part) (most : ℕ) → HaveKeys g.members → IsOfGroup g a
-    → ArePlannedJobs g a (jobs_behind g a after most)
+JobsArePlanned = (g : GroupKeys) (a : MemberState) (after : Option Part) (most : ℕ) → HaveKeys g.members → IsOfGroup g a
+    → ArePlannedJobs g a (jobs_after g a after most)
 
 -- and whatever comes of them it can take
 abbrev pub PlannedJobsAreOutcomes : Type 0
-PlannedJobsAreOutcomes = (g : GroupKeys) (a : Alone) (jobs : List Job) (parts : List (Option CheckedPart))
+PlannedJobsAreOutcomes = (g : GroupKeys) (a : MemberState) (jobs : List Job) (parts : List (Option CheckedPart))
     (attempts : List ℕ) → ArePlannedJobs g a jobs → WereTried g jobs parts attempts → IsOutcome g a jobs parts attempts

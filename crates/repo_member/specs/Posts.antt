@@ -6,7 +6,7 @@ use Rattle.repo_object.specs.Objects.{Post as Published, withdraws_number}
 use Rattle.repo_object.specs.Objects.Post.{Offers, Withdraws}
 use Rattle.repo_member.specs.declared.post.Post.{Post}
 use Rattle.repo_member.specs.declared.post.Post.TheVariants.{Object, Withdrawal}
-use Rattle.repo_member.specs.Alone.{ArePosts}
+use Rattle.repo_member.specs.MemberState.{ArePosts}
 
 -- what was published
 abbrev pub post_of : Post → Published

@@ -1,4 +1,4 @@
--- What a member answers to a sync Interest and to a packet that it asked for, but for want of memory.
+-- What a member answers to a sync Interest and to a packet that it asked for, but when memory runs out.
 use Rattle.std.specs.Prelude.{ℕ, List, Option, Some, None, Result, Ok, Err, length, slice_index, nat_lt, if◌then◌else◌}
 use Rattle.ndn_data.specs.Data.{Data}
 use Rattle.svs_sync.specs.declared.sync_refusal.SyncRefusal.{SyncRefusal}
@@ -13,42 +13,42 @@ use Rattle.repo_member.specs.declared.refusals.HearRefusal.TheVariants.{Sync, Ow
 use Rattle.repo_member.specs.declared.refusals.AcceptRefusal.{AcceptRefusal}
 use Rattle.repo_member.specs.declared.refusals.AcceptRefusal.TheVariants.{FetcherIdle, Refused}
 use Rattle.repo_member.specs.Groups.{GroupKeys, node_at, member_key}
-use Rattle.repo_member.specs.Alone.{Alone, alone_plan, want_of}
+use Rattle.repo_member.specs.MemberState.{MemberState, member_plan, want_of}
 
 -- the sync Interest by which a member tells a vector
 abbrev pub sync_of : GroupKeys → ℕ → List ℕ → List ℕ
 sync_of g number vector =
     sync_interest g.name vector g.members.names (key_name (node_at g number)) (member_key g number)
 
--- a vector that is told, unless it tells of more publications of the member than it made
-abbrev pub vector_verdict : Alone → List ℕ → Result (List ℕ) HearRefusal
-vector_verdict a told =
-    if nat_lt (length a.log) (slice_index told a.number)
-    then Err (OwnNumberAhead (length a.log) (slice_index told a.number))
-    else Ok told
+-- a vector that is reported, unless it reports more publications of the member than it made
+abbrev pub vector_verdict : MemberState → List ℕ → Result (List ℕ) HearRefusal
+vector_verdict a reported =
+    if nat_lt (length a.log) (slice_index reported a.number)
+    then Err (OwnNumberAhead (length a.log) (slice_index reported a.number))
+    else Ok reported
 
 -- the same of the vector of a sync Interest, where the octets are one
-abbrev pub told_verdict : Alone → Result (ℕ × List ℕ) SyncRefusal → Result (List ℕ) HearRefusal
-told_verdict a (Err refusal) = Err (Sync refusal)
-told_verdict a (Ok told) = vector_verdict a told.1
+abbrev pub reported_verdict : MemberState → Result (ℕ × List ℕ) SyncRefusal → Result (List ℕ) HearRefusal
+reported_verdict a (Err refusal) = Err (Sync refusal)
+reported_verdict a (Ok reported) = vector_verdict a reported.1
 
 -- who signed the sync Interest of the group that octets are, and the vector that it tells; or why they are refused
 abbrev pub group_verdict : GroupKeys → List ℕ → Result (ℕ × List ℕ) SyncRefusal
 group_verdict g octets = sync_verdict g.name g.members.names g.members.ring octets
 
 -- the vector that octets tell the member, or why they are refused
-abbrev pub hear_verdict : GroupKeys → Alone → List ℕ → Result (List ℕ) HearRefusal
-hear_verdict g a octets = told_verdict a (group_verdict g octets)
+abbrev pub hear_verdict : GroupKeys → MemberState → List ℕ → Result (List ℕ) HearRefusal
+hear_verdict g a octets = reported_verdict a (group_verdict g octets)
 
 -- a part, where a packet passes for it
 abbrev pub passed : Part → Result Data PartRefusal → Result Part AcceptRefusal
 passed t (Ok d) = Ok t
 passed t (Err refusal) = Err (Refused refusal)
 
-abbrev pub claim_verdict : GroupKeys → Alone → List ℕ → Option Part → Result Part AcceptRefusal
+abbrev pub claim_verdict : GroupKeys → MemberState → List ℕ → Option Part → Result Part AcceptRefusal
 claim_verdict g a octets None = Err FetcherIdle
 claim_verdict g a octets (Some t) = passed t (ring_verdict (want_of g a.store t) g.members.ring octets)
 
 -- the part that a fetcher's octets are taken for, or why they are refused
-abbrev pub accept_verdict : GroupKeys → Alone → ℕ → List ℕ → Result Part AcceptRefusal
-accept_verdict g a f octets = claim_verdict g a octets (claim_of (alone_plan a) f)
+abbrev pub accept_verdict : GroupKeys → MemberState → ℕ → List ℕ → Result Part AcceptRefusal
+accept_verdict g a f octets = claim_verdict g a octets (claim_of (member_plan a) f)

@@ -9,8 +9,8 @@ use ndn_name::Name;
 use ndn_sign::KeyRing;
 use std::alloc::{AllocError, Global};
 use std::marker::Model;
-use svs_sync::{SyncRefusal, check_told};
-use svs_vector::{MEMBER_LIMIT, Roster, ToldNumbers};
+use svs_sync::{SyncRefusal, check_reported};
+use svs_vector::{MEMBER_LIMIT, ReportedNumbers, Roster};
 
 /// How many clients a group may have.
 const CLIENT_LIMIT: usize = MEMBER_LIMIT;
@@ -158,14 +158,17 @@ impl Group {
 
     /// The number of the member that signed a sync Interest of the group, and the numbers that it tells. It takes no
     /// memory.
-    pub(crate) fn check_told(&self, octets: &[u8]) -> Result<(u32, ToldNumbers), SyncRefusal>
+    pub(crate) fn check_reported(
+        &self,
+        octets: &[u8],
+    ) -> Result<(u32, ReportedNumbers), SyncRefusal>
         ensures verdict { MatchResult result
-            (λ told. group_verdict self.now octets.now ≡ Ok (told.0, told.1))
+            (λ reported. group_verdict self.now octets.now ≡ Ok (reported.0, reported.1))
             (λ refusal. group_verdict self.now octets.now ≡ Err refusal) }
-        ensures width { IfOk result (λ told. length told.1 ≡ length self.now.members.names) }
-        ensures members { IfOk result (λ told. length told.1 ≤ node_limit) }
+        ensures width { IfOk result (λ reported. length reported.1 ≡ length self.now.members.names) }
+        ensures members { IfOk result (λ reported. length reported.1 ≤ node_limit) }
     {
-        check_told(octets, &self.name, self.roster(), self.members())
+        check_reported(octets, &self.name, self.roster(), self.members())
     }
 
     // Whether a member or a client has the name.

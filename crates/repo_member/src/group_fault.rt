@@ -17,7 +17,7 @@ pub enum GroupFault {
 }
 
 impl GroupFault {
-    /// Want of memory, which is all that a new name can meet where there is room for it.
+    /// Running out of memory, which is all that a new name can meet where there is room for it.
     pub fn only_memory(self) -> AllocError
         requires { self ≡ GroupFault.NoMemory }
     {

@@ -1,12 +1,15 @@
 ghost use Rattle.repo_plan.specs.Sound.{PlanIsSound};
 ghost use Rattle.repo_plan.specs.Calls.{ClaimsOnce};
-ghost use Rattle.repo_member.specs.Alone.{IsAlone, ArePosts, IsOfGroup, alone_plan};
+ghost use Rattle.repo_member.specs.MemberState.{IsMemberState, ArePosts, IsOfGroup, member_plan};
 ghost use Rattle.repo_member.specs.Blocks.{AreWithinLimits};
 ghost use Rattle.repo_member.specs.InGroup.{BeginsAlike, PublishesAlike, HearsAlike, LearnsAlike, FiresAlike};
 ghost use Rattle.repo_member.specs.InGroup.{ClaimsAlike, AcceptsAlike, TakesAlike, EndsClaimsAlike, ResetsAlike};
-ghost use Rattle.repo_member.specs.InGroup.{RestartsAlike, StartsAlike, KeepsAlike, SoundStoresTruly, PlansAlike};
-ghost use Rattle.repo_member.specs.InGroup.{WantsAlike, ListsAlike, DeletesAlike, BeginsTruly, GrowsTruly};
-ghost use Rattle.repo_member.specs.InGroup.{PublishesTruly, AcceptsTruly, TakesTruly, StaysTrue, LogsBegin, LogsGrow};
+ghost use Rattle.repo_member.specs.InGroup.{RestartsAlike, StartsAlike, KeepsAlike, SoundStoresConsistently};
+ghost use Rattle.repo_member.specs.InGroup.{PlansAlike};
+ghost use Rattle.repo_member.specs.InGroup.{WantsAlike, ListsAlike, DeletesAlike, BeginsConsistently};
+ghost use Rattle.repo_member.specs.InGroup.{GrowsConsistently};
+ghost use Rattle.repo_member.specs.InGroup.{PublishesConsistently, AcceptsConsistently, TakesConsistently};
+ghost use Rattle.repo_member.specs.InGroup.{StaysConsistent, LogsBegin, LogsGrow};
 ghost use Rattle.repo_member.specs.InEvents.{PublishIsEvent, WithdrawIsEvent, DeliverIsEvent, HearIsEvent};
 ghost use Rattle.repo_member.specs.InEvents.{FireIsEvent, RestartIsEvent};
 ghost use Rattle.repo_member.specs.InEvents.{ClaimIsEvent, LoseIsEvent, AnswerIsEvent, FeedIsEvent, FetchIsEvent};
@@ -15,17 +18,22 @@ ghost use Rattle.repo_member.specs.InEvents.{BlockIsEvent, BlockStatesAlike, Lea
 ghost use Rattle.repo_member.specs.InEvents.{GatheringIsEvent, SettleIsEvent, OpenPartsAlike, CataloguesAlike};
 ghost use Rattle.repo_member.specs.Outcomes.{HolderJobsArePlanned, RisingJobsArePlanned, HolderJobsAreOutcomes};
 ghost use Rattle.repo_member.specs.Outcomes.{JobsArePlanned, PlannedJobsAreOutcomes};
-ghost use Rattle.repo_member.specs.TrueMembers.{TrueIsAlone, TrueIsOf, TrueStores, StoresThose, LogsThose};
-ghost use Rattle.repo_member.specs.TrueMembers.{WantsPublished, WantsAreTrue, PacketsAreThere, PacketsPass};
-ghost use Rattle.repo_member.specs.TrueMembers.{PacketsPassForMembers, AcceptsTheClaimed, TakesTheTrue};
-ghost use Rattle.repo_member.specs.TrueHolders.{MembersAreHolders, HoldersStoreTruly, HoldersStoreThose};
-ghost use Rattle.repo_member.specs.TrueHolders.{HoldersWantPublished, HoldersWantTruly, PacketsPassForHolders};
-ghost use Rattle.repo_member.specs.TrueHolders.{FetchedAreStored, MembersTakeAll, HoldersTakeTruly};
-ghost use Rattle.repo_member.specs.TrueChanges.{BeginsTrue, PublishesTrue, OthersPublish, LogsHaveGrown, LearnsTrue};
-ghost use Rattle.repo_member.specs.TrueChanges.{HearsTrue, InsertsTrue, BlocksTrue, DeletesTrue, ObeysTrue, FiresTrue};
-ghost use Rattle.repo_member.specs.TrueChanges.{ResetsTrue, RestartsTrue, EndsClaimsTrue, ClaimsTrue, LosesTrue};
-ghost use Rattle.repo_member.specs.TrueChanges.{AcceptsTrue, TakesTrue};
-ghost use Rattle.repo_member.specs.TrueSyncs.{KeysAreFound, SyncsAreTold, SyncsAreTaken};
+ghost use Rattle.repo_member.specs.ConsistentMembers.{ConsistentIsMemberState, ConsistentIsOf, ConsistentStores};
+ghost use Rattle.repo_member.specs.ConsistentMembers.{StoresThose, LogsThose};
+ghost use Rattle.repo_member.specs.ConsistentMembers.{WantsPublished, WantsAreConsistent, PacketsAreThere, PacketsPass};
+ghost use Rattle.repo_member.specs.ConsistentMembers.{PacketsPassForMembers, AcceptsTheClaimed, TakesTheConsistent};
+ghost use Rattle.repo_member.specs.ConsistentHolders.{MembersAreHolders, HoldersStoreConsistently, HoldersStoreThose};
+ghost use Rattle.repo_member.specs.ConsistentHolders.{HoldersWantPublished, HoldersWantConsistently};
+ghost use Rattle.repo_member.specs.ConsistentHolders.{PacketsPassForHolders};
+ghost use Rattle.repo_member.specs.ConsistentHolders.{FetchedAreStored, MembersTakeAll, HoldersTakeConsistently};
+ghost use Rattle.repo_member.specs.ConsistentChanges.{BeginsConsistent, PublishesConsistent, OthersPublish};
+ghost use Rattle.repo_member.specs.ConsistentChanges.{LogsHaveGrown, LearnsConsistent};
+ghost use Rattle.repo_member.specs.ConsistentChanges.{HearsConsistent, InsertsConsistent, BlocksConsistent};
+ghost use Rattle.repo_member.specs.ConsistentChanges.{DeletesConsistent, ObeysConsistent, FiresConsistent};
+ghost use Rattle.repo_member.specs.ConsistentChanges.{ResetsConsistent, RestartsConsistent, EndsClaimsConsistent};
+ghost use Rattle.repo_member.specs.ConsistentChanges.{ClaimsConsistent, LosesConsistent};
+ghost use Rattle.repo_member.specs.ConsistentChanges.{AcceptsConsistent, TakesConsistent};
+ghost use Rattle.repo_member.specs.ConsistentSyncs.{KeysAreFound, SyncsAreReported, SyncsAreTaken};
 ghost use Rattle.repo_member.specs.Commanded.{MadeOrdersAreTaken, OrdersBeyondAreMalformed};
 ghost use Rattle.repo_member.specs.Calls.{LogsGoOn, PublicationsStay, WithdrawalsStay, LoggedPacketsStay};
 ghost use Rattle.repo_member.specs.Calls.{NumbersNeverFall};
@@ -52,7 +60,7 @@ pub fn changes_are_the_groups()
 /// Where each stored packet is that of its part, a member's plan is its group's plan of it, and so it wants the same
 /// parts.
 pub fn members_want_what_the_group_says()
-    ensures stores { SoundStoresTruly }
+    ensures stores { SoundStoresConsistently }
     ensures plans { PlansAlike }
     ensures wants { WantsAlike }
 {}
@@ -66,13 +74,13 @@ pub fn members_list_what_the_group_says()
 
 /// Stored packets are those of their parts from the start on, and stay so: where others publish, where the member
 /// publishes, and where packets come that are those of their parts.
-pub fn truly_stored_lasts()
-    ensures begins { BeginsTruly }
-    ensures grows { GrowsTruly }
-    ensures publishes { PublishesTruly }
-    ensures accepts { AcceptsTruly }
-    ensures takes { TakesTruly }
-    ensures others { StaysTrue }
+pub fn consistently_stored_lasts()
+    ensures begins { BeginsConsistently }
+    ensures grows { GrowsConsistently }
+    ensures publishes { PublishesConsistently }
+    ensures accepts { AcceptsConsistently }
+    ensures takes { TakesConsistently }
+    ensures others { StaysConsistent }
     ensures logs_begin { LogsBegin }
     ensures logs_grow { LogsGrow }
 {}
@@ -112,7 +120,7 @@ pub fn made_orders_are_taken()
     ensures beyond { OrdersBeyondAreMalformed }
 {}
 
-/// Whatever is called afterwards, a member's log has what it had as its front, a publication keeps its number, which
+/// Whatever is called afterwards, a member's log has what it had as its prefix, a publication keeps its number, which
 /// is one more than how many there were, and the packets of its parts stay what they are.
 pub fn publications_last()
     ensures log { LogsGoOn }
@@ -122,7 +130,7 @@ pub fn publications_last()
 {}
 
 /// No number that a member knows falls, whatever is called. What it knows is the join of what it knew and of the
-/// vectors that it was told and took; of itself it knows how often it published.
+/// vectors that it was reported and took; of itself it knows how often it published.
 pub fn vectors_only_rise()
     ensures rise { NumbersNeverFall }
     ensures join { KnownIsTheJoin }
@@ -130,11 +138,11 @@ pub fn vectors_only_rise()
 
 /// In every member that calls reach, no two fetchers claim one part, and what is claimed is wanted.
 pub fn claims_differ()
-    ensures { InEveryMember (λ g a. ClaimsOnce (alone_plan a)) }
+    ensures { InEveryMember (λ g a. ClaimsOnce (member_plan a)) }
 {}
 
 /// In every member that calls reach, a stored packet of another publisher's part passes for the want that the member
-/// has of that part now, which for a part behind a record is of what the stored record or index packet lists. Of its
+/// has of that part now, which for a part after a record is of what the stored record or index packet lists. Of its
 /// own parts it stores those that it published and did not hide, as they were published. What is stored stays, whatever
 /// is called, as long as its publication is not hidden.
 pub fn held_parts_passed_their_checks()
@@ -153,19 +161,19 @@ pub fn hidden_publications_are_gone()
 /// Every member that calls reach is one of its group, knows all that it published, and has a sound plan. Its objects
 /// and insertion processes are within the limits, and its withdrawals are of earlier numbers.
 pub fn calls_keep_members_sound()
-    ensures alone { InEveryMember (λ g a. IsAlone a) }
+    ensures member_state { InEveryMember (λ g a. IsMemberState a) }
     ensures group { InEveryMember IsOfGroup }
-    ensures plan { InEveryMember (λ g a. PlanIsSound (alone_plan a)) }
+    ensures plan { InEveryMember (λ g a. PlanIsSound (member_plan a)) }
     ensures posts { InEveryMember (λ g a. ArePosts a.log) }
     ensures insertions { InEveryMember (λ g a. AreWithinLimits a.insertions.processes) }
 {}
 
 /// A member as each is in a sound group, whose stored packets are those of their parts, is one by itself. It stores
 /// the packets of the parts that it holds, and its log gives those of its own.
-pub fn true_members_store_what_was_published()
-    ensures alone { TrueIsAlone }
-    ensures group { TrueIsOf }
-    ensures truly { TrueStores }
+pub fn consistent_members_store_what_was_published()
+    ensures member_state { ConsistentIsMemberState }
+    ensures group { ConsistentIsOf }
+    ensures consistent { ConsistentStores }
     ensures stores { StoresThose }
     ensures logs { LogsThose }
 {}
@@ -174,7 +182,7 @@ pub fn true_members_store_what_was_published()
 /// at most 8,800 octets, which passes for that want.
 pub fn published_packets_pass()
     ensures published { WantsPublished }
-    ensures wants { WantsAreTrue }
+    ensures wants { WantsAreConsistent }
     ensures there { PacketsAreThere }
     ensures passes { PacketsPass }
     ensures for_members { PacketsPassForMembers }
@@ -184,10 +192,10 @@ pub fn published_packets_pass()
 /// parts that were published, by the want of the published part, and the packet of the part passes for it.
 pub fn holders_want_what_was_published()
     ensures members { MembersAreHolders }
-    ensures truly { HoldersStoreTruly }
+    ensures consistent { HoldersStoreConsistently }
     ensures stores { HoldersStoreThose }
     ensures published { HoldersWantPublished }
-    ensures wants { HoldersWantTruly }
+    ensures wants { HoldersWantConsistently }
     ensures passes { PacketsPassForHolders }
 {}
 
@@ -196,43 +204,43 @@ pub fn holders_want_what_was_published()
 pub fn holders_take_what_was_published()
     ensures stored { FetchedAreStored }
     ensures members { MembersTakeAll }
-    ensures truly { HoldersTakeTruly }
+    ensures consistent { HoldersTakeConsistently }
 {}
 
 /// What octets are accepted for is what the fetcher claims, and such a member accepts the packet of the part.
 pub fn claimed_parts_are_accepted()
     ensures claimed { AcceptsTheClaimed }
-    ensures taken { TakesTheTrue }
+    ensures taken { TakesTheConsistent }
 {}
 
-/// A member begins so, and stays so whatever it does, as long as what it is told and what it takes is what was
+/// A member begins so, and stays so whatever it does, as long as what it is reported and what it takes is what was
 /// published.
-pub fn true_members_stay_true()
-    ensures begins { BeginsTrue }
-    ensures publishes { PublishesTrue }
+pub fn consistent_members_stay_consistent()
+    ensures begins { BeginsConsistent }
+    ensures publishes { PublishesConsistent }
     ensures others { OthersPublish }
     ensures grown { LogsHaveGrown }
-    ensures learns { LearnsTrue }
-    ensures hears { HearsTrue }
-    ensures inserts { InsertsTrue }
-    ensures blocks { BlocksTrue }
-    ensures deletes { DeletesTrue }
-    ensures obeys { ObeysTrue }
-    ensures fires { FiresTrue }
-    ensures resets { ResetsTrue }
-    ensures restarts { RestartsTrue }
-    ensures ends_claims { EndsClaimsTrue }
-    ensures claims { ClaimsTrue }
-    ensures loses { LosesTrue }
-    ensures accepts { AcceptsTrue }
-    ensures takes { TakesTrue }
+    ensures learns { LearnsConsistent }
+    ensures hears { HearsConsistent }
+    ensures inserts { InsertsConsistent }
+    ensures blocks { BlocksConsistent }
+    ensures deletes { DeletesConsistent }
+    ensures obeys { ObeysConsistent }
+    ensures fires { FiresConsistent }
+    ensures resets { ResetsConsistent }
+    ensures restarts { RestartsConsistent }
+    ensures ends_claims { EndsClaimsConsistent }
+    ensures claims { ClaimsConsistent }
+    ensures loses { LosesConsistent }
+    ensures accepts { AcceptsConsistent }
+    ensures takes { TakesConsistent }
 {}
 
 /// The key of each node is found under its number. A sync Interest of a member tells its number and the vector, and
 /// each member takes it.
 pub fn syncs_of_members_are_taken()
     ensures keys { KeysAreFound }
-    ensures told { SyncsAreTold }
+    ensures reported { SyncsAreReported }
     ensures taken { SyncsAreTaken }
 {}
 

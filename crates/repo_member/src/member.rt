@@ -3,8 +3,9 @@ ghost use Rattle.svs_sync.specs.Suppression.{mode_of};
 ghost use Rattle.sorted_lists.specs.SortedList.{value_of};
 ghost use Rattle.repo_plan.specs.Parts.{part_cmp};
 ghost use Rattle.repo_store.specs.Served.{served};
-ghost use Rattle.repo_holdings.specs.Listed.{alone_catalogue};
-ghost use Rattle.repo_member.specs.Alone.{IsAlone, alone_opening, alone_ends_claims, alone_resets, alone_restarts};
+ghost use Rattle.repo_holdings.specs.Listed.{member_catalogue};
+ghost use Rattle.repo_member.specs.MemberState.{IsMemberState, member_opening, member_ends_claims, member_resets};
+ghost use Rattle.repo_member.specs.MemberState.{member_restarts};
 
 mod block;
 mod command;
@@ -18,7 +19,7 @@ use crate::post::Post;
 pub use block::Blocked;
 pub use command::Answered;
 use ndn_name::PacketFault;
-pub use outcome::Kept;
+pub use outcome::FetchCounts;
 pub use publishing::Published;
 use repo_catalog::Catalogue;
 use repo_holdings::Holdings;
@@ -34,7 +35,7 @@ pub use syncing::Fire;
 /// One member of a group: its publications, the numbers that it knows, the packets that it holds, the claims of its
 /// sixteen fetchers, its suppression machine, its catalogue and its insertion processes.
 ///
-/// A call that is refused has changed nothing, want of memory included.
+/// A call that is refused has changed nothing, running out of memory included.
 pub struct Member {
     number: u32,
     log: Vec<Post>,
@@ -60,13 +61,13 @@ impl Drop for Member {
 
 // A member is seen as what it has. Its plan's held parts and its catalogue follow from the packets that it stores.
 impl Model for Member {
-    ghost use Rattle.repo_member.specs.Alone.{Alone};
+    ghost use Rattle.repo_member.specs.MemberState.{MemberState};
 
-    ghost Value = { Alone };
+    ghost Value = { MemberState };
 
-    ghost use Rattle.repo_member.specs.Members.{alone, IsMember};
+    ghost use Rattle.repo_member.specs.Members.{member_state, IsMember};
 
-    ghost view = { alone };
+    ghost view = { member_state };
 
     ghost invariant = { IsMember };
 }
@@ -83,7 +84,7 @@ impl Member {
         requires number { number < length g.now.members.names }
         requires early { now < 2 ^ 62 }
         ensures { IfOk result (λ member.
-            member ≡ alone_opening (length g.now.members.names) number now draw) }
+            member ≡ member_opening (length g.now.members.names) number now draw) }
     {
         let members = g.roster().len();
         Ok(Member {
@@ -98,7 +99,7 @@ impl Member {
 
     /// The objects that the member published or wholly fetched, and that it does not know to be withdrawn.
     pub fn catalogue(&self) -> &Catalogue
-        ensures { result.now.entries ≡ alone_catalogue self.now.store }
+        ensures { result.now.entries ≡ member_catalogue self.now.store }
     {
         self.held.catalogue()
     }
@@ -108,7 +109,7 @@ impl Member {
     // A caller sees the value alone, so `sound` states what holds of every member.
     pub fn vector(&self) -> &Vector
         ensures known { result.now ≡ self.now.known }
-        ensures sound { IsAlone self.now }
+        ensures sound { IsMemberState self.now }
     {
         &self.vector
     }
@@ -167,7 +168,7 @@ impl Member {
 
     /// Every fetcher's claim ends. It takes no memory.
     pub fn end_claims(&mut self)
-        ensures { self.new ≡ alone_ends_claims self.old }
+        ensures { self.new ≡ member_ends_claims self.old }
     {
         self.held.end_claims();
     }
@@ -176,7 +177,7 @@ impl Member {
     pub fn reset(&mut self, now: u64, draw: u32)
         requires early { now < 2 ^ 62 }
         requires few { self.old.machine.draws < 2 ^ 62 }
-        ensures { self.new ≡ alone_resets now draw self.old }
+        ensures { self.new ≡ member_resets now draw self.old }
     {
         self.machine.reset(now, draw);
     }
@@ -186,7 +187,7 @@ impl Member {
     pub fn restart(&mut self, now: u64, draw: u32)
         requires early { now < 2 ^ 62 }
         requires few { self.old.machine.draws < 2 ^ 62 }
-        ensures { self.new ≡ alone_restarts now draw self.old }
+        ensures { self.new ≡ member_restarts now draw self.old }
     {
         self.end_claims();
         self.processes.clear();

@@ -51,10 +51,10 @@ impl From<AllocError> for WithdrawRefusal {
 /// Why a sync Interest was not taken, in the order of the tests.
 #[derive(Clone, Copy, Debug, PartialEq, Eq, Error)]
 pub enum HearRefusal {
-    /// The octets are no sync Interest of the group. Want of memory is not among these refusals.
+    /// The octets are no sync Interest of the group. Running out of memory is not among these refusals.
     #[error("{0}")]
     Sync(SyncRefusal),
-    /// The vector tells of more publications of this member than it made.
+    /// The vector reports more publications of this member than it made.
     #[error("{told} publications of this member are told, and it made {own}")]
     OwnNumberAhead { own: u32, told: u32 },
     #[error("out of memory")]

@@ -5,22 +5,22 @@ use Rattle.std.specs.Prelude.{◌==◌}
 use Rattle.std.specs.List.{All}
 use Rattle.std.specs.Option.{option_and_then}
 use Rattle.std.proofs.lemmas.Bool.{eqb-true}
-use Rattle.repo_plan.specs.Parts.{Pair, pair_of, part_of, parts_behind}
+use Rattle.repo_plan.specs.Parts.{Pair, pair_of, part_of, parts_after}
 use Rattle.sorted_lists.proofs.Sets.{In, from_map}
 use Rattle.sorted_lists.proofs.Members.{all_in, in_all}
 use Rattle.repo_object.specs.Publication.{Listed, RecordSays}
 use Rattle.repo_object.specs.Publication.RecordSays.{Lists, WithdrawsNumber}
-use Rattle.repo_object.specs.Verdict.{said_in}
+use Rattle.repo_object.specs.Verdict.{stated_in}
 use Rattle.repo_catalog.specs.declared.entry.Entry.{Entry}
 use Rattle.repo_holdings.specs.KeptValues.{with_kept, kept_values}
 use Rattle.repo_holdings.specs.Records.{Packet, records_in}
-use Rattle.repo_holdings.specs.Gaining.{told_of}
-use Rattle.repo_holdings.specs.Listed.{alone_catalogue, entries_in, entry_listed, entry_of_listing, are_stored}
-use Rattle.repo_holdings.specs.Listed.{is_withdrawn, listed_shape, listing_in, object_said}
+use Rattle.repo_holdings.specs.Gaining.{summary_of}
+use Rattle.repo_holdings.specs.Listed.{member_catalogue, entries_in, entry_listed, entry_of_listing, are_stored}
+use Rattle.repo_holdings.specs.Listed.{is_withdrawn, listed_shape, listing_in, object_stated}
 use Rattle.repo_watch.specs.declared.pattern.Pattern.{Pattern}
 use Rattle.repo_watch.specs.Patterns.{accepts}
 use Rattle.repo_mirror.specs.Mirrors.{is_entry_accepted}
-use Rattle.repo_mirror.specs.Passing.{is_told_kept, is_packet_kept}
+use Rattle.repo_mirror.specs.Passing.{is_reported_kept, is_packet_kept}
 use Rattle.repo_mirror.specs.KeptPackets.{IsKeptPacket, AreKeptPackets}
 
 -- where a value of a map comes from
@@ -48,41 +48,42 @@ from_records (e ∷ es) x i = go (λ j. inr (from_records es x j)) (e.0.part == 
   go later false p j = later j
 
 -- the record of an object that is kept is of one that the pattern is for
-pub record_accepted : (pattern : Pattern) (pair : Pair) (octets : List ℕ) (l : Listed) → said_in octets ≡ Some (Lists l)
+pub record_accepted : (pattern : Pattern) (pair : Pair) (octets : List ℕ) (l : Listed) → stated_in octets
+    ≡ Some (Lists l)
     → is_packet_kept pattern (part_of pair 0) octets ≡ true → accepts pattern pair.0 l.name ≡ true
-record_accepted pattern pair octets l said kept =
-    sym (ap (λ (o : Option RecordSays). is_told_kept pattern pair.0 (option_map told_of o)) said) ∙ kept
+record_accepted pattern pair octets l stated kept =
+    sym (ap (λ (o : Option RecordSays). is_reported_kept pattern pair.0 (option_map summary_of o)) stated) ∙ kept
 
 module _ (pattern : Pattern) (store : List Packet) (are : AreKeptPackets pattern store) where
   accepted_entry : (pair : Pair) (octets : List ℕ) (e : Entry) → In (part_of pair 0, octets) store
       → cond (is_withdrawn store pair) None (option_and_then (entry_listed store pair) (listing_in octets)) ≡ Some e
       → is_entry_accepted pattern e ≡ true
   accepted_entry pair octets e i h = withdrawn (is_withdrawn store pair) h where
-    listed : (l : Listed) → said_in octets ≡ Some (Lists l) → (b : Bool)
+    listed : (l : Listed) → stated_in octets ≡ Some (Lists l) → (b : Bool)
         → (let none : Option Entry = None in cond b (Some (entry_of_listing store pair l)) none ≡ Some e)
         → is_entry_accepted pattern e ≡ true
-    listed l said false k = absurd cc
-    listed l said true k =
+    listed l stated false k = absurd cc
+    listed l stated true k =
         let same : entry_of_listing store pair l ≡ e = cc in
         ap (is_entry_accepted pattern) (sym same)
-        ∙ record_accepted pattern pair octets l said
+        ∙ record_accepted pattern pair octets l stated
         (in_all (IsKeptPacket pattern) store (part_of pair 0, octets) are i).kept
 
-    said : (s : Option RecordSays) → said_in octets ≡ s
-        → option_and_then (entry_listed store pair) (option_and_then object_said s) ≡ Some e
+    stated : (s : Option RecordSays) → stated_in octets ≡ s
+        → option_and_then (entry_listed store pair) (option_and_then object_stated s) ≡ Some e
         → is_entry_accepted pattern e ≡ true
-    said None p k = absurd cc
-    said (Some (Lists l)) p k = listed l p (are_stored store pair (parts_behind (listed_shape l))) k
-    said (Some (WithdrawsNumber seq)) p k = absurd cc
+    stated None p k = absurd cc
+    stated (Some (Lists l)) p k = listed l p (are_stored store pair (parts_after (listed_shape l))) k
+    stated (Some (WithdrawsNumber seq)) p k = absurd cc
 
     withdrawn : (b : Bool) → cond b None (option_and_then (entry_listed store pair) (listing_in octets)) ≡ Some e
         → is_entry_accepted pattern e ≡ true
     withdrawn true k = absurd cc
-    withdrawn false k = said (said_in octets) refl k
+    withdrawn false k = stated (stated_in octets) refl k
 
-  pub lists_accepted : All (λ e. is_entry_accepted pattern e ≡ true) (alone_catalogue store)
+  pub lists_accepted : All (λ e. is_entry_accepted pattern e ≡ true) (member_catalogue store)
   lists_accepted =
-      all_in (λ (e : Entry). is_entry_accepted pattern e ≡ true) (alone_catalogue store) (λ e i.
+      all_in (λ (e : Entry). is_entry_accepted pattern e ≡ true) (member_catalogue store) (λ e i.
       let x = from_map (λ (y : Pair × Entry). y.1) (entries_in store) e i in
       let r = from_kept (λ pair octets.
       cond (is_withdrawn store pair) None (option_and_then (entry_listed store pair) (listing_in octets)))

@@ -31,7 +31,7 @@ reached_opening pattern members = record {
 
 reached_call : (call : MirrorCall) (m : MirrorState) → IsAllowedMirrorCall m call → IsReached m
     → IsReached (after_mirror_call call m)
-reached_call (Learn told) m can r =
+reached_call (Learn reported) m can r =
     record { in_order = r.in_order; recorded = r.recorded; gone = r.gone; packets = r.packets }
 reached_call (TakeOutcome jobs parts attempts) m can r = reached_takes m jobs parts attempts can.0 can.1 r
 
@@ -56,14 +56,15 @@ passed_is_gone m r t h = go (value_of part_cmp m.store t) (sym (contains-value m
 
 pub stored_stays : StoredStays
 stored_stays [] m t octets h = h
-stored_stays (Learn told ∷ calls) m t octets h = stored_stays calls (after_mirror_call (Learn told) m) t octets h
+stored_stays (Learn reported ∷ calls) m t octets h = stored_stays calls (after_mirror_call (Learn reported) m) t octets
+    h
 stored_stays (TakeOutcome jobs parts attempts ∷ calls) m t octets h =
     stored_stays calls (after_mirror_call (TakeOutcome jobs parts attempts) m) t octets
     (fetched_stays (that_are_kept m.pattern (outcome_of jobs parts attempts)) m.store t octets h)
 
 pub passed_stays : PassedStays
 passed_stays [] m pair h = h
-passed_stays (Learn told ∷ calls) m pair h = passed_stays calls (after_mirror_call (Learn told) m) pair h
+passed_stays (Learn reported ∷ calls) m pair h = passed_stays calls (after_mirror_call (Learn reported) m) pair h
 passed_stays (TakeOutcome jobs parts attempts ∷ calls) m pair h =
     let newly = passed_over m.pattern (outcome_of jobs parts attempts) in
     passed_stays calls (after_mirror_call (TakeOutcome jobs parts attempts) m) pair
@@ -72,8 +73,8 @@ passed_stays (TakeOutcome jobs parts attempts ∷ calls) m pair h =
 pub knows_the_join : KnowsTheJoin
 unfolding join_all
 knows_the_join [] m = sym (join-[] m.known)
-knows_the_join (Learn told ∷ calls) m =
-    knows_the_join calls (after_mirror_call (Learn told) m)
-    ∙ join_assoc m.known told (join_all (vectors_learnt calls))
+knows_the_join (Learn reported ∷ calls) m =
+    knows_the_join calls (after_mirror_call (Learn reported) m)
+    ∙ join_assoc m.known reported (join_all (vectors_learnt calls))
 knows_the_join (TakeOutcome jobs parts attempts ∷ calls) m =
     knows_the_join calls (after_mirror_call (TakeOutcome jobs parts attempts) m)

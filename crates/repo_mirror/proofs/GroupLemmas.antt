@@ -10,15 +10,15 @@ use Rattle.group_model.specs.Sound.{IsKnown}
 use Rattle.repo_mirror.specs.Mirrors.{IsWantedByMirror}
 use Rattle.repo_mirror.proofs.Wants.{want_those}
 use Rattle.repo_mirror.proofs.Lists as mirrors
-use Rattle.repo_member.specs.Alone.{alone_opening}
-use Rattle.repo_member.proofs.PublicLaws.{plans_alike, lists_alike, begins_truly, stays_true}
-use Rattle.repo_member.specs.TrueHolders.{alone_with}
+use Rattle.repo_member.specs.MemberState.{member_opening}
+use Rattle.repo_member.proofs.PublicLaws.{plans_alike, lists_alike, begins_consistently, stays_consistent}
+use Rattle.repo_member.specs.ConsistentHolders.{member_with}
 use Rattle.repo_mirror.specs.MirrorState.{MirrorState, mirror_opening, mirror_holdings}
-use Rattle.repo_mirror.specs.TrueMirrors.{mirror_in_group, MirrorsPlanAlike, MirrorsWantAlike}
-use Rattle.repo_mirror.specs.TrueMirrors.{MirrorsListAlike, MirrorsBeginTrue, MirrorsLearnTrue}
+use Rattle.repo_mirror.specs.ConsistentMirrors.{mirror_in_group, MirrorsPlanAlike, MirrorsWantAlike}
+use Rattle.repo_mirror.specs.ConsistentMirrors.{MirrorsListAlike, MirrorsBeginConsistent, MirrorsLearnConsistent}
 
 pub mirrors_plan_alike : MirrorsPlanAlike
-mirrors_plan_alike g logs m are is = plans_alike g logs (alone_with (mirror_holdings m)) are is.stored
+mirrors_plan_alike g logs m are is = plans_alike g logs (member_with (mirror_holdings m)) are is.stored
 
 pub mirrors_want_alike : MirrorsWantAlike
 mirrors_want_alike g logs m t are is =
@@ -27,7 +27,7 @@ mirrors_want_alike g logs m t are is =
 
 pub mirrors_list_alike : MirrorsListAlike
 mirrors_list_alike g logs m are is =
-    lists_alike g logs (alone_with (mirror_holdings m)) are is.stored
+    lists_alike g logs (member_with (mirror_holdings m)) are is.stored
     ∙ mirrors.lists m.pattern logs (mirror_in_group m) is.sound
 
 -- ---- what lasts
@@ -37,8 +37,8 @@ nothing_known zero p = refl
 nothing_known (suc n) zero = refl
 nothing_known (suc n) (suc p) = nothing_known n p
 
-pub mirrors_begin_true : MirrorsBeginTrue
-mirrors_begin_true g logs pattern =
+pub mirrors_begin_consistent : MirrorsBeginConsistent
+mirrors_begin_consistent g logs pattern =
     let m : MirrorState = mirror_opening pattern (length logs) in
     let zero_number : ℕ = 0 in
     record {
@@ -48,29 +48,31 @@ mirrors_begin_true g logs pattern =
       };
       sound = record { kept = λ t h. absurd cc; passed = λ pair h. absurd cc };
       stored =
-          stays_true g logs (alone_opening 0 0 0 0) (alone_with (mirror_holdings m)) refl (begins_truly g logs 0 0 0 0);
+          stays_consistent g logs (member_opening 0 0 0 0) (member_with (mirror_holdings m)) refl
+          (begins_consistently g logs 0 0 0 0);
     }
 
-joined_knows : (v told : List ℕ) (pair : Pair) → IsKnown v pair → IsKnown (join v told) pair
-joined_knows v told pair k =
-    let at = join-at v told pair.0 in
+joined_knows : (v reported : List ℕ) (pair : Pair) → IsKnown v pair → IsKnown (join v reported) pair
+joined_knows v reported pair k =
+    let at = join-at v reported pair.0 in
     record { from_one = k.from_one; to_known = omega (arith, at, k.to_known) }
 
-pub mirrors_learn_true : MirrorsLearnTrue
-mirrors_learn_true g logs m told true_told is =
-    let next : MirrorState = record m { known = join m.known told } in
+pub mirrors_learn_consistent : MirrorsLearnConsistent
+mirrors_learn_consistent g logs m reported consistent_reported is =
+    let next : MirrorState = record m { known = join m.known reported } in
     record {
       vector = record {
-        width = length-join m.known told (is.vector.width ∙ sym true_told.width) ∙ is.vector.width;
+        width = length-join m.known reported (is.vector.width ∙ sym consistent_reported.width) ∙ is.vector.width;
         no_more = λ p.
-            let at = join-at m.known told p in
-            let mine = is.vector.no_more p in let theirs = true_told.no_more p in omega (arith, at, mine, theirs);
+            let at = join-at m.known reported p in
+            let mine = is.vector.no_more p in let theirs = consistent_reported.no_more p in omega
+            (arith, at, mine, theirs);
       };
       sound = record {
         kept = λ t h.
             let s = is.sound.kept t h in
             record {
-              known = joined_knows m.known told (pair_of t) s.known;
+              known = joined_knows m.known reported (pair_of t) s.known;
               publisher = s.publisher;
               counted = s.counted;
               with_record = s.with_record;
@@ -80,10 +82,11 @@ mirrors_learn_true g logs m told true_told is =
         passed = λ pair h.
             let s = is.sound.passed pair h in
             record {
-              known = joined_knows m.known told pair s.known;
+              known = joined_knows m.known reported pair s.known;
               publisher = s.publisher;
               not_accepted = s.not_accepted;
             };
       };
-      stored = stays_true g logs (alone_with (mirror_holdings m)) (alone_with (mirror_holdings next)) refl is.stored;
+      stored = stays_consistent g logs (member_with (mirror_holdings m)) (member_with (mirror_holdings next)) refl
+          is.stored;
     }

@@ -1,20 +1,20 @@
 -- Mirrors of a group that has published more.
 use Rattle.std.proofs.Common.{◌≡◌, ◌≤◌, true, sym, ap, ◌∙◌, subst, arith}
-use Rattle.repo_plan.specs.Parts.{Pair, pair_of, parts_behind}
+use Rattle.repo_plan.specs.Parts.{Pair, pair_of, parts_after}
 use Rattle.repo_object.specs.Objects.{Post, shape_in}
 use Rattle.group_model.specs.Publications.{post_at}
 use Rattle.group_model.specs.Sound.{IsKnown}
 use Rattle.repo_mirror.specs.Asked.{is_kept_post}
-use Rattle.repo_member.proofs.PublicLaws.{grows_truly}
-use Rattle.repo_member.specs.TrueHolders.{alone_with}
+use Rattle.repo_member.proofs.PublicLaws.{grows_consistently}
+use Rattle.repo_member.specs.ConsistentHolders.{member_with}
 use Rattle.repo_member.proofs.LastingPackets.{grown_last, grown_post}
 use Rattle.repo_mirror.specs.MirrorState.{mirror_holdings}
-use Rattle.repo_mirror.specs.TrueMirrors.{MirrorsGrowTrue}
+use Rattle.repo_mirror.specs.ConsistentMirrors.{MirrorsGrowConsistent}
 use Rattle.repo_plan.specs.Parts.{part_cmp, parent}
 use Rattle.sorted_lists.specs.SortedList.{contains, keys}
 
-pub mirrors_grow_true : MirrorsGrowTrue
-mirrors_grow_true g logs later m grows wide is = record {
+pub mirrors_grow_consistent : MirrorsGrowConsistent
+mirrors_grow_consistent g logs later m grows wide is = record {
   vector = record {
     width = is.vector.width ∙ sym wide;
     no_more = λ p.
@@ -28,7 +28,7 @@ mirrors_grow_true g logs later m grows wide is = record {
         record {
           known = s.known;
           publisher = s.publisher;
-          counted = subst (λ (o : Post). t.part ≤ parts_behind (shape_in o)) (sym same) s.counted;
+          counted = subst (λ (o : Post). t.part ≤ parts_after (shape_in o)) (sym same) s.counted;
           with_record = s.with_record;
           with_parent =
               subst (λ (o : Post). contains part_cmp (keys m.store) (parent (shape_in o) t) ≡ true) (sym same)
@@ -43,7 +43,7 @@ mirrors_grow_true g logs later m grows wide is = record {
           not_accepted = ap (is_kept_post m.pattern pair.0) (post pair s.known) ∙ s.not_accepted;
         };
   };
-  stored = grows_truly g logs later (alone_with (mirror_holdings m)) grows is.stored;
+  stored = grows_consistently g logs later (member_with (mirror_holdings m)) grows is.stored;
 } where
   post : (pair : Pair) → IsKnown m.known pair → post_at later pair ≡ post_at logs pair
   post pair k =

@@ -13,7 +13,7 @@ use Rattle.repo_plan.specs.Plan.{is_in}
 use Rattle.repo_plan.proofs.Orders.{exact_parts, exact_pairs}
 use Rattle.sorted_lists.proofs.Sets.{In, contains_in, eq_same, eq_itself, in_map, contains-insert_key}
 use Rattle.sorted_lists.proofs.Members.{in_at}
-use Rattle.repo_object.specs.Verdict.{said_in}
+use Rattle.repo_object.specs.Verdict.{stated_in}
 use Rattle.repo_holdings.specs.Records.{Packet}
 use Rattle.repo_holdings.specs.Listed.{is_withdrawal, withdrawn_by}
 use Rattle.repo_holdings.specs.HoldingsState.{HoldingsState, held_plan}
@@ -60,7 +60,7 @@ not_withdrawal stored pair none =
     go (value_of part_cmp stored (part_of pair 0))
     (sym (contains-value stored (part_of pair 0)) ∙ none (part_of pair 0) refl) where
       go : (o : Option (List ℕ)) → is_some o ≡ false
-          → is_some (option_and_then (withdrawn_by pair) (option_and_then said_in o)) ≡ false
+          → is_some (option_and_then (withdrawn_by pair) (option_and_then stated_in o)) ≡ false
       go None h = refl
       go (Some octets) h = absurd (true≢false h)
 

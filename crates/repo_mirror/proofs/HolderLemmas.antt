@@ -9,10 +9,10 @@ use Rattle.repo_mirror.specs.Asked.{asked_numbers}
 use Rattle.repo_mirror.proofs.Wants.{asked_of_publisher, known_asked}
 use Rattle.repo_member.specs.Groups.{GroupKeys}
 use Rattle.repo_mirror.specs.MirrorState.{MirrorState}
-use Rattle.repo_mirror.specs.TrueMirrors.{IsTrueMirror, MirrorsAreHolders}
+use Rattle.repo_mirror.specs.ConsistentMirrors.{IsConsistentMirror, MirrorsAreHolders}
 use Rattle.repo_mirror.proofs.AskedLemmas.{length-asked}
 
-module _ (g : GroupKeys) (logs : Logs) (m : MirrorState) (is : IsTrueMirror g logs m) where
+module _ (g : GroupKeys) (logs : Logs) (m : MirrorState) (is : IsConsistentMirror g logs m) where
   -- of whom it doesn't ask it knows nothing
   no_more : (p : ℕ) → get_or (asked_numbers m.pattern.publisher 0 m.known) p 0 ≤ last_of logs p
   no_more p =

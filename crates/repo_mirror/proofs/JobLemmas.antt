@@ -18,7 +18,7 @@ use Rattle.repo_holdings.specs.StoredParents.{lists_at}
 use Rattle.repo_holdings.specs.Gaining.{IsArrival}
 use Rattle.repo_holdings.specs.Taking.{Fetched, came, CanBeTaken, PartsDiffer}
 use Rattle.repo_holdings.specs.declared.holdings.taking.Tried.{Tried}
-use Rattle.repo_holdings.specs.declared.told.Arrival.{Arrival}
+use Rattle.repo_holdings.specs.declared.record_summary.Arrival.{Arrival}
 use Rattle.repo_member.specs.Outcomes.{outcome_of}
 use Rattle.repo_member.proofs.MemberLemmas.{want_at_lists}
 use Rattle.repo_mirror.specs.MirrorState.{MirrorState, fetch_plan}
@@ -74,10 +74,10 @@ module _ (m : MirrorState) where
   outcome_differs jobs parts ns are apart = subst PartsDiffer (sym (parts_fetched jobs parts ns are)) apart
 
   module _ (job : Job) (part : Option CheckedPart) (n : ℕ) where
-    pub first_job : (jobs later : List Job) (parts behind : List (Option CheckedPart)) (ns rest : List ℕ)
-        → jobs ≡ job ∷ later → parts ≡ part ∷ behind → ns ≡ n ∷ rest → AreFetchedFor m jobs parts ns
-        → IsFetchedFor m job part n × AreFetchedFor m later behind rest
-    first_job jobs later parts behind ns rest j p t are = rw (j, p, t) at are
+    pub first_job : (jobs later : List Job) (parts after : List (Option CheckedPart)) (ns rest : List ℕ)
+        → jobs ≡ job ∷ later → parts ≡ part ∷ after → ns ≡ n ∷ rest → AreFetchedFor m jobs parts ns
+        → IsFetchedFor m job part n × AreFetchedFor m later after rest
+    first_job jobs later parts after ns rest j p t are = rw (j, p, t) at are
 
     -- what came of it
     abbrev pub fetched : Fetched
@@ -87,17 +87,17 @@ module _ (m : MirrorState) where
       attempts = n;
     }
 
-    pub first_outcome : (jobs later : List Job) (parts behind : List (Option CheckedPart)) (ns rest : List ℕ)
-        → jobs ≡ job ∷ later → parts ≡ part ∷ behind → ns ≡ n ∷ rest
-        → outcome_of jobs parts ns ≡ fetched ∷ outcome_of later behind rest
-    first_outcome jobs later parts behind ns rest j p t = rw (j, p, t) refl
+    pub first_outcome : (jobs later : List Job) (parts after : List (Option CheckedPart)) (ns rest : List ℕ)
+        → jobs ≡ job ∷ later → parts ≡ part ∷ after → ns ≡ n ∷ rest
+        → outcome_of jobs parts ns ≡ fetched ∷ outcome_of later after rest
+    first_outcome jobs later parts after ns rest j p t = rw (j, p, t) refl
 
     module _ (x : Tried) (is : IsFetchedFor m job part n) (same : x.part ≡ job.want.part) (tried : x.attempts ≡ n) where
       pub came_is : option_map (λ (y : Arrival). y.packet) x.arrival ≡ option_map (λ (c : CheckedPart). c.octets) part
           → came x ≡ fetched
       came_is packet = λ i. record { part = same i; packet = packet i; attempts = tried i }
 
-      pub can_be_taken : IfSome x.arrival (λ y. IsArrival m.store x.part y.packet y.told)
+      pub can_be_taken : IfSome x.arrival (λ y. IsArrival m.store x.part y.packet y.summary)
           → CanBeTaken (fetch_plan m) m.store x
       can_be_taken arrived =
           let wanted = wanted_parts (fetch_plan m) job.want.part is.part_wanted in

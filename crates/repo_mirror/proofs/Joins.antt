@@ -9,7 +9,7 @@ use Rattle.svs_vector.specs.Vectors.{join_all}
 use Rattle.svs_vector.proofs.JoinLemmas.{join-at}
 use Rattle.repo_plan.specs.declared.part.Part.{Part}
 use Rattle.sorted_lists.specs.SortedList.{contains}
-use Rattle.repo_plan.specs.Parts.{Pair, pair_cmp, pair_of, part_of, record_of, parent, parent_number, parts_behind}
+use Rattle.repo_plan.specs.Parts.{Pair, pair_cmp, pair_of, part_of, record_of, parent, parent_number, parts_after}
 use Rattle.sorted_lists.proofs.Sets.{In}
 use Rattle.repo_object.specs.Objects.{Post, shape_in, contents_of, withdraws_number}
 use Rattle.repo_watch.specs.declared.pattern.Pattern.{Pattern}
@@ -24,7 +24,7 @@ use Rattle.group_model.specs.Laws.{NothingHidden}
 use Rattle.group_model.proofs.Lists.{all_in, in_at, same_filter, same_any}
 use Rattle.group_model.proofs.Parts.{IsIn, in_published, publisher_within, IsPartOf, from_parts_in}
 use Rattle.group_model.proofs.Parents.{parent_within, parent_of_parent}
-use Rattle.group_model.proofs.Settles.{someone, told_by, settled_no_more}
+use Rattle.group_model.proofs.Settles.{someone, reported_by, settled_no_more}
 use Rattle.repo_mirror.specs.Asked.{is_kept}
 use Rattle.repo_mirror.specs.Mirrors.{Mirror, mirror_holds, IsPartAskedFor, IsSoundMirror, mirror_knows_withdrawn}
 use Rattle.repo_mirror.specs.Mirrors.{is_listed_by_mirror, is_entry_accepted}
@@ -33,10 +33,10 @@ use Rattle.repo_mirror.proofs.Lists.{kept_object, kept_of}
 
 -- ---- the vector
 
-none_told : (ms : List Member) (p : ℕ) → length ms ≤ 0 → get_or (join_all (map (λ m. m.known) ms)) p 0 ≡ 0
+none_reported : (ms : List Member) (p : ℕ) → length ms ≤ 0 → get_or (join_all (map (λ m. m.known) ms)) p 0 ≡ 0
 unfolding join_all
-none_told [] p h = refl
-none_told (m ∷ ms) p h = absurd (omega (arith, h))
+none_reported [] p h = refl
+none_reported (m ∷ ms) p h = absurd (omega (arith, h))
 
 pub learn_all : MirrorsLearnAll
 learn_all w m s v p =
@@ -48,7 +48,7 @@ learn_all w m s v p =
       no_more : get_or (settled_vector w) p 0 ≤ last_of (logs w) p
       no_more = elim (cases_lt 0 (length w.members)) [
         | inl l ↦ settled_no_more w s 0 l p
-        | inr none ↦ let nothing = none_told w.members p none in omega (arith, nothing)
+        | inr none ↦ let nothing = none_reported w.members p none in omega (arith, nothing)
       ]
 
       nobody : length w.members ≤ p → last_of (logs w) p ≡ 0
@@ -61,7 +61,7 @@ learn_all w m s v p =
           → max (get_or m.known p 0) (get_or (settled_vector w) p 0) ≡ last_of (logs w) p
       go (inl l) =
           let own : get_or (member w p).known p 0 ≡ last_of (logs w) p = (s.members p l).own in
-          let up : get_or (member w p).known p 0 ≤ get_or (settled_vector w) p 0 = told_by w s p l p p l in
+          let up : get_or (member w p).known p 0 ≤ get_or (settled_vector w) p 0 = reported_by w s p l p p l in
           omega (arith, own, up, mine, no_more)
       go (inr past) = let none = nobody past in omega (arith, none, mine, no_more)
 
@@ -103,7 +103,7 @@ module _ (pattern : Pattern) (w : World) (m : Mirror) (group : IsSoundGroup w) (
       ] in
       someone w.members (member w q.publisher) t (in_at w.members q.publisher no_member publisher)
       (subst (λ (pair : Pair). member_holds (member w q.publisher) (part_of pair t.part) ≡ true) (sym p.pair)
-      (held t.part (subst (λ (o : Post). t.part ≤ parts_behind (shape_in o)) is.post p.counted)))
+      (held t.part (subst (λ (o : Post). t.part ≤ parts_after (shape_in o)) is.post p.counted)))
 
   module _ (q : Publication) (is : IsIn (logs w) q)
       (asked : is_publisher pattern.publisher q.publisher ≡ true) where
@@ -137,12 +137,12 @@ module _ (pattern : Pattern) (w : World) (m : Mirror) (group : IsSoundGroup w) (
       counted : (t : Part) → IsPartOf t q → t.part ≤ count (logs w) (pair_of t)
       counted t p =
           subst (λ (pair : Pair). t.part ≤ count (logs w) pair) (sym p.pair)
-          (subst (λ (o : Post). t.part ≤ parts_behind (shape_in o)) is.post p.counted)
+          (subst (λ (o : Post). t.part ≤ parts_after (shape_in o)) is.post p.counted)
 
-      -- a part behind the record, where the part that lists it is held
-      behind : (t : Part) → IsPartOf t q → (t.part == 0) ≡ false
+      -- a part after the record, where the part that lists it is held
+      after : (t : Part) → IsPartOf t q → (t.part == 0) ≡ false
           → mirror_holds m (parent (shape_at (logs w) (pair_of t)) t) ≡ true → mirror_holds m t ≡ true
-      behind t p s listed =
+      after t p s listed =
           let above = eqb-false t.part 0 s in
           comes t p (inr (record {
             from_one = omega (arith, above);
@@ -160,9 +160,9 @@ module _ (pattern : Pattern) (w : World) (m : Mirror) (group : IsSoundGroup w) (
         up : Part
         up = parent (shape_at (logs w) (pair_of t)) t
 
-        there : up.part ≤ parts_behind (shape_in q.post)
+        there : up.part ≤ parts_after (shape_in q.post)
         there =
-            subst (λ (o : Post). up.part ≤ parts_behind (shape_in o))
+            subst (λ (o : Post). up.part ≤ parts_after (shape_in o))
             (ap (post_at (logs w)) p.pair ∙ sym is.post) (parent_within n t.part (counted t p))
 
         go : (b : Bool) → (parent_number (shape_at (logs w) (pair_of t)) t.part == 0) ≡ b → mirror_holds m up ≡ true
@@ -171,7 +171,7 @@ module _ (pattern : Pattern) (w : World) (m : Mirror) (group : IsSoundGroup w) (
             (eqb-true (parent_number (shape_at (logs w) (pair_of t)) t.part) 0 e)
             ∙ held_record t p
         go false e =
-            behind up (record { pair = p.pair; counted = there }) e
+            after up (record { pair = p.pair; counted = there }) e
             (ap (λ (x : ℕ). mirror_holds m (part_of (pair_of t) x)) (parent_of_parent n t.part (counted t p))
             ∙ held_record t p)
 
@@ -179,7 +179,7 @@ module _ (pattern : Pattern) (w : World) (m : Mirror) (group : IsSoundGroup w) (
       held_all t p = go (t.part == 0) refl where
         go : (b : Bool) → (t.part == 0) ≡ b → mirror_holds m t ≡ true
         go true e = comes t p (inl (eqb-true t.part 0 e))
-        go false e = behind t p e (held_parent t p)
+        go false e = after t p e (held_parent t p)
 
   module _ (q : Publication) (i : In q (published (logs w))) where
     -- of a publisher that is asked, each withdrawal is known

@@ -17,6 +17,6 @@ mod AcceptedLemmas
 mod ReachedLemmas
 mod WantedLemmas
 mod CallLemmas
-mod TrueLemmas
+mod ConsistentLemmas
 mod HolderLemmas
 pub mod PublicLaws

@@ -17,10 +17,10 @@ use Rattle.repo_plan.specs.Sound.{PlanIsSound}
 use Rattle.repo_plan.proofs.Orders.{exact_parts, exact_pairs}
 use Rattle.repo_plan.proofs.Changes.{wanted_parts}
 use Rattle.repo_object.specs.declared.job.Job.{Job}
-use Rattle.repo_object.specs.Publication.{shape_said}
-use Rattle.repo_object.specs.Verdict.{CheckedPart, IsChecked, said_in}
+use Rattle.repo_object.specs.Publication.{shape_stated}
+use Rattle.repo_object.specs.Verdict.{CheckedPart, IsChecked, stated_in}
 use Rattle.repo_holdings.specs.Records.{Packet}
-use Rattle.repo_holdings.specs.Listed.{said_at, stored_at}
+use Rattle.repo_holdings.specs.Listed.{stated_at, stored_at}
 use Rattle.repo_holdings.specs.Taking.{Fetched, PartsDiffer, with_fetched, with_all_fetched}
 use Rattle.repo_holdings.proofs.CatalogueLemmas.{shapes_value}
 use Rattle.repo_holdings.proofs.GainingLemmas.{contains-value}
@@ -55,7 +55,7 @@ sound_reached m s are = record {
 
 -- what the stored record tells
 pub shape_is : (m : MirrorState) (pair : Pair) → Rises part_cmp (keys m.store)
-    → shape_of (fetch_plan m) pair ≡ option_map shape_said (said_at m.store pair)
+    → shape_of (fetch_plan m) pair ≡ option_map shape_stated (stated_at m.store pair)
 shape_is m pair r = shapes_value m.store pair r
 
 -- a part that could be asked for is a record, or its record is stored
@@ -67,7 +67,7 @@ asked_so m t r asked =
     ∙ (and_parts (knows (fetch_plan m) (pair_of t))
     (can_be_asked (keys m.store) (shape_of (fetch_plan m) (pair_of t)) t) asked).1) where
       go : (o : Option (List ℕ)) → is_stored m.store (record_of t) ≡ is_some o
-          → can_be_asked (keys m.store) (option_map shape_said (option_and_then said_in o)) t ≡ true
+          → can_be_asked (keys m.store) (option_map shape_stated (option_and_then stated_in o)) t ≡ true
           → (t.part ≡ 0) ⊎ (is_stored m.store (record_of t) ≡ true)
       go None e h = inl (eqb-true t.part 0 h)
       go (Some octets) e h = inr e

@@ -114,8 +114,8 @@ module _ (pattern : Pattern) (ls : Logs) (members : List Member) (m new : Mirror
       record { known = k.0; publisher = k.1; part = inl z; not_held = free }
 
   -- what is held in the end, and isn't a record, is kept
-  behind_kept : (t : Part) → (t.part == 0) ≡ false → mirror_holds new t ≡ true → contains part_cmp new.kept t ≡ true
-  behind_kept t s h =
+  after_kept : (t : Part) → (t.part == 0) ≡ false → mirror_holds new t ≡ true → contains part_cmp new.kept t ≡ true
+  after_kept t s h =
       elim (or_cases (contains part_cmp new.kept t) (t.part == 0 && contains pair_cmp new.passed (pair_of t)) h) [
         | inl k ↦ k
         | inr p ↦
@@ -128,7 +128,7 @@ module _ (pattern : Pattern) (ls : Logs) (members : List Member) (m new : Mirror
       → IsWantedByMirror pattern ls a t
   part_wanted t s h a same listed free =
       let k : IsKnown m.known (pair_of t) × (is_publisher pattern.publisher t.publisher ≡ true) = of_known t h in
-      let kept : IsKeptSoundly pattern ls new t = g.sound.kept t (behind_kept t s h) in
+      let kept : IsKeptSoundly pattern ls new t = g.sound.kept t (after_kept t s h) in
       let above = eqb-false t.part 0 s in
       record {
         known = subst (λ (v : List ℕ). IsKnown v (pair_of t)) (sym same) k.0;
@@ -142,7 +142,7 @@ module _ (pattern : Pattern) (ls : Logs) (members : List Member) (m new : Mirror
         not_held = free;
       }
 
-  -- a part comes behind those that aren't held before it
+  -- a part comes after those that aren't held before it
   still_free : (r t : Part) (x : Mirror) (gained : GainsPart pattern ls r x) → (r.part == t.part) ≡ false
       → mirror_holds x t ≡ false → mirror_holds (mirror_gains pattern ls r x) t ≡ false
   still_free r t x gained other free =
@@ -163,7 +163,7 @@ module _ (pattern : Pattern) (ls : Logs) (members : List Member) (m new : Mirror
     lists_it = parent (shape_at ls (pair_of t)) t
 
     kept_last : IsKeptSoundly pattern ls new t
-    kept_last = g.sound.kept t (behind_kept t s h)
+    kept_last = g.sound.kept t (after_kept t s h)
 
     record_new : mirror_holds new (record_of t) ≡ true
     record_new =

@@ -13,12 +13,12 @@ use Rattle.repo_plan.proofs.Orders.{exact_parts, exact_pairs}
 use Rattle.sorted_lists.proofs.Sets.{eq_same, eq_itself, contains-insert_key, contains-insert_keys, rises_insert}
 use Rattle.sorted_lists.proofs.Sets.{rises_insert_keys, or_swap}
 use Rattle.sorted_lists.proofs.SameSets.{same_sets}
-use Rattle.repo_object.specs.Verdict.{said_in}
-use Rattle.repo_holdings.specs.Gaining.{told_of}
+use Rattle.repo_object.specs.Verdict.{stated_in}
+use Rattle.repo_holdings.specs.Gaining.{summary_of}
 use Rattle.repo_holdings.specs.declared.holdings.taking.Tried.{Tried}
 use Rattle.repo_holdings.specs.Taking.{Fetched, PartsDiffer, came}
 use Rattle.repo_watch.specs.declared.pattern.Pattern.{Pattern}
-use Rattle.repo_mirror.specs.Passing.{is_told_kept, is_packet_kept, is_fetched_kept, that_are_kept, not_kept}
+use Rattle.repo_mirror.specs.Passing.{is_reported_kept, is_packet_kept, is_fetched_kept, that_are_kept, not_kept}
 use Rattle.repo_mirror.specs.Passing.{passed_over}
 
 -- one key may come before the others
@@ -38,10 +38,11 @@ first_or_last k ks xs r =
 -- ---- what isn't kept is a record
 
 module _ (pattern : Pattern) where
-  told_record : (t : Part) (octets : List ℕ) → is_packet_kept pattern t octets ≡ false → t.part ≡ 0
-  told_record t octets h = go (t.part == 0) refl h where
+  reported_record : (t : Part) (octets : List ℕ) → is_packet_kept pattern t octets ≡ false → t.part ≡ 0
+  reported_record t octets h = go (t.part == 0) refl h where
     go : (b : Bool) → (t.part == 0) ≡ b
-        → is_told_kept pattern t.publisher (cond b (option_map told_of (said_in octets)) None) ≡ false → t.part ≡ 0
+        → is_reported_kept pattern t.publisher (cond b (option_map summary_of (stated_in octets)) None) ≡ false → t.part
+        ≡ 0
     go true e k = eqb-true t.part 0 e
     go false e k = absurd (true≢false k)
 
@@ -50,7 +51,7 @@ module _ (pattern : Pattern) where
     go : (o : Option (List ℕ)) → unwrap_or (option_map (is_packet_kept pattern x.part) o) true ≡ false
         → x.part.part ≡ 0
     go None k = absurd (true≢false k)
-    go (Some octets) k = told_record x.part octets k
+    go (Some octets) k = reported_record x.part octets k
 
   -- ---- one part more
 

@@ -10,14 +10,14 @@ use Rattle.sorted_lists.proofs.Lookups.{there_value}
 use Rattle.sorted_lists.proofs.Members.{in_all}
 use Rattle.repo_plan.specs.declared.part.Part.{Part}
 use Rattle.repo_plan.specs.declared.shape.Shape.{Shape}
-use Rattle.repo_plan.specs.Parts.{pair_cmp, pair_of, record_of, parent, parts_behind}
+use Rattle.repo_plan.specs.Parts.{pair_cmp, pair_of, record_of, parent, parts_after}
 use Rattle.repo_plan.specs.Plan.{holds, hides, shape_of, can_be_asked, is_asked, knows, is_wanted}
 use Rattle.repo_plan.proofs.Orders.{exact_parts}
 use Rattle.repo_plan.proofs.Changes.{wanted_parts}
-use Rattle.repo_object.specs.Publication.{Listed, RecordSays, shape_said}
+use Rattle.repo_object.specs.Publication.{Listed, RecordSays, shape_stated}
 use Rattle.repo_object.specs.Publication.RecordSays.{Lists, WithdrawsNumber}
-use Rattle.repo_object.specs.Verdict.{said_in}
-use Rattle.repo_holdings.specs.Listed.{listed_shape, listing_at, listing_in, object_said, stored_at}
+use Rattle.repo_object.specs.Verdict.{stated_in}
+use Rattle.repo_holdings.specs.Listed.{listed_shape, listing_at, listing_in, object_stated, stored_at}
 use Rattle.repo_holdings.proofs.GainingLemmas.{contains-value}
 use Rattle.group_model.specs.Sound.{IsKnown}
 use Rattle.repo_mirror.specs.Asked.{asked_numbers}
@@ -26,7 +26,7 @@ use Rattle.repo_mirror.proofs.Wants.{asked_known, known_asked}
 use Rattle.repo_member.proofs.HolderTakes.{is_stored}
 use Rattle.repo_mirror.specs.MirrorState.{MirrorState, fetch_plan}
 use Rattle.repo_mirror.specs.KeptPackets.{IsKeptPacket}
-use Rattle.repo_mirror.specs.TrueMirrors.{mirror_in_group}
+use Rattle.repo_mirror.specs.ConsistentMirrors.{mirror_in_group}
 use Rattle.repo_mirror.specs.WantedAlone.{IsPartListed, IsWantedAlone, WantsThose}
 use Rattle.repo_mirror.proofs.AcceptedLemmas.{record_accepted}
 use Rattle.repo_mirror.proofs.ReachedLemmas.{IsReached, shape_is}
@@ -48,26 +48,26 @@ module _ (m : MirrorState) (r : IsReached m) (t : Part) where
       record { from_one = leb-true 1 t.seq both.0; to_known = leb-true t.seq last both.1 }
 
   abbrev counted : Listed → Bool
-  counted l = nat_le t.part (parts_behind (listed_shape l)) && is_stored m.store (parent (listed_shape l) t)
+  counted l = nat_le t.part (parts_after (listed_shape l)) && is_stored m.store (parent (listed_shape l) t)
 
-  -- a part behind an object's record
+  -- a part after an object's record
   listed_so : (octets : List ℕ) (l : Listed) → stored_at m.store (pair_of t) 0 ≡ Some octets
-      → said_in octets ≡ Some (Lists l) → (t.part == 0) ≡ false → asked (Some (listed_shape l)) ≡ true
+      → stated_in octets ≡ Some (Lists l) → (t.part == 0) ≡ false → asked (Some (listed_shape l)) ≡ true
       → IsPartListed m t
-  listed_so octets l stored said behind h = elim (or_cases (t.part == 0) (counted l) h) [
-    | inl zero ↦ absurd (true≢false (sym zero ∙ behind))
+  listed_so octets l stored stated after h = elim (or_cases (t.part == 0) (counted l) h) [
+    | inl zero ↦ absurd (true≢false (sym zero ∙ after))
     | inr both ↦
         let up : Part = parent (listed_shape l) t in
-        let parts = and_parts (nat_le t.part (parts_behind (listed_shape l))) (is_stored m.store up) both in
+        let parts = and_parts (nat_le t.part (parts_after (listed_shape l))) (is_stored m.store up) both in
         record {
           listing = l;
-          listed = ap (option_and_then listing_in) stored ∙ ap (option_and_then object_said) said;
-          from_one = positive t.part behind;
-          counted = leb-true t.part (parts_behind (listed_shape l)) parts.0;
+          listed = ap (option_and_then listing_in) stored ∙ ap (option_and_then object_stated) stated;
+          from_one = positive t.part after;
+          counted = leb-true t.part (parts_after (listed_shape l)) parts.0;
           with_parent =
               or_left (is_stored m.store up) (up.part == 0 && contains pair_cmp m.passed (pair_of up)) parts.1;
           accepted =
-              record_accepted m.pattern (pair_of t) octets l said
+              record_accepted m.pattern (pair_of t) octets l stated
               (in_all (IsKeptPacket m.pattern) m.store (record_of t, octets) r.packets
               (there_value exact_parts m.store (record_of t) octets stored)).kept;
         }
@@ -78,32 +78,32 @@ module _ (m : MirrorState) (r : IsReached m) (t : Part) where
   part_so : asked (shape_of (fetch_plan m) (pair_of t)) ≡ true → (t.part ≡ 0) ⊎ IsPartListed m t
   part_so h =
       stored (stored_at m.store (pair_of t) 0) refl (ap asked (sym (shape_is m (pair_of t) r.in_order)) ∙ h) where
-        behind : (octets : List ℕ) (l : Listed) → stored_at m.store (pair_of t) 0 ≡ Some octets
-            → said_in octets ≡ Some (Lists l) → asked (Some (listed_shape l)) ≡ true
+        after : (octets : List ℕ) (l : Listed) → stored_at m.store (pair_of t) 0 ≡ Some octets
+            → stated_in octets ≡ Some (Lists l) → asked (Some (listed_shape l)) ≡ true
             → (b : Bool) → (t.part == 0) ≡ b → (t.part ≡ 0) ⊎ IsPartListed m t
-        behind octets l p q k true e = inl (eqb-true t.part 0 e)
-        behind octets l p q k false e = inr (listed_so octets l p q e k)
+        after octets l p q k true e = inl (eqb-true t.part 0 e)
+        after octets l p q k false e = inr (listed_so octets l p q e k)
 
-        none_behind : (b : Bool) → (t.part == 0) ≡ b
-            → (b || (nat_le t.part 0 && is_stored m.store (parent (shape_said (WithdrawsNumber 0)) t))) ≡ true
+        none_after : (b : Bool) → (t.part == 0) ≡ b
+            → (b || (nat_le t.part 0 && is_stored m.store (parent (shape_stated (WithdrawsNumber 0)) t))) ≡ true
             → t.part ≡ 0
-        none_behind true e k = eqb-true t.part 0 e
-        none_behind false e k =
+        none_after true e k = eqb-true t.part 0 e
+        none_after false e k =
             let low = leb-true t.part 0
-            (and_parts (nat_le t.part 0) (is_stored m.store (parent (shape_said (WithdrawsNumber 0)) t)) k).0 in
+            (and_parts (nat_le t.part 0) (is_stored m.store (parent (shape_stated (WithdrawsNumber 0)) t)) k).0 in
             omega (arith, low)
 
-        said : (octets : List ℕ) → stored_at m.store (pair_of t) 0 ≡ Some octets
-            → (s : Option RecordSays) → said_in octets ≡ s → asked (option_map shape_said s) ≡ true
+        stated : (octets : List ℕ) → stored_at m.store (pair_of t) 0 ≡ Some octets
+            → (s : Option RecordSays) → stated_in octets ≡ s → asked (option_map shape_stated s) ≡ true
             → (t.part ≡ 0) ⊎ IsPartListed m t
-        said octets p None q k = inl (eqb-true t.part 0 k)
-        said octets p (Some (Lists l)) q k = behind octets l p q k (t.part == 0) refl
-        said octets p (Some (WithdrawsNumber seq)) q k = inl (none_behind (t.part == 0) refl k)
+        stated octets p None q k = inl (eqb-true t.part 0 k)
+        stated octets p (Some (Lists l)) q k = after octets l p q k (t.part == 0) refl
+        stated octets p (Some (WithdrawsNumber seq)) q k = inl (none_after (t.part == 0) refl k)
 
         stored : (o : Option (List ℕ)) → stored_at m.store (pair_of t) 0 ≡ o
-            → asked (option_map shape_said (option_and_then said_in o)) ≡ true → (t.part ≡ 0) ⊎ IsPartListed m t
+            → asked (option_map shape_stated (option_and_then stated_in o)) ≡ true → (t.part ≡ 0) ⊎ IsPartListed m t
         stored None p k = inl (eqb-true t.part 0 k)
-        stored (Some octets) p k = said octets p (said_in octets) refl k
+        stored (Some octets) p k = stated octets p (stated_in octets) refl k
 
   wants_so : is_wanted (fetch_plan m) t ≡ true → IsWantedAlone m t
   wants_so h =
@@ -156,35 +156,35 @@ module _ (m : MirrorState) (r : IsReached m) (t : Part) where
   asked_too w = elim w.part [
     | inl zero ↦ record_asked (shape_of (fetch_plan m) (pair_of t)) zero
     | inr s ↦
-        ap asked (shape_is m (pair_of t) r.in_order ∙ told s.listing s.listed)
+        ap asked (shape_is m (pair_of t) r.in_order ∙ reported s.listing s.listed)
         ∙ or_right (t.part == 0) (counted s.listing)
-        (and_from (nat_le t.part (parts_behind (listed_shape s.listing)))
+        (and_from (nat_le t.part (parts_after (listed_shape s.listing)))
         (is_stored m.store (parent (listed_shape s.listing) t)) (below s.counted)
         (held_stored (parent (listed_shape s.listing) t) (listing_free s.listing s.listed) s.with_parent))
   ] where
     record_asked : (o : Option Shape) → t.part ≡ 0 → asked o ≡ true
     record_asked None zero = eq-eqb t.part 0 zero
     record_asked (Some shape) zero =
-        or_left (t.part == 0) (nat_le t.part (parts_behind shape) && is_stored m.store (parent shape t))
+        or_left (t.part == 0) (nat_le t.part (parts_after shape) && is_stored m.store (parent shape t))
         (eq-eqb t.part 0 zero)
 
     below : {n : ℕ} → t.part ≤ n → nat_le t.part n ≡ true
     below h = grind arith
 
-    told : (l : Listed) → listing_at m.store (pair_of t) ≡ Some l
-        → option_map shape_said (option_and_then said_in (stored_at m.store (pair_of t) 0)) ≡ Some (listed_shape l)
-    told l h = stored (stored_at m.store (pair_of t) 0) h where
-      said : (s : Option RecordSays) → option_and_then object_said s ≡ Some l
-          → option_map shape_said s ≡ Some (listed_shape l)
-      said None k = absurd cc
-      said (Some (Lists x)) k =
+    reported : (l : Listed) → listing_at m.store (pair_of t) ≡ Some l
+        → option_map shape_stated (option_and_then stated_in (stored_at m.store (pair_of t) 0)) ≡ Some (listed_shape l)
+    reported l h = stored (stored_at m.store (pair_of t) 0) h where
+      stated : (s : Option RecordSays) → option_and_then object_stated s ≡ Some l
+          → option_map shape_stated s ≡ Some (listed_shape l)
+      stated None k = absurd cc
+      stated (Some (Lists x)) k =
           let same : x ≡ l = cc in ap (λ (y : Listed). Some (listed_shape y)) same
-      said (Some (WithdrawsNumber seq)) k = absurd cc
+      stated (Some (WithdrawsNumber seq)) k = absurd cc
 
       stored : (o : Option (List ℕ)) → option_and_then listing_in o ≡ Some l
-          → option_map shape_said (option_and_then said_in o) ≡ Some (listed_shape l)
+          → option_map shape_stated (option_and_then stated_in o) ≡ Some (listed_shape l)
       stored None k = absurd cc
-      stored (Some octets) k = said (said_in octets) k
+      stored (Some octets) k = stated (stated_in octets) k
 
   wanted_too : IsWantedAlone m t → is_wanted (fetch_plan m) t ≡ true
   wanted_too w =

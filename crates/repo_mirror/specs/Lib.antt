@@ -15,7 +15,7 @@ pub use Rattle.group_model.specs.Wanted
 pub use Rattle.group_model.specs.Laws
 pub use Rattle.repo_member.specs.Groups
 pub use Rattle.repo_member.specs.InGroup
-pub use Rattle.repo_member.specs.TrueHolders
+pub use Rattle.repo_member.specs.ConsistentHolders
 pub mod Asked
 pub mod Mirrors
 pub mod MirrorLaws
@@ -24,6 +24,6 @@ pub mod MirrorFields
 pub mod Passing
 pub mod KeptPackets
 pub mod MirrorOutcomes
-pub mod TrueMirrors
+pub mod ConsistentMirrors
 pub mod WantedAlone
 pub mod MirrorCalls

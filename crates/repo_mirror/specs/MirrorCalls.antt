@@ -7,7 +7,7 @@ use Rattle.repo_plan.specs.declared.part.Part.{Part}
 use Rattle.repo_plan.specs.Parts.{Pair, part_cmp, pair_cmp, pair_of}
 use Rattle.repo_object.specs.declared.job.Job.{Job}
 use Rattle.repo_object.specs.Verdict.{CheckedPart, IsChecked}
-use Rattle.repo_holdings.specs.Listed.{alone_catalogue}
+use Rattle.repo_holdings.specs.Listed.{member_catalogue}
 use Rattle.repo_watch.specs.declared.pattern.Pattern.{Pattern}
 use Rattle.repo_mirror.specs.Mirrors.{is_entry_accepted}
 use Rattle.repo_member.specs.Outcomes.{outcome_of}
@@ -23,7 +23,7 @@ pub data MirrorCall : Type 0 where
 
 -- The mirror after a call.
 abbrev pub after_mirror_call : MirrorCall → MirrorState → MirrorState
-after_mirror_call (Learn told) m = record m { known = join m.known told }
+after_mirror_call (Learn reported) m = record m { known = join m.known reported }
 after_mirror_call (TakeOutcome jobs parts attempts) m = mirror_takes (outcome_of jobs parts attempts) m
 
 -- The mirror after a list of calls.
@@ -33,7 +33,7 @@ after_mirror_calls (call ∷ calls) m = after_mirror_calls calls (after_mirror_c
 
 -- The conditions of a call, but for that which keeps lists of jobs short. A checked part passed its checks by its type.
 abbrev pub IsAllowedMirrorCall : MirrorState → MirrorCall → Type 0
-IsAllowedMirrorCall m (Learn told) = length told ≡ length m.known
+IsAllowedMirrorCall m (Learn reported) = length reported ≡ length m.known
 IsAllowedMirrorCall m (TakeOutcome jobs parts attempts) =
     IsMirrorOutcome m jobs parts attempts × All (λ part. IfSome part IsChecked) parts
 
@@ -53,7 +53,7 @@ InEveryMirror P = (pattern : Pattern) (members : ℕ) (calls : List MirrorCall) 
 
 -- It lists only objects that its pattern is for.
 abbrev pub ListsAccepted : MirrorState → Type 0
-ListsAccepted m = All (λ e. is_entry_accepted m.pattern e ≡ true) (alone_catalogue m.store)
+ListsAccepted m = All (λ e. is_entry_accepted m.pattern e ≡ true) (member_catalogue m.store)
 
 -- It stores nothing of a publication that it passed over.
 abbrev pub PassedIsGone : MirrorState → Type 0
@@ -71,13 +71,13 @@ abbrev pub PassedStays : Type 0
 PassedStays = (calls : List MirrorCall) (m : MirrorState) (pair : Pair) → contains pair_cmp m.passed pair ≡ true
     → contains pair_cmp (after_mirror_calls calls m).passed pair ≡ true
 
--- The vectors that calls told it, in order.
+-- The vectors that calls reported it, in order.
 abbrev pub vectors_learnt : List MirrorCall → List (List ℕ)
 vectors_learnt [] = []
-vectors_learnt (Learn told ∷ calls) = told ∷ vectors_learnt calls
+vectors_learnt (Learn reported ∷ calls) = reported ∷ vectors_learnt calls
 vectors_learnt (TakeOutcome jobs parts attempts ∷ calls) = vectors_learnt calls
 
--- It knows the join of what it knew and of what it was told.
+-- It knows the join of what it knew and of what it was informed.
 abbrev pub KnowsTheJoin : Type 0
 KnowsTheJoin = (calls : List MirrorCall) (m : MirrorState)
     → (after_mirror_calls calls m).known ≡ join_all (m.known ∷ vectors_learnt calls)

@@ -11,7 +11,7 @@ use Rattle.group_model.specs.Publications.{Logs, last_of, join_of}
 use Rattle.group_model.specs.Member.{Member, catalogue}
 use Rattle.group_model.specs.World.{World, logs, someone_holds}
 use Rattle.group_model.specs.Steps.{settled_vector}
-use Rattle.group_model.specs.Sound.{IsSoundGroup, IsTrueVector}
+use Rattle.group_model.specs.Sound.{IsSoundGroup, IsConsistentVector}
 use Rattle.group_model.specs.Laws.{NothingHidden}
 use Rattle.repo_mirror.specs.Mirrors.{Mirror, mirror_holds, IsWantedByMirror, as_member, mirror_plan, IsSoundMirror}
 use Rattle.repo_mirror.specs.Mirrors.{mirror_gains, mirror_gains_all, ComeInTurn, path_to, mirror_catalogue}
@@ -79,7 +79,7 @@ learns_all w m = record m { known = join m.known (settled_vector w) }
 
 -- So it knows all then.
 abbrev pub MirrorsLearnAll : Type 0
-MirrorsLearnAll = (w : World) (m : Mirror) → IsSoundGroup w → IsTrueVector (logs w) m.known
+MirrorsLearnAll = (w : World) (m : Mirror) → IsSoundGroup w → IsConsistentVector (logs w) m.known
     → KnowsAll w (learns_all w m)
 
 -- A mirror that knows all and has come to rest lists, where no member hides anything, just what its pattern accepts of

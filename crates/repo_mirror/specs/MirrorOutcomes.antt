@@ -15,7 +15,7 @@ use Rattle.repo_member.specs.Groups.{GroupKeys}
 use Rattle.repo_member.specs.Outcomes.{IsOutcomeOf, jobs_of}
 use Rattle.repo_mirror.specs.MirrorState.{MirrorState, mirror_holdings, fetch_plan}
 
--- The jobs that the mirror plans, by the names of the publishers and their group: those of the next wanted parts behind
+-- The jobs that the mirror plans, by the names of the publishers and their group: those of the next wanted parts after
 -- a place.
 abbrev pub planned_jobs : List (List Component) → List Component → MirrorState → Option Part → ℕ → List Job
 planned_jobs publishers group m after most =

@@ -5,9 +5,9 @@ use Rattle.sorted_lists.specs.SortedList.{insert_keys}
 use Rattle.repo_plan.specs.declared.part.Part.{Part}
 use Rattle.repo_plan.specs.Parts.{Pair, pair_cmp, pair_of}
 use Rattle.repo_plan.specs.Plan.{PlanState, holds, is_asked}
-use Rattle.repo_holdings.specs.declared.told.Told.{Told}
-use Rattle.repo_holdings.specs.declared.told.Told.TheVariants.{Object, Withdrawal}
-use Rattle.repo_holdings.specs.Gaining.{told_in}
+use Rattle.repo_holdings.specs.declared.record_summary.RecordSummary.{RecordSummary}
+use Rattle.repo_holdings.specs.declared.record_summary.RecordSummary.TheVariants.{Object, Withdrawal}
+use Rattle.repo_holdings.specs.Gaining.{summary_in}
 use Rattle.repo_holdings.specs.Hiding.{with_hidden}
 use Rattle.repo_holdings.specs.Taking.{Fetched, with_all_fetched, with_all_tries}
 use Rattle.repo_watch.specs.declared.pattern.Pattern.{Pattern}
@@ -15,14 +15,14 @@ use Rattle.repo_watch.specs.Patterns.{accepts}
 use Rattle.repo_mirror.specs.MirrorState.{MirrorState}
 
 -- What a packet of that publisher tells is kept, unless it is the record of an object that the pattern isn't for.
-abbrev pub is_told_kept : Pattern → ℕ → Option Told → Bool
-is_told_kept pattern p None = true
-is_told_kept pattern p (Some (Object shape name)) = accepts pattern p name
-is_told_kept pattern p (Some (Withdrawal seq)) = true
+abbrev pub is_reported_kept : Pattern → ℕ → Option RecordSummary → Bool
+is_reported_kept pattern p None = true
+is_reported_kept pattern p (Some (Object shape name)) = accepts pattern p name
+is_reported_kept pattern p (Some (Withdrawal seq)) = true
 
 -- So is a packet that came for a part, by what it tells.
 abbrev pub is_packet_kept : Pattern → Part → List ℕ → Bool
-is_packet_kept pattern t octets = is_told_kept pattern t.publisher (told_in t octets)
+is_packet_kept pattern t octets = is_reported_kept pattern t.publisher (summary_in t octets)
 
 -- What came of a part is kept: such a packet, or none.
 abbrev pub is_fetched_kept : Pattern → Fetched → Bool

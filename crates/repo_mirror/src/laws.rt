@@ -1,8 +1,9 @@
 ghost use Rattle.repo_mirror.specs.MirrorOutcomes.{HolderOutcomesAreMirrors, MirrorsPlanJobs, MirrorsPlanJobsThat};
 ghost use Rattle.repo_mirror.specs.MirrorOutcomes.{PlannedJobsAreOutcomes, RisingJobsAreOutcomes};
-ghost use Rattle.repo_mirror.specs.TrueMirrors.{MirrorsPlanAlike, MirrorsWantAlike, MirrorsListAlike};
-ghost use Rattle.repo_mirror.specs.TrueMirrors.{MirrorsAreHolders};
-ghost use Rattle.repo_mirror.specs.TrueMirrors.{MirrorsBeginTrue, MirrorsLearnTrue, MirrorsGrowTrue, MirrorsTakeTrue};
+ghost use Rattle.repo_mirror.specs.ConsistentMirrors.{MirrorsPlanAlike, MirrorsWantAlike, MirrorsListAlike};
+ghost use Rattle.repo_mirror.specs.ConsistentMirrors.{MirrorsAreHolders};
+ghost use Rattle.repo_mirror.specs.ConsistentMirrors.{MirrorsBeginConsistent, MirrorsLearnConsistent};
+ghost use Rattle.repo_mirror.specs.ConsistentMirrors.{MirrorsGrowConsistent, MirrorsTakeConsistent};
 ghost use Rattle.repo_mirror.specs.KeptPackets.{AreKeptPackets};
 ghost use Rattle.repo_mirror.specs.WantedAlone.{WantsThose};
 ghost use Rattle.repo_mirror.specs.MirrorCalls.{InEveryMirror, ListsAccepted, PassedIsGone, StoredStays, PassedStays};
@@ -19,7 +20,7 @@ pub fn calls_keep_mirrors_sound()
 {}
 
 /// Whatever is called, what a mirror stores stays stored, what it passed over stays passed over, and it knows the join
-/// of what it knew and of the vectors that it was told.
+/// of what it knew and of the vectors that it was informed.
 pub fn calls_take_nothing_from_mirrors()
     ensures stored { StoredStays }
     ensures passed { PassedStays }
@@ -51,10 +52,10 @@ pub fn mirrors_are_the_groups()
 {}
 
 /// Stored packets are those of their parts from the start on, and stay so where others publish, and where the mirror is
-/// told what was published and takes packets that are those of wanted parts. Then it holds just these too.
-pub fn true_mirrors_stay_true()
-    ensures begins { MirrorsBeginTrue }
-    ensures learns { MirrorsLearnTrue }
-    ensures grows { MirrorsGrowTrue }
-    ensures takes { MirrorsTakeTrue }
+/// given what was published and takes packets that are those of wanted parts. Then it holds just these too.
+pub fn consistent_mirrors_stay_consistent()
+    ensures begins { MirrorsBeginConsistent }
+    ensures learns { MirrorsLearnConsistent }
+    ensures grows { MirrorsGrowConsistent }
+    ensures takes { MirrorsTakeConsistent }
 {}

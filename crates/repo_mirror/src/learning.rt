@@ -1,4 +1,4 @@
-// What a mirror is told.
+// What a mirror is given.
 ghost use Rattle.std.specs.Prelude.{◌≡◌, ◌≤◌, length, if◌then◌else◌};
 ghost use Rattle.svs_vector.specs.Vectors.{join};
 ghost use Rattle.repo_watch.specs.Patterns.{is_publisher};
@@ -7,20 +7,20 @@ ghost use Rattle.repo_mirror.specs.Asked.{asked_numbers};
 use repo_holdings::Holdings;
 use svs_vector::Vector;
 
-// What is told is known from now on, and what is told of the publishers that are asked is wanted.
-pub(crate) fn learn(asked: Option<u32>, vector: &mut Vector, held: &mut Holdings, told: &Vector)
-    requires width { length told.now ≡ length vector.old }
-    requires few { length told.now ≤ 16 }
+// What is reported is known from now on, and what is reported of the publishers that are asked is wanted.
+pub(crate) fn learn(asked: Option<u32>, vector: &mut Vector, held: &mut Holdings, reported: &Vector)
+    requires width { length reported.now ≡ length vector.old }
+    requires few { length reported.now ≤ 16 }
     requires known { held.old.known ≡ asked_numbers asked 0 vector.old }
-    ensures vector { vector.new ≡ join vector.old told.now }
+    ensures vector { vector.new ≡ join vector.old reported.now }
     ensures width { length vector.new ≡ length vector.old }
-    ensures held { held.new ≡ record held.old { known = asked_numbers asked 0 (join vector.old told.now) } }
+    ensures held { held.new ≡ record held.old { known = asked_numbers asked 0 (join vector.old reported.now) } }
 {
-    for member in 0..told.members() as u32 {
-        let number = asked_number(asked, member, told.get(member));
+    for member in 0..reported.members() as u32 {
+        let number = asked_number(asked, member, reported.get(member));
         held.raise(member, number);
     }
-    vector.join(told);
+    vector.join(reported);
 }
 
 // The number of a publisher that is asked, and 0 of another.

@@ -14,7 +14,7 @@ pub use group_laws::{
     mirrors_list_what_is_accepted, mirrors_want_those, settled_mirrors_hold_what_comes,
 };
 pub use laws::{
-    calls_keep_mirrors_sound, calls_take_nothing_from_mirrors, mirrors_are_holders,
-    mirrors_are_the_groups, planned_jobs_can_be_taken, true_mirrors_stay_true,
+    calls_keep_mirrors_sound, calls_take_nothing_from_mirrors, consistent_mirrors_stay_consistent,
+    mirrors_are_holders, mirrors_are_the_groups, planned_jobs_can_be_taken,
 };
 pub use mirror::Mirror;

@@ -2,7 +2,7 @@ ghost use Rattle.std.specs.Prelude.{◌≡◌, ◌≤◌, true, length, IfOk};
 ghost use Rattle.std.specs.List.{All};
 ghost use Rattle.svs_vector.specs.Vectors.{join};
 ghost use Rattle.repo_plan.specs.Leaps.{some_holds};
-ghost use Rattle.repo_holdings.specs.Listed.{alone_catalogue};
+ghost use Rattle.repo_holdings.specs.Listed.{member_catalogue};
 ghost use Rattle.repo_holdings.specs.Wanting.{AreShortNames};
 ghost use Rattle.repo_mirror.specs.Mirrors.{is_entry_accepted};
 ghost use Rattle.repo_mirror.specs.KeptPackets.{AreKeptPackets};
@@ -23,12 +23,12 @@ use std::alloc::{AllocError, Global};
 use std::marker::Model;
 use svs_vector::{Roster, Vector};
 
-/// A mirror: a pattern, the numbers that it was told, and what it holds of what its pattern is for.
+/// A mirror: a pattern, the numbers that it was reported, and what it holds of what its pattern is for.
 ///
 /// A record whose object its pattern isn't for is passed over: its packet isn't kept, and no part of that publication
 /// is wanted any more. The records of withdrawals are kept, since they take objects out of the catalogue.
 ///
-/// A call that is refused has changed nothing, want of memory included.
+/// A call that is refused has changed nothing, running out of memory included.
 pub struct Mirror {
     alloc: Global,
     pattern: Pattern,
@@ -76,15 +76,15 @@ impl Mirror {
     }
 
     /// What the vector tells is known from now on. It takes no memory.
-    pub fn learn(&mut self, told: &Vector)
-        requires { length told.now ≡ length self.old.known }
-        ensures { self.new ≡ record self.old { known = join self.old.known told.now } }
+    pub fn learn(&mut self, reported: &Vector)
+        requires { length reported.now ≡ length self.old.known }
+        ensures { self.new ≡ record self.old { known = join self.old.known reported.now } }
     {
         learn(
             self.pattern.publisher,
             &mut self.vector,
             &mut self.held,
-            told,
+            reported,
         );
     }
 
@@ -125,7 +125,7 @@ impl Mirror {
             .held_jobs(alloc, publishers, group, others, after, most)
     }
 
-    /// The numbers that the mirror was told.
+    /// The numbers that the mirror was given.
     pub fn vector(&self) -> &Vector
         ensures { result.now ≡ self.now.known }
     {
@@ -134,7 +134,7 @@ impl Mirror {
 
     /// The objects that the mirror's pattern is for of which it holds every part, and no withdrawal.
     pub fn catalogue(&self) -> &Catalogue
-        ensures whole { result.now.entries ≡ alone_catalogue self.now.store }
+        ensures whole { result.now.entries ≡ member_catalogue self.now.store }
         ensures accepted { All (λ e. is_entry_accepted self.now.pattern e ≡ true) result.now.entries }
     {
         self.held.catalogue()

@@ -13,17 +13,17 @@ use Rattle.sorted_lists.specs.Range.{numbers_from}
 use Rattle.sorted_lists.proofs.Ranges.{length-numbers}
 use Rattle.repo_object.specs.Cuts.{piece, pieces, AreCut}
 
--- the pieces behind the first are those of what is behind it
-pieces_behind : (size : ℕ) (content : List ℕ) (first n : ℕ)
+-- the pieces after the first are those of what is after it
+pieces_after : (size : ℕ) (content : List ℕ) (first n : ℕ)
     → map (piece size content) (numbers_from (first + 1) n)
     ≡ map (piece size (drop size content)) (numbers_from first n)
-pieces_behind size content first zero = refl
-pieces_behind size content first (suc n) =
+pieces_after size content first zero = refl
+pieces_after size content first (suc n) =
     let far : size + first * size ≡ (first + 1) * size = omega arith in
     let here : piece size content (first + 1) ≡ piece size (drop size content) first =
     ap (take size) (sym (drop-drop (first * size) size content ∙ ap (λ (k : ℕ). drop k content) far)) in
     ap (λ (p : List ℕ). p ∷ map (piece size content) (numbers_from (first + 1 + 1) n)) here
-    ∙ ap (λ (ps : List (List ℕ)). piece size (drop size content) first ∷ ps) (pieces_behind size content (first + 1) n)
+    ∙ ap (λ (ps : List (List ℕ)). piece size (drop size content) first ∷ ps) (pieces_after size content (first + 1) n)
 
 count-none : (size : ℕ) → 0 < size → div_ceil 0 size ≡ 0
 count-none size some = omega (arith, zero-div size, mod-eq_of_lt {n = 0} some)
@@ -52,7 +52,7 @@ pieces-more size content some more =
     ap (λ (n : ℕ). map (piece size content) (numbers_from 0 n)) (count-more size (length content) some more)
     ∙ ap (λ (k : ℕ). take size (drop k content) ∷ map (piece size content) (numbers_from 1 n)) begins
     ∙ ap (λ (ps : List (List ℕ)). take size content ∷ ps)
-    (pieces_behind size content 0 (div_ceil (length content - size) size)
+    (pieces_after size content 0 (div_ceil (length content - size) size)
     ∙ ap (λ (len : ℕ). map (piece size (drop size content)) (numbers_from 0 (div_ceil len size)))
     (sym (length-drop size content)))
 

@@ -3,14 +3,14 @@ use Rattle.std.proofs.Common.{◌≡◌, ℕ, ◌+◌, eqb, Bool, List, [], ◌�
 use Rattle.std.proofs.Common.{sym}
 use Rattle.std.proofs.Common.{◌∙◌, inl, inr, arith}
 use Rattle.std.proofs.lemmas.Bool.{eq-eqb, ne_eqb, cases_eq}
-use Rattle.ndn_tlv.specs.declared.order_table.FieldFault.{FieldFault}
+use Rattle.ndn_tlv.specs.declared.order_table.FieldError.{FieldError}
 use Rattle.ndn_tlv.specs.Listing.{Listing, nothing, only_fault, ◌then◌}
 use Rattle.ndn_tlv.specs.Elements.{Item}
 use Rattle.repo_object.specs.declared.record_fields.RecordField.{RecordField}
 use Rattle.repo_object.specs.Records.{that_passes, digest_in, digests_among, counted_digests}
 
 abbrev pub Fields : Type 0
-Fields = Listing (RecordField × Item) FieldFault
+Fields = Listing (RecordField × Item) FieldError
 
 abbrev counts : ℕ → Option (List (List ℕ)) → Option (List (List ℕ))
 counts n o = that_passes (λ digests. eqb (length digests) n) o
@@ -32,7 +32,7 @@ counts-full d None = refl
 counts-full d (Some digests) = rw (ne_eqb (length (d ∷ digests)) 0 (λ e. absurd (omega arith))) refl
 
 module _ (indexes : Bool) (n : ℕ) (fields : Fields) where
-  pub counted-fault : (f : FieldFault) → fields ≡ only_fault f → counted_digests indexes n fields ≡ None
+  pub counted-fault : (f : FieldError) → fields ≡ only_fault f → counted_digests indexes n fields ≡ None
   unfolding digests_among
   counted-fault f is = ap (counted_digests indexes n) is
 

@@ -8,7 +8,7 @@ use Rattle.ndn_tlv.specs.OrderTable.{AreFields, is_critical_type}
 use Rattle.ndn_tlv.specs.OrderTable.AreFields.{ended, broken, field, stranger, critical}
 use Rattle.ndn_tlv.specs.declared.tlv_fault.TlvFault.{TlvFault}
 use Rattle.ndn_tlv.specs.declared.order_table.Place.{Place}
-use Rattle.ndn_tlv.specs.declared.order_table.FieldFault.{FieldFault}
+use Rattle.ndn_tlv.specs.declared.order_table.FieldError.{FieldError}
 use Rattle.ndn_tlv.proofs.Steps.{bind_ok, ok_is}
 use Rattle.ndn_name.specs.declared.fault.Field.TheVariants as field_names
 use Rattle.ndn_name.specs.declared.fault.PacketFault.{PacketFault}
@@ -34,9 +34,9 @@ DataField = field_of data_table
 same_place : (there place : Place DataField) → Some there ≡ Some place → there ≡ place
 same_place there place get = cc
 
-behind_first : (repeats : Bool) (k : ℕ) → 0 < k → 0 < cond repeats k (suc k)
-behind_first true k behind = behind
-behind_first false k behind = omega arith
+after_first : (repeats : Bool) (k : ℕ) → 0 < k → 0 < cond repeats k (suc k)
+after_first true k after = after
+after_first false k after = omega arith
 
 -- ---- what the fields come to
 
@@ -76,41 +76,41 @@ module _ (whole : List ℕ) where
   -- a field at another place than the first leaves the name as it is
   keeps_name : (k : ℕ) (place : Place DataField) (e : Item) (s t : DataSoFar) → 0 < k
       → slice_get data_table k ≡ Some place → with_data_field whole s (place.field, e) ≡ Ok t → t.name ≡ s.name
-  keeps_name zero place e s t behind get h = absurd (omega arith)
-  keeps_name (suc zero) place e s t behind get h =
+  keeps_name zero place e s t after get h = absurd (omega arith)
+  keeps_name (suc zero) place e s t after get h =
       let taken = taken_at place _ e s t get h in
       let b = bind_ok (meta_in e) (λ (m : Meta). done (record s { meta = m })) t taken in
       ap (λ (x : DataSoFar). x.name) (sym (ok_is (record s { meta = b.0 }) t b.2))
-  keeps_name (suc (suc zero)) place e s t behind get h =
+  keeps_name (suc (suc zero)) place e s t after get h =
       let taken = taken_at place _ e s t get h in
       ap (λ (x : DataSoFar). x.name) (sym (ok_is (record s { content = e.value }) t taken))
-  keeps_name (suc (suc (suc zero))) place e s t behind get h =
+  keeps_name (suc (suc (suc zero))) place e s t after get h =
       let taken = taken_at place _ e s t get h in
       let b = bind_ok (info_in e) (λ (i : Info). done (record s { info = Some i })) t taken in
       ap (λ (x : DataSoFar). x.name) (sym (ok_is (record s { info = Some b.0 }) t b.2))
-  keeps_name (suc (suc (suc (suc zero)))) place e s t behind get h =
+  keeps_name (suc (suc (suc (suc zero)))) place e s t after get h =
       let taken = taken_at place _ e s t get h in
       let signed = signed_before whole s.name e.start in
       ap (λ (x : DataSoFar). x.name) (sym (ok_is (record s { signature = Some (e.value, signed) }) t taken))
-  keeps_name (suc (suc (suc (suc (suc k))))) place e s t behind get h = absurd cc
+  keeps_name (suc (suc (suc (suc (suc k))))) place e s t after get h = absurd cc
 
-  -- behind the first place no name comes
-  name_stays : (from : ℕ) (es : List Item) (fault : Option TlvFault) (read : Listing (DataField × Item) FieldFault)
+  -- after the first place no name comes
+  name_stays : (from : ℕ) (es : List Item) (fault : Option TlvFault) (read : Listing (DataField × Item) FieldError)
       → AreFields data_table from es fault read → 0 < from → (s t : DataSoFar)
       → gathered (with_data_field whole) packet_fault s read ≡ Ok t → t.name ≡ s.name
   unfolding gather
-  name_stays from es fault read ended behind s t e = ap (λ (x : DataSoFar). x.name) (sym (ok_is s t e))
-  name_stays from es fault read broken behind s t e = absurd cc
-  name_stays from es fault read (field {read = others} k place above get same free rest) behind s t e =
+  name_stays from es fault read ended after s t e = ap (λ (x : DataSoFar). x.name) (sym (ok_is s t e))
+  name_stays from es fault read broken after s t e = absurd cc
+  name_stays from es fault read (field {read = others} k place above get same free rest) after s t e =
       let b =
       bind_ok (with_data_field whole s (place.field, _))
       (λ u. gathered (with_data_field whole) packet_fault u others) t e in
       let later : 0 < k = omega arith in
-      name_stays (cond place.repeats k (suc k)) _ fault _ rest (behind_first place.repeats k later) b.0 t b.2
+      name_stays (cond place.repeats k (suc k)) _ fault _ rest (after_first place.repeats k later) b.0 t b.2
       ∙ keeps_name k place _ s b.0 later get b.1
-  name_stays from es fault read (stranger none not_critical rest) behind s t e =
-      name_stays from _ fault read rest behind s t e
-  name_stays from es fault read (critical none is_critical) behind s t e = absurd cc
+  name_stays from es fault read (stranger none not_critical rest) after s t e =
+      name_stays from _ fault read rest after s t e
+  name_stays from es fault read (critical none is_critical) after s t e = absurd cc
 
   -- what is taken of a name's element
   record NameRead (e : Item) (s t : DataSoFar) : Type 0 where
@@ -136,7 +136,7 @@ module _ (whole : List ℕ) where
 
   -- a field at the first place is the name, and at another place it comes too late
   name_or_late : (k : ℕ) (place : Place DataField) (e : Item) (es : List Item) (fault : Option TlvFault)
-      (read : Listing (DataField × Item) FieldFault) (s u t : DataSoFar) (n : Named)
+      (read : Listing (DataField × Item) FieldError) (s u t : DataSoFar) (n : Named)
       → slice_get data_table k ≡ Some place → place.typ ≡ e.typ
       → AreFields data_table (cond place.repeats k (suc k)) es fault read
       → s.name ≡ None → t.name ≡ Some n → with_data_field whole s (place.field, e) ≡ Ok u
@@ -156,16 +156,16 @@ module _ (whole : List ℕ) where
         read = r.read ∙ ap (λ (x : Named). Ok x.1) pair;
       }
   name_or_late (suc k) place e es fault read s u t n get same rest none some taken e_rest =
-      let behind : 0 < suc k = omega arith in
-      let later = behind_first place.repeats (suc k) behind in
+      let after : 0 < suc k = omega arith in
+      let later = after_first place.repeats (suc k) after in
       let named =
       name_stays (cond place.repeats (suc k) (suc (suc k))) es fault read rest later u t e_rest
-      ∙ keeps_name (suc k) place e s u behind get taken
+      ∙ keeps_name (suc k) place e s u after get taken
       ∙ none in
       absurd cc
 
   -- where the name comes, it is the first element of its type
-  pub name_comes : (es : List Item) (fault : Option TlvFault) (read : Listing (DataField × Item) FieldFault)
+  pub name_comes : (es : List Item) (fault : Option TlvFault) (read : Listing (DataField × Item) FieldError)
       → AreFields data_table 0 es fault read → (s t : DataSoFar) (n : Named) → s.name ≡ None → t.name ≡ Some n
       → gathered (with_data_field whole) packet_fault s read ≡ Ok t → IsFirstName es n.1
   unfolding gather
@@ -236,7 +236,7 @@ module _ (whole : List ℕ) where
 
   -- where a content comes, it is the first element of its type, and it comes by the third place
   pub content_comes : (from : ℕ) (es : List Item) (fault : Option TlvFault)
-      (read : Listing (DataField × Item) FieldFault) → AreFields data_table from es fault read → (s t : DataSoFar)
+      (read : Listing (DataField × Item) FieldError) → AreFields data_table from es fault read → (s t : DataSoFar)
       → gathered (with_data_field whole) packet_fault s read ≡ Ok t
       → (t.content ≡ content_from s.content (first_of_type 0x15 es)) × (2 < from → first_of_type 0x15 es ≡ None)
   unfolding gather

@@ -15,7 +15,7 @@ pub mod Passing
 pub mod Publications
 pub mod Asking
 pub mod CutLemmas
-pub mod Telling
+pub mod Report
 pub mod ReadNames
 pub mod FieldLemmas
 pub mod PlaceLemmas

@@ -54,9 +54,9 @@ after_both s p q rest None first second = not_the_second s p q rest first second
 after_both s p q rest (Some x) first second = begins_so s p q rest x.now first second
 
 -- octets that don't begin so aren't these
-pub are_others : (s whole more : List ℕ) (front : List ℕ) → whole ≡ front ++ more
-    → ((rest : List ℕ) → s ≢ front ++ rest) → false ≡ bytes_eq s whole
-are_others s whole more front is none = go (bytes_eq s whole) refl where
+pub are_others : (s whole more : List ℕ) (prefix : List ℕ) → whole ≡ prefix ++ more
+    → ((rest : List ℕ) → s ≢ prefix ++ rest) → false ≡ bytes_eq s whole
+are_others s whole more prefix is none = go (bytes_eq s whole) refl where
   go : (b : Bool) → bytes_eq s whole ≡ b → false ≡ b
   go false e = refl
   go true e = absurd (none more ((bytes_eq-Decides s whole).0 e ∙ is))

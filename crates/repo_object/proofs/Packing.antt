@@ -24,7 +24,7 @@ use Rattle.repo_object.specs.Publication.{is_indexed, record_content, packets_un
 use Rattle.repo_object.specs.Publication.{published_indexes, listed_packets, published_record, record_packet, packets}
 use Rattle.repo_object.specs.Publication.{packet_at}
 use Rattle.repo_object.specs.Records.{listed_record}
-use Rattle.repo_object.proofs.Places.{slice_get-front, slice_get-behind, numbers-at}
+use Rattle.repo_object.proofs.Places.{slice_get-prefix, slice_get-after, numbers-at}
 
 abbrev pub items : Vec ℕ Global → List ℕ
 items v = v.items
@@ -194,16 +194,16 @@ module _ (publisher : Publisher) (seq : ℕ) (object : NamedContents) where
       → packet_at publisher seq (Offers object) x ≡ slice_get (published_indexes publisher seq object) k
   index_packet_at x k is low =
       ap (packet_at publisher seq (Offers object)) is
-      ∙ slice_get-front (published_indexes publisher seq object) segments k (omega (arith, low, indexes-length))
+      ∙ slice_get-prefix (published_indexes publisher seq object) segments k (omega (arith, low, indexes-length))
 
   pub segment_packet_at : (x i : ℕ) → x ≡ suc (index_packets (length object.contents) + i)
       → packet_at publisher seq (Offers object) x ≡ slice_get segments i
   segment_packet_at x i is =
-      let behind : index_packets (length object.contents) + i ≡ length (published_indexes publisher seq object) + i =
+      let after : index_packets (length object.contents) + i ≡ length (published_indexes publisher seq object) + i =
       ap (λ (n : ℕ). n + i) (sym indexes-length) in
       ap (packet_at publisher seq (Offers object)) is
-      ∙ ap (slice_get (published_indexes publisher seq object ++ segments)) behind
-      ∙ slice_get-behind (published_indexes publisher seq object) segments i
+      ∙ ap (slice_get (published_indexes publisher seq object ++ segments)) after
+      ∙ slice_get-after (published_indexes publisher seq object) segments i
 
   -- an index packet is made of what it lists
   pub index_made : (k last : ℕ) → k < index_packets (length object.contents)

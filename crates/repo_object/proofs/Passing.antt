@@ -25,8 +25,8 @@ use Rattle.repo_object.specs.declared.part_refusal.PartRefusal.TheVariants.{Unkn
 use Rattle.repo_object.specs.Records.{record_of, index_of}
 use Rattle.repo_object.specs.Wants.{WantedPart}
 use Rattle.repo_object.specs.Verdict.{is_all_signed, data_has_name, has_digest, locates, names_key, is_signed_by}
-use Rattle.repo_object.specs.Verdict.{may_say, lists_as_many, is_well_said, packet_verdict, read_packet, part_verdict}
-use Rattle.repo_object.specs.Verdict.{Passes, key_at, content_within, said_in, index_in}
+use Rattle.repo_object.specs.Verdict.{may_say, lists_as_many, is_well_stated, packet_verdict, read_packet, part_verdict}
+use Rattle.repo_object.specs.Verdict.{Passes, key_at, content_within, stated_in, index_in}
 
 abbrev passed : Data → Result Data PartRefusal
 passed d = Ok d
@@ -41,7 +41,7 @@ chain a b c e f g d =
     (cond (not c) (Err OtherDigest)
     (cond (not e) (Err UnknownKey) (cond (not f) (Err BadSignature) (cond (not g) (Err BadRecord) (passed d))))))
 
-record AllTrue (a b c e f g : Bool) : Type 0 where
+record AllConsistent (a b c e f g : Bool) : Type 0 where
   all_signed : a ≡ true
   name : b ≡ true
   digest : c ≡ true
@@ -54,7 +54,7 @@ guard : (b : Bool) (r : PartRefusal) (rest : Result Data PartRefusal) (d : Data)
 guard true r rest d e = (refl, e)
 guard false r rest d e = absurd cc
 
-chain_passes : (a b c e f g : Bool) (x d : Data) → chain a b c e f g x ≡ Ok d → AllTrue a b c e f g × (x ≡ d)
+chain_passes : (a b c e f g : Bool) (x d : Data) → chain a b c e f g x ≡ Ok d → AllConsistent a b c e f g × (x ≡ d)
 chain_passes a b c e f g x d h =
     let h1 =
     guard a UnsignedOctets
@@ -80,7 +80,7 @@ chain_passes a b c e f g x d h =
     same : (x d : Data) → passed x ≡ passed d → x ≡ d
     same x d e = cc
 
-all_pass : (a b c e f g : Bool) (d : Data) → AllTrue a b c e f g → chain a b c e f g d ≡ Ok d
+all_pass : (a b c e f g : Bool) (d : Data) → AllConsistent a b c e f g → chain a b c e f g d ≡ Ok d
 all_pass a b c e f g d h = rw (h.all_signed, h.name, h.digest, h.key, h.signature, h.listing) refl
 
 -- ---- what the tests mean
@@ -156,7 +156,7 @@ passes want key_name key octets d h =
     let x = b.0 in
     let all =
     chain_passes (is_all_signed x) (data_has_name want.name x) (has_digest want.digest octets) (names_key key_name x)
-    (is_signed_by key x) (is_well_said want x) x d b.2 in
+    (is_signed_by key x) (is_well_stated want x) x d b.2 in
     let key_parts = and_parts (eqb x.signature_type 4) (locates key_name x.locator) all.0.key in
     let found = located_at key_name x.locator key_parts.1 in
     let may = may_say want.part.seq (record_of x.content) in
@@ -171,7 +171,7 @@ passes want key_name key octets d h =
       located = found.1;
       key_named = found.2;
       signature = sym ((bytes_eq-Decides (hmac key x.signed) x.signature).0 all.0.signature);
-      said = record_says want.part.part may well.0;
+      stated = record_says want.part.part may well.0;
       listing = index_lists want.lists x.content well.1;
     })
 
@@ -183,7 +183,7 @@ verdict_of want key_name key octets d p =
     let may = may_say want.part.seq (record_of d.content) in
     ap (λ (r : Result Data PacketFault). read_packet r >>= packet_verdict want key_name key octets) p.read
     ∙ all_pass (is_all_signed d) (data_has_name want.name d) (has_digest want.digest octets) (names_key key_name d)
-    (is_signed_by key d) (is_well_said want d) d (record {
+    (is_signed_by key d) (is_well_stated want d) d (record {
       all_signed = (bytes_eq-Decides d.value (d.signed ++ element 0x17 d.signature)).1 p.all_signed;
       name = (bytes_eq-Decides (encoding d.name) (encoding want.name)).1 p.name;
       digest = is_digest want.digest octets p.digest;
@@ -193,7 +193,7 @@ verdict_of want key_name key octets d p =
       signature = (bytes_eq-Decides (hmac key d.signed) d.signature).1 (sym p.signature);
       listing =
           and_from (not (eqb want.part.part 0) || may) (lists_as_many want.lists d.content)
-          (says_record want.part.part may p.said) (lists_index want.lists d.content p.listing);
+          (says_record want.part.part may p.stated) (lists_index want.lists d.content p.listing);
     })
 
 pub passing_is_ok : (want : WantedPart) (key_name key octets : List ℕ) (d : Data) → Passes want key_name key octets d
@@ -202,15 +202,15 @@ passing_is_ok want key_name key octets d p = rw (verdict_of want key_name key oc
 
 -- ---- what octets that pass say
 
-pub passing_said : (want : WantedPart) (key_name key octets : List ℕ) → IsOk (part_verdict want key_name key octets)
-    → want.part.part ≡ 0 → IsTrue (may_say want.part.seq (said_in octets))
-passing_said want key_name key octets = go (part_verdict want key_name key octets) refl where
+pub passing_stated : (want : WantedPart) (key_name key octets : List ℕ) → IsOk (part_verdict want key_name key octets)
+    → want.part.part ≡ 0 → IsTrue (may_say want.part.seq (stated_in octets))
+passing_stated want key_name key octets = go (part_verdict want key_name key octets) refl where
   go : (r : Result Data PartRefusal) → part_verdict want key_name key octets ≡ r → IsOk r
-      → want.part.part ≡ 0 → IsTrue (may_say want.part.seq (said_in octets))
+      → want.part.part ≡ 0 → IsTrue (may_say want.part.seq (stated_in octets))
   go (Ok d) e ok first =
       let p = passes want key_name key octets d e in
       ap (λ (r : Result Data PacketFault). may_say want.part.seq (option_and_then record_of (content_within r))) p.read
-      ∙ p.said first
+      ∙ p.stated first
   go (Err refusal) e ok first = absurd cc
 
 pub passing_index : (want : WantedPart) (key_name key octets : List ℕ) → IsOk (part_verdict want key_name key octets)

@@ -14,7 +14,7 @@ use Rattle.ndn_tlv.proofs.Places.{fields_stand}
 use Rattle.ndn_name.specs.declared.fault.Field.TheVariants as field_names
 use Rattle.ndn_name.specs.declared.fault.PacketFault.TheVariants.{Missing}
 use Rattle.ndn_name.specs.Names.{Component, IsName, encoding}
-use Rattle.ndn_name.proofs.Encodings.{IsOctets-before, IsOctets-behind, name_of-encoded}
+use Rattle.ndn_name.proofs.Encodings.{IsOctets-before, IsOctets-after, name_of-encoded}
 use Rattle.ndn_packet.specs.Contents.{ok_or}
 use Rattle.ndn_packet.specs.Outer.{outer_of}
 use Rattle.ndn_packet.proofs.Gathering.{Each, Stands, elements_stand}
@@ -55,31 +55,31 @@ pub record Lies (octets : List ℕ) (e : Item) : Type 0 where
 
 lies : (octets : List ℕ) (e : Item) → IsOctets octets → StandsWhole octets e → Lies octets e
 lies octets e fits there =
-    let front = head e.typ (length e.value) in
-    let behind = there.stands.behind in
-    let parts : drop e.start octets ≡ front ++ (e.value ++ behind) =
-    there.stands.parts ∙ append_assoc front e.value behind in
-    let size = length-append front e.value in
-    let starts : e.value_start ≡ e.start + length front = omega (arith, there.stands.ends, there.long, size) in
-    let all = ap length parts ∙ length-append front (e.value ++ behind) in
+    let prefix = head e.typ (length e.value) in
+    let after = there.stands.after in
+    let parts : drop e.start octets ≡ prefix ++ (e.value ++ after) =
+    there.stands.parts ∙ append_assoc prefix e.value after in
+    let size = length-append prefix e.value in
+    let starts : e.value_start ≡ e.start + length prefix = omega (arith, there.stands.ends, there.long, size) in
+    let all = ap length parts ∙ length-append prefix (e.value ++ after) in
     let rest = length-drop e.start octets in
-    let both = length-append e.value behind in
-    let value : drop e.value_start octets ≡ e.value ++ behind =
+    let both = length-append e.value after in
+    let value : drop e.value_start octets ≡ e.value ++ after =
     ap (λ (n : ℕ). drop n octets) starts
-    ∙ sym (drop-drop (length front) e.start octets)
-    ∙ ap (drop (length front)) parts
-    ∙ drop_at front (e.value ++ behind) (length front) refl in
+    ∙ sym (drop-drop (length prefix) e.start octets)
+    ∙ ap (drop (length prefix)) parts
+    ∙ drop_at prefix (e.value ++ after) (length prefix) refl in
     let long : e.end - e.value_start ≡ length e.value = omega (arith, there.long) in
     record {
       ordered = omega (arith, there.long);
       within = omega (arith, all, rest, both, there.begins, there.long, starts);
       there =
           ap (take (e.end - e.value_start)) value
-          ∙ ap (λ (n : ℕ). take n (e.value ++ behind)) long
-          ∙ take_at e.value behind (length e.value) refl;
+          ∙ ap (λ (n : ℕ). take n (e.value ++ after)) long
+          ∙ take_at e.value after (length e.value) refl;
       own =
-          IsOctets-before e.value behind
-          (IsOctets-behind front (e.value ++ behind) (subst IsOctets parts (IsOctets-drop e.start octets fits)));
+          IsOctets-before e.value after
+          (IsOctets-after prefix (e.value ++ after) (subst IsOctets parts (IsOctets-drop e.start octets fits)));
       short = omega (arith, all, rest, both);
     }
 
@@ -88,15 +88,15 @@ pub first_lies : (octets : List ℕ) (e : Item) → IsOctets octets → outer_of
     → first_of_type typ (elements e.value_start e.value).items ≡ Some found → Lies octets found
 first_lies octets e fits outer typ found first =
     let o = outer_ok 0x06 octets e fits outer in
-    let front = head 0x06 (length e.value) in
-    let start : e.value_start ≡ length front = omega (arith, ap (λ (x : Item). x.value_start) o.is_placed) in
+    let prefix = head 0x06 (length e.value) in
+    let start : e.value_start ≡ length prefix = omega (arith, ap (λ (x : Item). x.value_start) o.is_placed) in
     let value : drop e.value_start octets ≡ e.value =
     ap (λ (n : ℕ). drop n octets) start
-    ∙ ap (drop (length front)) o.whole
-    ∙ drop_at front e.value (length front) refl in
+    ∙ ap (drop (length prefix)) o.whole
+    ∙ drop_at prefix e.value (length prefix) refl in
     let read = elements e.value_start e.value in
     let are =
-    elements_are e.value_start e.value (IsOctets-behind front e.value (subst IsOctets o.whole fits)) in
+    elements_are e.value_start e.value (IsOctets-after prefix e.value (subst IsOctets o.whole fits)) in
     lies octets found fits
     (found_stands octets typ e.value_start (e.value_start + length e.value) read.items found
     (elements_stand octets e.value_start e.value read.items read.fault value are)

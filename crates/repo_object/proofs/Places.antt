@@ -6,17 +6,17 @@ use Rattle.std.proofs.lemmas.List.Elements.{All-head, All-tail}
 use Rattle.std.proofs.lemmas.Option.{same_Some}
 use Rattle.sorted_lists.specs.Range.{numbers_from}
 
--- a list in front, and one behind it
-pub slice_get-front : {A : Type 0} (a b : List A) (i : ℕ) → i < length a → slice_get (a ++ b) i ≡ slice_get a i
-slice_get-front [] b i low = absurd (omega (arith, low))
-slice_get-front (x ∷ xs) b zero low = refl
-slice_get-front (x ∷ xs) b (suc i) low = slice_get-front xs b i (omega (arith, low))
+-- a list in front, and one after it
+pub slice_get-prefix : {A : Type 0} (a b : List A) (i : ℕ) → i < length a → slice_get (a ++ b) i ≡ slice_get a i
+slice_get-prefix [] b i low = absurd (omega (arith, low))
+slice_get-prefix (x ∷ xs) b zero low = refl
+slice_get-prefix (x ∷ xs) b (suc i) low = slice_get-prefix xs b i (omega (arith, low))
 
-pub slice_get-behind : {A : Type 0} (a b : List A) (i : ℕ) → slice_get (a ++ b) (length a + i) ≡ slice_get b i
-slice_get-behind [] b i = let same : 0 + i ≡ i = omega arith in ap (slice_get b) same
-slice_get-behind (x ∷ xs) b i =
+pub slice_get-after : {A : Type 0} (a b : List A) (i : ℕ) → slice_get (a ++ b) (length a + i) ≡ slice_get b i
+slice_get-after [] b i = let same : 0 + i ≡ i = omega arith in ap (slice_get b) same
+slice_get-after (x ∷ xs) b i =
     let more : length (x ∷ xs) + i ≡ suc (length xs + i) = omega arith in
-    ap (slice_get (x ∷ xs ++ b)) more ∙ slice_get-behind xs b i
+    ap (slice_get (x ∷ xs ++ b)) more ∙ slice_get-after xs b i
 
 -- what is so of all is so of the one at a place
 pub all_at : {A : Type 0} (P : A → Type 0) (xs : List A) (i : ℕ) (x : A) → All P xs → slice_get xs i ≡ Some x → P x

@@ -19,22 +19,22 @@ use Rattle.ndn_data.specs.Data.{Data, data_of}
 use Rattle.ndn_data.specs.WrittenData.{read_back}
 use Rattle.ndn_data.proofs.ReadBackLemmas.{data_again}
 use Rattle.repo_plan.specs.declared.part.Part.{Part}
-use Rattle.repo_plan.specs.Parts.{index_packets, parts_behind}
+use Rattle.repo_plan.specs.Parts.{index_packets, parts_after}
 use Rattle.repo_object.specs.Objects.{NamedContents, Post, IsObject, IsPost, Publisher, IsPublisher, key_name}
 use Rattle.repo_object.specs.Objects.{record_name, segment_name, shape_in}
 use Rattle.repo_object.specs.Objects.Post.{Offers, Withdraws}
 use Rattle.repo_object.specs.Publication.{is_indexed, record_content, index_content}
 use Rattle.repo_object.specs.Publication.{index_contents, segment_packet, segment_packets_from, packets_under}
 use Rattle.repo_object.specs.Publication.{published_segments, listed_by, published_indexes, listed_packets}
-use Rattle.repo_object.specs.Publication.{published_listing, published_record, record_packet, packets_behind, packets}
-use Rattle.repo_object.specs.Publication.{packet_at, shape_said}
+use Rattle.repo_object.specs.Publication.{published_listing, published_record, record_packet, packets_after, packets}
+use Rattle.repo_object.specs.Publication.{packet_at, shape_stated}
 use Rattle.repo_object.specs.Records.{record_of, index_of}
-use Rattle.repo_object.specs.Formats.{IsDigest, IsListing, IsSaid}
+use Rattle.repo_object.specs.Formats.{IsDigest, IsListing, IsStated}
 use Rattle.repo_object.specs.Wants.{want_record, want_index, want_segment, listed_in}
-use Rattle.repo_object.specs.Verdict.{may_say, part_verdict, content_within, content_in, said_in, index_in}
+use Rattle.repo_object.specs.Verdict.{may_say, part_verdict, content_within, content_in, stated_in, index_in}
 use Rattle.repo_object.proofs.Sizes.{named_short}
 use Rattle.repo_object.proofs.NameLemmas.{IsName-key}
-use Rattle.repo_object.proofs.Places.{all_at, slice_get-front, slice_get-behind}
+use Rattle.repo_object.proofs.Places.{all_at, slice_get-prefix, slice_get-after}
 use Rattle.repo_object.proofs.IndexLemmas.{index_few, indexed_some}
 use Rattle.repo_object.proofs.PacketSizes.{key_name-size, record_name-size, segment-size, listing_packet-size}
 use Rattle.repo_object.proofs.PacketSizes.{withdrawal_packet-size, index-size}
@@ -180,7 +180,7 @@ module _ (publisher : Publisher) (is_publisher : IsPublisher publisher) where
         numbered_again object.name object.contents k octets is_object.name
         (omega (arith, named_short object.name is_object.named)) contents_small (omega (arith, is_object.few)) at
 
-    objects_fit : (seq : ℕ) → seq < 2 ^ 16 → All Short (packets_behind publisher seq (Offers object))
+    objects_fit : (seq : ℕ) → seq < 2 ^ 16 → All Short (packets_after publisher seq (Offers object))
     objects_fit seq low =
         let indexes =
         segments_fit keyed publisher.key (record_name publisher.node publisher.group seq)
@@ -194,10 +194,10 @@ module _ (publisher : Publisher) (is_publisher : IsPublisher publisher) where
 
   -- ---- records
 
-  pub said_within_limits : (seq : ℕ) (post : Post) → IsPost seq post → seq < 2 ^ 16
-      → IsSaid (published_record publisher seq post)
-  said_within_limits seq (Offers object) is_post low = listing_within object is_post seq
-  said_within_limits seq (Withdraws withdrawn) is_post low = (is_post.0, omega (arith, is_post.1, low))
+  pub stated_within_limits : (seq : ℕ) (post : Post) → IsPost seq post → seq < 2 ^ 16
+      → IsStated (published_record publisher seq post)
+  stated_within_limits seq (Offers object) is_post low = listing_within object is_post seq
+  stated_within_limits seq (Withdraws withdrawn) is_post low = (is_post.0, omega (arith, is_post.1, low))
 
   record_short : (seq : ℕ) (post : Post) → IsPost seq post → seq < 2 ^ 16
       → Short (record_packet publisher seq (published_record publisher seq post))
@@ -214,7 +214,7 @@ module _ (publisher : Publisher) (is_publisher : IsPublisher publisher) where
   pub all_fit : (seq : ℕ) (post : Post) → IsPost seq post → seq < 2 ^ 16 → All Short (packets publisher seq post)
   all_fit seq (Offers object) is_post low =
       All-cons Short (record_packet publisher seq (published_record publisher seq (Offers object)))
-      (packets_behind publisher seq (Offers object)) (record_short seq (Offers object) is_post low)
+      (packets_after publisher seq (Offers object)) (record_short seq (Offers object) is_post low)
       (objects_fit object is_post seq low)
   all_fit seq (Withdraws withdrawn) is_post low =
       All-cons Short (record_packet publisher seq (published_record publisher seq (Withdraws withdrawn))) []
@@ -235,12 +235,12 @@ module _ (publisher : Publisher) (is_publisher : IsPublisher publisher) where
   record_says : (seq : ℕ) (post : Post) → IsPost seq post → seq < 2 ^ 16
       → record_of (record_content (published_record publisher seq post)) ≡ Some (published_record publisher seq post)
   record_says seq post is_post low =
-      written_says (published_record publisher seq post) (said_within_limits seq post is_post low)
+      written_says (published_record publisher seq post) (stated_within_limits seq post is_post low)
 
-  pub record_said : (seq : ℕ) (post : Post) → IsPost seq post → seq < 2 ^ 16
-      → said_in (record_packet publisher seq (published_record publisher seq post))
+  pub record_stated : (seq : ℕ) (post : Post) → IsPost seq post → seq < 2 ^ 16
+      → stated_in (record_packet publisher seq (published_record publisher seq post))
       ≡ Some (published_record publisher seq post)
-  record_said seq post is_post low =
+  record_stated seq post is_post low =
       ap (λ r. option_and_then record_of (content_within r)) (record_again seq post is_post low)
       ∙ record_says seq post is_post low
 
@@ -265,7 +265,7 @@ module _ (publisher : Publisher) (is_publisher : IsPublisher publisher) where
         located = refl;
         key_named = refl;
         signature = refl;
-        said =
+        stated =
             λ zero. ap (may_say part.seq) (record_says part.seq post is_post low) ∙ may_say_so part.seq post is_post;
         listing = tt;
       })
@@ -369,7 +369,7 @@ module _ (publisher : Publisher) (is_publisher : IsPublisher publisher) where
           located = refl;
           key_named = refl;
           signature = refl;
-          said = λ zero. absurd (omega (arith, zero, above));
+          stated = λ zero. absurd (omega (arith, zero, above));
           listing = subst IsSome (sym (index_lists k s.content (omega (arith, above, below)) s.place)) refl;
         })
 
@@ -392,34 +392,34 @@ module _ (publisher : Publisher) (is_publisher : IsPublisher publisher) where
           located = refl;
           key_named = refl;
           signature = refl;
-          said = λ zero. absurd (omega (arith, zero, above));
+          stated = λ zero. absurd (omega (arith, zero, above));
           listing = tt;
         })
 
   -- ---- any packet behind a record
 
-  pub record Behind (seq : ℕ) (post : Post) (x : ℕ) (octets : List ℕ) : Type 0 where
+  pub record After (seq : ℕ) (post : Post) (x : ℕ) (octets : List ℕ) : Type 0 where
     pub name : List Component
     pub number : ℕ
     pub last : ℕ
     pub content : List ℕ
     pub named : IsName (segment_name name number)
     pub read : data_of octets ≡ Ok (numbered_data publisher name last number content)
-    pub stands : slice_get (packets_behind publisher seq post) (x - 1) ≡ Some octets
+    pub stands : slice_get (packets_after publisher seq post) (x - 1) ≡ Some octets
 
-  pub behind_is : (seq x : ℕ) (post : Post) (octets : List ℕ) → IsPost seq post → seq < 2 ^ 16 → 0 < x
-      → packet_at publisher seq post x ≡ Some octets → Behind seq post x octets
-  behind_is seq zero post octets is_post low above h = absurd (omega (arith, above))
-  behind_is seq (suc k) (Withdraws withdrawn) octets is_post low above h = absurd cc
-  behind_is seq (suc k) (Offers object) octets is_post low above h =
+  pub after_is : (seq x : ℕ) (post : Post) (octets : List ℕ) → IsPost seq post → seq < 2 ^ 16 → 0 < x
+      → packet_at publisher seq post x ≡ Some octets → After seq post x octets
+  after_is seq zero post octets is_post low above h = absurd (omega (arith, above))
+  after_is seq (suc k) (Withdraws withdrawn) octets is_post low above h = absurd cc
+  after_is seq (suc k) (Offers object) octets is_post low above h =
       let indexes = published_indexes publisher seq object in
       let segments = published_segments publisher object in
       let same : suc k - 1 ≡ k = omega arith in
       let stands = ap (slice_get (indexes ++ segments)) same ∙ h in
       elim (cases_lt k (length indexes)) [
-        | inl front ↦
+        | inl prefix ↦
             let s =
-            index_is object is_post seq k octets low (sym (slice_get-front indexes segments k front) ∙ h) in
+            index_is object is_post seq k octets low (sym (slice_get-prefix indexes segments k prefix) ∙ h) in
             record {
               name = record_name publisher.node publisher.group seq;
               number = k;
@@ -434,7 +434,7 @@ module _ (publisher : Publisher) (is_publisher : IsPublisher publisher) where
             let place : k ≡ length indexes + i = omega (arith, back) in
             let s =
             segment_is object is_post i octets
-            (sym (slice_get-behind indexes segments i) ∙ ap (slice_get (indexes ++ segments)) (sym place) ∙ h) in
+            (sym (slice_get-after indexes segments i) ∙ ap (slice_get (indexes ++ segments)) (sym place) ∙ h) in
             record {
               name = object.name;
               number = i;
@@ -446,9 +446,9 @@ module _ (publisher : Publisher) (is_publisher : IsPublisher publisher) where
             }
       ]
 
--- the record, and a packet for each part behind it
+-- the record, and a packet for each part after it
 pub packets-length : (publisher : Publisher) (seq : ℕ) (post : Post)
-    → length (packets publisher seq post) ≡ parts_behind (shape_in post) + 1
+    → length (packets publisher seq post) ≡ parts_after (shape_in post) + 1
 packets-length publisher seq (Withdraws withdrawn) = refl
 packets-length publisher seq (Offers object) =
     omega (
@@ -460,6 +460,6 @@ packets-length publisher seq (Offers object) =
 
 -- the record tells the publication's shape
 pub shape_again : (publisher : Publisher) (seq : ℕ) (post : Post)
-    → shape_said (published_record publisher seq post) ≡ shape_in post
+    → shape_stated (published_record publisher seq post) ≡ shape_in post
 shape_again publisher seq (Offers object) = refl
 shape_again publisher seq (Withdraws withdrawn) = refl

@@ -6,8 +6,8 @@ use Rattle.std.specs.List.{All}
 use Rattle.std.specs.Option.{option_and_then}
 use Rattle.std.proofs.lemmas.Bool.{eq-eqb, eqb-true, le-leb, leb-true, and_parts, and_from}
 use Rattle.std.proofs.lemmas.List.Elements.{All-nil, All-cons, All-head, All-tail}
-use Rattle.ndn_tlv.specs.declared.order_table.FieldFault.{FieldFault}
-use Rattle.ndn_tlv.specs.declared.order_table.FieldFault.TheVariants.{Critical}
+use Rattle.ndn_tlv.specs.declared.order_table.FieldError.{FieldError}
+use Rattle.ndn_tlv.specs.declared.order_table.FieldError.TheVariants.{Critical}
 use Rattle.ndn_tlv.specs.declared.order_table.Place.{Place}
 use Rattle.ndn_tlv.specs.declared.tlv_fault.TlvFault.{TlvFault}
 use Rattle.ndn_tlv.specs.Spelling.{head, element}
@@ -18,7 +18,7 @@ use Rattle.ndn_tlv.specs.OrderTable.{is_critical_type, place_of, field_then, fie
 use Rattle.ndn_tlv.proofs.Listings.{elements_are}
 use Rattle.ndn_name.specs.declared.name_fault.NameFault.{NameFault}
 use Rattle.ndn_name.specs.Names.{Component, name_of}
-use Rattle.ndn_name.proofs.Encodings.{IsOctets-behind, IsOctets-before, name_of-encoded}
+use Rattle.ndn_name.proofs.Encodings.{IsOctets-after, IsOctets-before, name_of-encoded}
 use Rattle.ndn_name.proofs.ComputedValues.{option_map_some}
 use Rattle.ndn_packet.proofs.Gathering.{Each}
 use Rattle.repo_object.specs.declared.record_fields.RecordField.{RecordField}
@@ -28,10 +28,10 @@ use Rattle.repo_object.specs.Publication.{Listed, RecordSays, is_indexed, count_
 use Rattle.repo_object.specs.Publication.RecordSays.{Lists, WithdrawsNumber}
 use Rattle.repo_object.specs.Records.{record_table, that_passes, read_name, object_name_in, segment_count_in, number_in}
 use Rattle.repo_object.specs.Records.{digest_in, digests_among, counted_digests, listed_digests, listed_record}
-use Rattle.repo_object.specs.Records.{withdrawal_among, listing_among, said_among, record_fields, record_of}
+use Rattle.repo_object.specs.Records.{withdrawal_among, listing_among, stated_among, record_fields, record_of}
 use Rattle.repo_object.specs.Records.{index_fields, index_of}
-use Rattle.repo_object.specs.Formats.{IsDigest, IsListing, IsSaid, digest_field, as_digests, values, HasListing}
-use Rattle.repo_object.specs.Formats.{HasWithdrawal, HasSaid, HasIndex}
+use Rattle.repo_object.specs.Formats.{IsDigest, IsListing, IsStated, digest_field, as_digests, values, HasListing}
+use Rattle.repo_object.specs.Formats.{HasWithdrawal, HasStated, HasIndex}
 
 abbrev pub Field : Type 0
 Field = RecordField × Item
@@ -61,16 +61,16 @@ some_passes : {A : Type 0} (test : A → Bool) (o : Option A) (x : A) → o ≡ 
     → that_passes test o ≡ Some x
 some_passes test o x e h = ap (that_passes test) e ∙ rw h refl
 
-same_listing : (a b : Listing Field FieldFault) → a.items ≡ b.items → a.fault ≡ b.fault → a ≡ b
+same_listing : (a b : Listing Field FieldError) → a.items ≡ b.items → a.fault ≡ b.fault → a ≡ b
 same_listing a b i f =
-    let with_items : List Field → Listing Field FieldFault = λ items. record { items = items; fault = a.fault } in
-    let with_fault : Option FieldFault → Listing Field FieldFault =
+    let with_items : List Field → Listing Field FieldError = λ items. record { items = items; fault = a.fault } in
+    let with_fault : Option FieldError → Listing Field FieldError =
     λ fault. record { items = b.items; fault = fault } in
     ap with_items i ∙ ap with_fault f
 
 -- ---- digests
 
-pub record DigestFields (indexes : Bool) (fields : List Field) (fault : Option FieldFault) (digests : List (List ℕ))
+pub record DigestFields (indexes : Bool) (fields : List Field) (fault : Option FieldError) (digests : List (List ℕ))
     : Type 0 where
   pub items : List Item
   pub are : fields ≡ as_digests indexes items
@@ -108,7 +108,7 @@ first_digest false (field.SegmentCount, e) d h = absurd cc
 first_digest false (field.Digest, e) d h = let v = long_value e d h in (refl, v.0, v.1)
 first_digest false (field.IndexDigest, e) d h = absurd cc
 
-pub digest_fields : (indexes : Bool) (fields : List Field) (fault : Option FieldFault) (digests : List (List ℕ))
+pub digest_fields : (indexes : Bool) (fields : List Field) (fault : Option FieldError) (digests : List (List ℕ))
     → digests_among indexes fields fault ≡ Some digests → DigestFields indexes fields fault digests
 unfolding digests_among
 digest_fields indexes [] None digests h =
@@ -161,14 +161,14 @@ counted_fields indexes n items digests same are many =
 
 -- ---- the fields of a record
 
-record BeginsNamed (fields : List Field) (fault : Option FieldFault) (l : Listed) : Type 0 where
+record BeginsNamed (fields : List Field) (fault : Option FieldError) (l : Listed) : Type 0 where
   name : Item
   count : Item
   digests : List Field
   are : fields ≡ (field.Name, name) ∷ (field.SegmentCount, count) ∷ digests
   lists : listing_among name count digests fault ≡ Some (Lists l)
 
-withdraws_no_listing : (w : Item) (fields : List Field) (fault : Option FieldFault) (l : Listed)
+withdraws_no_listing : (w : Item) (fields : List Field) (fault : Option FieldError) (l : Listed)
     → withdrawal_among w fields fault ≡ Some (Lists l) → ⊥
 withdraws_no_listing w [] None l h =
     let m = option_map_some (λ (n : ℕ). WithdrawsNumber n) (number_in w) (Lists l) h in other m.0 m.2
@@ -178,7 +178,8 @@ withdraws_no_listing w [] None l h =
 withdraws_no_listing w [] (Some f) l h = cc
 withdraws_no_listing w (f ∷ fs) fault l h = cc
 
-begins_named : (fields : List Field) (fault : Option FieldFault) (l : Listed) → said_among fields fault ≡ Some (Lists l)
+begins_named : (fields : List Field) (fault : Option FieldError) (l : Listed) → stated_among fields fault
+    ≡ Some (Lists l)
     → BeginsNamed fields fault l
 begins_named [] fault l h = absurd cc
 begins_named ((field.Withdraws, w) ∷ fs) fault l h = absurd (withdraws_no_listing w fs fault l h)
@@ -201,19 +202,19 @@ named_ok (Ok n) name h = let same : n ≡ name = cc in ap (λ (x : List Componen
 named_ok (Err fault) name h = absurd cc
 
 -- what follows the name, and what follows the number of segments
-abbrev digests_behind : List Field → Option FieldFault → List Component → ℕ → Option RecordSays
-digests_behind items fault name segments = option_map (listed_record name segments) (listed_digests segments items
+abbrev digests_after : List Field → Option FieldError → List Component → ℕ → Option RecordSays
+digests_after items fault name segments = option_map (listed_record name segments) (listed_digests segments items
     fault)
 
-abbrev count_behind : Item → List Field → Option FieldFault → List Component → Option RecordSays
-count_behind c items fault name = option_and_then (digests_behind items fault name) (segment_count_in c)
+abbrev count_after : Item → List Field → Option FieldError → List Component → Option RecordSays
+count_after c items fault name = option_and_then (digests_after items fault name) (segment_count_in c)
 
-pub listing_said : (content : List ℕ) (l : Listed) → record_of content ≡ Some (Lists l) → HasListing content l
-listing_said content l h =
+pub listing_stated : (content : List ℕ) (l : Listed) → record_of content ≡ Some (Lists l) → HasListing content l
+listing_stated content l h =
     let read = record_fields content in
     let b = begins_named read.items read.fault l h in
-    let n = and_then_some (count_behind b.count b.digests read.fault) (object_name_in b.name) (Lists l) b.lists in
-    let c = and_then_some (digests_behind b.digests read.fault n.0) (segment_count_in b.count) (Lists l) n.2 in
+    let n = and_then_some (count_after b.count b.digests read.fault) (object_name_in b.name) (Lists l) b.lists in
+    let c = and_then_some (digests_after b.digests read.fault n.0) (segment_count_in b.count) (Lists l) n.2 in
     let m = option_map_some (listed_record n.0 c.0) (listed_digests c.0 b.digests read.fault) (Lists l) c.2 in
     let counted =
     passes_some (λ (ds : List (List ℕ)). eqb (length ds) (count_listed c.0))
@@ -254,34 +255,34 @@ listing_from content l s =
     s.few) in
     let counted =
     counted_fields (is_indexed l.segments) (count_listed l.segments) s.digests l.digests s.values s.are s.many in
-    ap (λ (f : Listing Field FieldFault). said_among f.items f.fault) s.fields
-    ∙ ap (option_and_then (count_behind s.count items None)) name
-    ∙ ap (option_and_then (digests_behind items None l.name)) count
+    ap (λ (f : Listing Field FieldError). stated_among f.items f.fault) s.fields
+    ∙ ap (option_and_then (count_after s.count items None)) name
+    ∙ ap (option_and_then (digests_after items None l.name)) count
     ∙ ap (option_map (listed_record l.name l.segments)) counted
 
-record BeginsWithdrawn (fields : List Field) (fault : Option FieldFault) (seq : ℕ) : Type 0 where
+record BeginsWithdrawn (fields : List Field) (fault : Option FieldError) (seq : ℕ) : Type 0 where
   number : Item
   are : fields ≡ (field.Withdraws, number) ∷ []
   ended : fault ≡ None
-  said : number_in number ≡ Some seq
+  stated : number_in number ≡ Some seq
 
-listing_no_withdrawal : (n c : Item) (ds : List Field) (fault : Option FieldFault) (seq : ℕ)
+listing_no_withdrawal : (n c : Item) (ds : List Field) (fault : Option FieldError) (seq : ℕ)
     → listing_among n c ds fault ≡ Some (WithdrawsNumber seq) → ⊥
 listing_no_withdrawal n c ds fault seq h =
-    let a = and_then_some (count_behind c ds fault) (object_name_in n) (WithdrawsNumber seq) h in
-    let b = and_then_some (digests_behind ds fault a.0) (segment_count_in c) (WithdrawsNumber seq) a.2 in
+    let a = and_then_some (count_after c ds fault) (object_name_in n) (WithdrawsNumber seq) h in
+    let b = and_then_some (digests_after ds fault a.0) (segment_count_in c) (WithdrawsNumber seq) a.2 in
     let m = option_map_some (listed_record a.0 b.0) (listed_digests b.0 ds fault) (WithdrawsNumber seq) b.2 in
     other (record { name = a.0; segments = b.0; digests = m.0 }) m.2
   where
     other : (l : Listed) → Lists l ≡ WithdrawsNumber seq → ⊥
     other l e = cc
 
-begins_withdrawn : (fields : List Field) (fault : Option FieldFault) (seq : ℕ)
-    → said_among fields fault ≡ Some (WithdrawsNumber seq) → BeginsWithdrawn fields fault seq
+begins_withdrawn : (fields : List Field) (fault : Option FieldError) (seq : ℕ)
+    → stated_among fields fault ≡ Some (WithdrawsNumber seq) → BeginsWithdrawn fields fault seq
 begins_withdrawn [] fault seq h = absurd cc
 begins_withdrawn ((field.Withdraws, w) ∷ []) None seq h =
     let m = option_map_some (λ (n : ℕ). WithdrawsNumber n) (number_in w) (WithdrawsNumber seq) h in
-    record { number = w; are = refl; ended = refl; said = m.1 ∙ ap (λ (n : ℕ). some_number n) (same m.0 seq m.2) }
+    record { number = w; are = refl; ended = refl; stated = m.1 ∙ ap (λ (n : ℕ). some_number n) (same m.0 seq m.2) }
   where
     some_number : ℕ → Option ℕ
     some_number n = Some n
@@ -301,12 +302,12 @@ begins_withdrawn ((field.Name, n) ∷ (field.IndexDigest, c) ∷ ds) fault seq h
 begins_withdrawn ((field.Name, n) ∷ (field.SegmentCount, c) ∷ ds) fault seq h =
     absurd (listing_no_withdrawal n c ds fault seq h)
 
-withdrawal_said : (content : List ℕ) (seq : ℕ) → record_of content ≡ Some (WithdrawsNumber seq)
+withdrawal_stated : (content : List ℕ) (seq : ℕ) → record_of content ≡ Some (WithdrawsNumber seq)
     → HasWithdrawal content seq
-withdrawal_said content seq h =
+withdrawal_stated content seq h =
     let read = record_fields content in
     let b = begins_withdrawn read.items read.fault seq h in
-    let number = passes_some (λ (n : ℕ). leb 1 n && leb n 65535) (number_of b.number.value) seq b.said in
+    let number = passes_some (λ (n : ℕ). leb 1 n && leb n 65535) (number_of b.number.value) seq b.stated in
     let within = and_parts (leb 1 seq) (leb seq 65535) number.1 in
     record {
       number = b.number;
@@ -322,18 +323,18 @@ withdrawal_from content seq s =
     let number =
     some_passes (λ (n : ℕ). leb 1 n && leb n 65535) (number_of s.number.value) seq s.counts
     (and_from (leb 1 seq) (leb seq 65535) (le-leb 1 seq (omega (arith, s.some))) (le-leb seq 65535 s.few)) in
-    ap (λ (f : Listing Field FieldFault). said_among f.items f.fault) s.fields
+    ap (λ (f : Listing Field FieldError). stated_among f.items f.fault) s.fields
     ∙ ap (option_map (λ (n : ℕ). WithdrawsNumber n)) number
 
-pub said : (content : List ℕ) (says : RecordSays) → (record_of content ≡ Some says) ↔ HasSaid content says
-said content (Lists l) = (listing_said content l, listing_from content l)
-said content (WithdrawsNumber seq) = (withdrawal_said content seq, withdrawal_from content seq)
+pub stated : (content : List ℕ) (says : RecordSays) → (record_of content ≡ Some says) ↔ HasStated content says
+stated content (Lists l) = (listing_stated content l, listing_from content l)
+stated content (WithdrawsNumber seq) = (withdrawal_stated content seq, withdrawal_from content seq)
 
 -- ---- index packets
 
-pub index_said : (content : List ℕ) (count : ℕ) (digests : List (List ℕ)) → index_of content count ≡ Some digests
+pub index_stated : (content : List ℕ) (count : ℕ) (digests : List (List ℕ)) → index_of content count ≡ Some digests
     → HasIndex content digests × (length digests ≡ count)
-index_said content count digests h =
+index_stated content count digests h =
     let read = index_fields content in
     let counted =
     passes_some (λ (ds : List (List ℕ)). eqb (length ds) count) (digests_among false read.items read.fault) digests h in
@@ -367,30 +368,30 @@ elements_fit offset octets (e ∷ es) fault fits short are =
     let inner = length-append (head e.typ (length e.value)) e.value in (
       record {
         octets =
-            IsOctets-behind (head e.typ (length e.value)) e.value (IsOctets-before (element e.typ e.value) are.0 split);
+            IsOctets-after (head e.typ (length e.value)) e.value (IsOctets-before (element e.typ e.value) are.0 split);
         long = omega (arith, size, inner);
       },
-      elements_fit e.end are.0 es fault (IsOctets-behind (element e.typ e.value) are.0 split) (omega (arith, size))
+      elements_fit e.end are.0 es fault (IsOctets-after (element e.typ e.value) are.0 split) (omega (arith, size))
           are.5,
     )
 
-abbrev pub elements_of : Listing Field FieldFault → List Item
+abbrev pub elements_of : Listing Field FieldError → List Item
 elements_of read = map (λ (x : Field). x.1) read.items
 
 module _ (P : Item → Type 0) where
-  each_stranger : (fault : FieldFault) (others : Listing Field FieldFault) (b : Bool) → Each P (elements_of others)
+  each_stranger : (fault : FieldError) (others : Listing Field FieldError) (b : Bool) → Each P (elements_of others)
       → Each P (elements_of (cond b (record { items = []; fault = Some fault }) others))
   each_stranger fault others true h = tt
   each_stranger fault others false h = h
 
-  each_field : (others : List (Place RecordField) → Listing Field FieldFault) (table : List (Place RecordField))
+  each_field : (others : List (Place RecordField) → Listing Field FieldError) (table : List (Place RecordField))
       (e : Item) (place : Option (RecordField × List (Place RecordField)))
       → P e
       → ((places : List (Place RecordField)) → Each P (elements_of (others places)))
       → Each P (elements_of (field_then others table e place))
   each_field others table e None fits h =
       each_stranger (critical e) (others table) (is_critical_type e.typ) (h table) where
-        critical : Item → FieldFault
+        critical : Item → FieldError
         critical e = Critical e.typ e.start
   each_field others table e (Some place) fits h = (fits, h place.1)
 
@@ -404,17 +405,17 @@ module _ (P : Item → Type 0) where
       each_field (λ places. fields_among places es fault) table e (place_of e.typ table) fits.0
       (λ places. each_of_fields places es fault fits.1)
 
-pub said_within : (content : List ℕ) (says : RecordSays) → IsOctets content → length content < 2 ^ 64
-    → record_of content ≡ Some says → IsSaid says
-said_within content (WithdrawsNumber seq) fits short h =
-    let s = withdrawal_said content seq h in (s.some, s.few)
-said_within content (Lists l) fits short h =
-    let s = listing_said content l h in
+pub stated_within : (content : List ℕ) (says : RecordSays) → IsOctets content → length content < 2 ^ 64
+    → record_of content ≡ Some says → IsStated says
+stated_within content (WithdrawsNumber seq) fits short h =
+    let s = withdrawal_stated content seq h in (s.some, s.few)
+stated_within content (Lists l) fits short h =
+    let s = listing_stated content l h in
     let read = elements 0 content in
     let each =
     each_of_fields Fits record_table read.items read.fault
     (elements_fit 0 content read.items read.fault fits short (elements_are 0 content fits)) in
-    let Q : Listing Field FieldFault → Type 0 = λ f. Each Fits (elements_of f) in
+    let Q : Listing Field FieldError → Type 0 = λ f. Each Fits (elements_of f) in
     let first = (subst Q s.fields each).0 in
     record {
       name = (name_of-encoded s.name.value_start s.name.value l.name first.octets first.long s.names).0;
@@ -431,5 +432,5 @@ pub listing_read : (content : List ℕ) (name : List Component) (segments : ℕ)
     → record_of content ≡ option_map (listed_record name segments) read → read ≡ Some digests
     → IsListing (record { name = name; segments = segments; digests = digests })
 listing_read content name segments digests read fits short is found =
-    said_within content (listed_record name segments digests) fits short
+    stated_within content (listed_record name segments digests) fits short
     (is ∙ ap (option_map (listed_record name segments)) found)

@@ -69,18 +69,18 @@ module _ (content : List ℕ) (high : ℕ) where
         digests_room e.end es within.3 stand.1 (All-tail IsDigest e.value (values es) long),
       )
 
-  -- a value behind a head of two octets
+  -- a value after a head of two octets
   value_at : (low : ℕ) (e : Item) → Stands content e → e.start ≡ low → length e.value ≡ 32
       → length (element e.typ e.value) ≡ 34
       → take 32 (drop (low + 2) content) ≡ e.value
   value_at low e stands at long whole =
-      let front = head e.typ (length e.value) in
-      let two : length front ≡ 2 = omega (arith, length-element e.typ e.value) in
-      let parts : drop low content ≡ front ++ (e.value ++ stands.behind) =
+      let prefix = head e.typ (length e.value) in
+      let two : length prefix ≡ 2 = omega (arith, length-element e.typ e.value) in
+      let parts : drop low content ≡ prefix ++ (e.value ++ stands.after) =
       ap (λ (n : ℕ). drop n content) (sym at) ∙ stands.parts ∙ simp append_assoc in
-      let behind : drop (low + 2) content ≡ e.value ++ stands.behind =
-      sym (drop-drop 2 low content) ∙ ap (drop 2) parts ∙ drop_at front (e.value ++ stands.behind) 2 two in
-      ap (take 32) behind ∙ take_at e.value stands.behind 32 long
+      let after : drop (low + 2) content ≡ e.value ++ stands.after =
+      sym (drop-drop 2 low content) ∙ ap (drop 2) parts ∙ drop_at prefix (e.value ++ stands.after) 2 two in
+      ap (take 32) after ∙ take_at e.value stands.after 32 long
 
   in_row : (low : ℕ) (items : List Item) → AreWithin low high items → Each (Stands content) items
       → All IsDigest (values items)
@@ -124,7 +124,7 @@ length-values : (items : List Item) → length (values items) ≡ length items
 length-values [] = refl
 length-values (e ∷ es) = ap suc (length-values es)
 
--- digests that are fields behind a place, of which nothing else has room there
+-- digests that are fields after a place, of which nothing else has room there
 row : (content : List ℕ) (start : ℕ) (reader : DigestReader) → start ≤ length content
     → AreWithin start (length content) (field_items reader.fields.items)
     → Each (Stands content) (field_items reader.fields.items)
@@ -180,7 +180,7 @@ module _ (content : List ℕ) (fits : IsOctets content) where
       each_of_fields (Stands content) table read.items read.fault
       (elements_stand content 0 content read.items read.fault refl (elements_are 0 content fits))
 
-  -- behind the number of segments
+  -- after the number of segments
   module _ (name count : Item) (reader : DigestReader)
       (are : record_fields content ≡ ((field.Name, name) then ((field.SegmentCount, count) then reader.fields))) where
     within : AreWithin 0 (length content) (name ∷ count ∷ field_items reader.fields.items)

@@ -6,8 +6,8 @@ use Rattle.std.specs.List.{All}
 use Rattle.std.specs.Prelude.{IsTrue}
 use Rattle.std.proofs.lemmas.Bool.{cases_eq, eq-eqb, ne_eqb, eqb-true}
 use Rattle.std.proofs.lemmas.List.Elements.{All-head, All-tail}
-use Rattle.ndn_tlv.specs.declared.order_table.FieldFault.{FieldFault}
-use Rattle.ndn_tlv.specs.declared.order_table.FieldFault.TheVariants.{Tlv, Critical}
+use Rattle.ndn_tlv.specs.declared.order_table.FieldError.{FieldError}
+use Rattle.ndn_tlv.specs.declared.order_table.FieldError.TheVariants.{Tlv, Critical}
 use Rattle.ndn_tlv.specs.declared.order_table.Place.{Place}
 use Rattle.ndn_tlv.specs.declared.tlv_fault.TlvFault.{TlvFault}
 use Rattle.ndn_tlv.specs.Listing.{Listing, nothing, only_fault, ◌then◌}
@@ -25,7 +25,7 @@ abbrev Table : Type 0
 Table = List (Place RecordField)
 
 abbrev Fields : Type 0
-Fields = Listing Field FieldFault
+Fields = Listing Field FieldError
 
 abbrev typ_of : RecordField → ℕ
 typ_of field.Withdraws = 133
@@ -39,7 +39,7 @@ abbrev Good : Table → Type 0
 Good [] = Unit
 Good (p ∷ ps) = (p.typ ≡ typ_of p.field) × (is_critical_type p.typ ≡ true) × Good ps
 
-abbrev ended : Option TlvFault → Listing Field FieldFault
+abbrev ended : Option TlvFault → Listing Field FieldError
 ended None = nothing
 ended (Some f) = only_fault (Tlv f)
 
@@ -62,14 +62,14 @@ found typ (p ∷ ps) x good h =
           subst (Found typ) is (record {
             typed = sym same ∙ good.0;
             critical = ap is_critical_type (sym same) ∙ good.1;
-            good = behind p.repeats;
+            good = after p.repeats;
           })
       | inr other ↦ found typ ps x good.2 (sym (rw (ne_eqb p.typ typ other) refl) ∙ h)
     ]
   where
-    behind : (b : Bool) → Good (cond b (p ∷ ps) ps)
-    behind true = good
-    behind false = good.2
+    after : (b : Bool) → Good (cond b (p ∷ ps) ps)
+    after true = good
+    after false = good.2
 
 fields_end : (u : Table) (fault : Option TlvFault) → fields_among u [] fault ≡ ended fault
 unfolding fields_among
@@ -78,8 +78,8 @@ fields_end u (Some f) = refl
 
 -- ---- a table without the places of some types
 
-abbrev behind_of : List Item → Option TlvFault → Listing Item TlvFault
-behind_of es fault = record { items = es; fault = fault }
+abbrev after_of : List Item → Option TlvFault → Listing Item TlvFault
+after_of es fault = record { items = es; fault = fault }
 
 module _ (stays : ℕ → Bool) where
   abbrev keep : Table → Table
@@ -148,18 +148,18 @@ module _ (stays : ℕ → Bool) where
       by_kind : (b : Bool) → is_critical_type e.typ ≡ b
           → fields_among (keep u) (e ∷ es) fault ≡ fields_among u (e ∷ es) fault
       by_kind true c =
-          fields-critical (keep u) e (behind_of es fault) gone c ∙ sym (fields-critical u e (behind_of es fault) at c)
+          fields-critical (keep u) e (after_of es fault) gone c ∙ sym (fields-critical u e (after_of es fault) at c)
       by_kind false c =
-          let skipped = fields-stranger u e (behind_of es fault) at c in
+          let skipped = fields-stranger u e (after_of es fault) at c in
           let P : Fields → Type 0 = λ l. Stay l.items in
-          fields-stranger (keep u) e (behind_of es fault) gone c
+          fields-stranger (keep u) e (after_of es fault) gone c
           ∙ later u (subst P skipped s)
           ∙ sym skipped
     by_place later (Some x) at =
-        let here = fields-field u e (behind_of es fault) x.0 x.1 at in
+        let here = fields-field u e (after_of es fault) x.0 x.1 at in
         let P : Fields → Type 0 = λ l. Stay l.items in
         let both = subst P here s in
-        fields-field (keep u) e (behind_of es fault) x.0 (keep x.1)
+        fields-field (keep u) e (after_of es fault) x.0 (keep x.1)
         (place-kept e.typ u both.0 ∙ ap (option_map kept) at)
         ∙ ap (λ (l : Fields). (x.0, e) then l) (later x.1 both.1)
         ∙ sym here
@@ -181,10 +181,10 @@ module _ (stays : ℕ → Bool) where
       by_kind : (b : Bool) → is_critical_type e.typ ≡ b
           → fields_among u (e ∷ es) fault ≡ fields_among (keep u) (e ∷ es) fault
       by_kind true c =
-          fields-critical u e (behind_of es fault) at c ∙ sym (fields-critical (keep u) e (behind_of es fault) gone c)
+          fields-critical u e (after_of es fault) at c ∙ sym (fields-critical (keep u) e (after_of es fault) gone c)
       by_kind false c =
-          let skipped = fields-stranger (keep u) e (behind_of es fault) gone c in
-          fields-stranger u e (behind_of es fault) at c
+          let skipped = fields-stranger (keep u) e (after_of es fault) gone c in
+          fields-stranger u e (after_of es fault) at c
           ∙ later u good (ap (λ (l : Fields). l.fault) (sym skipped) ∙ whole)
           ∙ sym skipped
     by_place later (Some x) at = by_type (stays e.typ) refl where
@@ -194,14 +194,14 @@ module _ (stays : ℕ → Bool) where
       by_type : (b : Bool) → stays e.typ ≡ b → fields_among u (e ∷ es) fault ≡ fields_among (keep u) (e ∷ es) fault
       by_type true s =
           let read =
-          fields-field (keep u) e (behind_of es fault) x.0 (keep x.1)
+          fields-field (keep u) e (after_of es fault) x.0 (keep x.1)
           (place-kept e.typ u s ∙ ap (option_map kept) at) in
-          fields-field u e (behind_of es fault) x.0 x.1 at
+          fields-field u e (after_of es fault) x.0 x.1 at
           ∙ ap (λ (l : Fields). (x.0, e) then l)
           (later x.1 here.good (ap (λ (l : Fields). l.fault) (sym read) ∙ whole))
           ∙ sym read
       by_type false s =
-          let broken = fields-critical (keep u) e (behind_of es fault) (place-gone e.typ u s) here.critical in
+          let broken = fields-critical (keep u) e (after_of es fault) (place-gone e.typ u s) here.critical in
           let none : Some (Critical e.typ e.start) ≡ None = ap (λ (l : Fields). l.fault) (sym broken) ∙ whole in
           absurd cc
 
@@ -222,11 +222,11 @@ typed u (e ∷ es) fault good = by_place (λ t g. typed t es fault g) (place_of 
       → place_of e.typ u ≡ o → AreTyped (fields_among u (e ∷ es) fault)
   by_place later None at = by_kind (is_critical_type e.typ) refl where
     by_kind : (b : Bool) → is_critical_type e.typ ≡ b → AreTyped (fields_among u (e ∷ es) fault)
-    by_kind true c = subst AreTyped (sym (fields-critical u e (behind_of es fault) at c)) tt
-    by_kind false c = subst AreTyped (sym (fields-stranger u e (behind_of es fault) at c)) (later u good)
+    by_kind true c = subst AreTyped (sym (fields-critical u e (after_of es fault) at c)) tt
+    by_kind false c = subst AreTyped (sym (fields-stranger u e (after_of es fault) at c)) (later u good)
   by_place later (Some x) at =
       let here = found e.typ u x good at in
-      subst AreTyped (sym (fields-field u e (behind_of es fault) x.0 x.1 at)) (here.typed, later x.1 here.good)
+      subst AreTyped (sym (fields-field u e (after_of es fault) x.0 x.1 at)) (here.typed, later x.1 here.good)
 
 abbrev stays_in : Kind → ℕ → Bool
 stays_in OfSegments typ = eqb typ 7 || (eqb typ 129 || eqb typ 131)

@@ -15,7 +15,7 @@ use Rattle.ndn_interest.specs.WrittenInterest.{written_plain}
 use Rattle.repo_plan.specs.declared.part.Part.{Part}
 use Rattle.repo_object.specs.Objects.{record_name, segment_name}
 use Rattle.repo_object.specs.NameParts.{IsSpelled}
-use Rattle.repo_object.specs.Wants.{asked_name, interest_front, digest_component, name_between, digest_behind}
+use Rattle.repo_object.specs.Wants.{asked_name, interest_prefix, digest_component, name_between, digest_after}
 use Rattle.repo_object.specs.Wants.{WantedPart, WantIsWritten, wanted_part}
 use Rattle.repo_object.proofs.NameLemmas.{IsName-number}
 
@@ -109,9 +109,9 @@ segment_valid name i valid low = IsName-number name 0x32 i valid (omega arith) (
 
 -- ---- the Interest
 
-plain_front : (name : List Component) → written_plain name false ≡ interest_front (length (encoding name)) ++
+plain_prefix : (name : List Component) → written_plain name false ≡ interest_prefix (length (encoding name)) ++
     encoding name
-plain_front name =
+plain_prefix name =
     let body = encoding name in
     let inner = element 0x07 body in
     let size : length inner ≡ length (head 0x07 (length body)) + length body =
@@ -131,24 +131,24 @@ wanted_fields part name digest lists interest =
     record { part = part; name = name; digest = digest; lists = lists; interest = interest }
 
 module _ (octets : List ℕ) (digest : Option (List ℕ)) (is : IsSpelled octets) (short : length octets ≤ 900)
-    (long : Long digest) (asked : ℕ) (front named interest : List ℕ) (start end : ℕ) (has : Bool)
-    (size : asked ≡ length octets + length (digest_component digest)) (begins : front ≡ interest_front asked)
-    (goes_on : named ≡ front ++ octets) (ends : interest ≡ named ++ digest_component digest)
-    (starts : start ≡ length front) (behind : end ≡ length named) (tells : has ≡ is_some digest) where
+    (long : Long digest) (asked : ℕ) (prefix named interest : List ℕ) (start end : ℕ) (has : Bool)
+    (size : asked ≡ length octets + length (digest_component digest)) (begins : prefix ≡ interest_prefix asked)
+    (goes_on : named ≡ prefix ++ octets) (ends : interest ≡ named ++ digest_component digest)
+    (starts : start ≡ length prefix) (after : end ≡ length named) (tells : has ≡ is_some digest) where
   between : name_between interest start end ≡ octets
   between =
       ap (λ (x : List ℕ). drop start (take end x)) ends
-      ∙ ap (drop start) (take_at named (digest_component digest) end (sym behind))
+      ∙ ap (drop start) (take_at named (digest_component digest) end (sym after))
       ∙ ap (drop start) goes_on
-      ∙ drop_at front octets start (sym starts)
+      ∙ drop_at prefix octets start (sym starts)
 
   pub want_name : components (name_between interest start end) ≡ components octets
   want_name = ap components between
 
-  pub want_digest : digest_behind interest end has ≡ digest
-  want_digest = ap (digest_behind interest end) tells ∙ by_digest digest ends long where
+  pub want_digest : digest_after interest end has ≡ digest
+  want_digest = ap (digest_after interest end) tells ∙ by_digest digest ends long where
     by_digest : (o : Option (List ℕ)) → interest ≡ named ++ digest_component o → Long o
-        → digest_behind interest end (is_some o) ≡ o
+        → digest_after interest end (is_some o) ≡ o
     by_digest None e l = refl
     by_digest (Some d) e l =
         let two : length (head 0x01 (length d)) ≡ 2 =
@@ -157,7 +157,7 @@ module _ (octets : List ℕ) (digest : Option (List ℕ)) (is : IsSpelled octets
         ap found
         (sym (drop-drop 2 end interest)
         ∙ ap (λ (x : List ℕ). drop 2 (drop end x)) e
-        ∙ ap (drop 2) (drop_at named (element 0x01 d) end (sym behind))
+        ∙ ap (drop 2) (drop_at named (element 0x01 d) end (sym after))
         ∙ drop_at (head 0x01 (length d)) d 2 two)
 
   written : interest ≡ written_plain (asked_name (components octets) digest) false
@@ -168,10 +168,10 @@ module _ (octets : List ℕ) (digest : Option (List ℕ)) (is : IsSpelled octets
       size ∙ sym (length-append octets (digest_component digest)) ∙ ap length whole in
       ends
       ∙ ap (λ (x : List ℕ). x ++ digest_component digest) goes_on
-      ∙ append_assoc front octets (digest_component digest)
-      ∙ ap (λ (x : List ℕ). front ++ x) whole
-      ∙ ap (λ (x : List ℕ). x ++ encoding name) (begins ∙ ap interest_front count)
-      ∙ sym (plain_front name)
+      ∙ append_assoc prefix octets (digest_component digest)
+      ∙ ap (λ (x : List ℕ). prefix ++ x) whole
+      ∙ ap (λ (x : List ℕ). x ++ encoding name) (begins ∙ ap interest_prefix count)
+      ∙ sym (plain_prefix name)
 
   pub want_written : WantIsWritten interest start end has
   want_written = record {
@@ -184,15 +184,15 @@ module _ (octets : List ℕ) (digest : Option (List ℕ)) (is : IsSpelled octets
         ∙ ap (λ (d : Option (List ℕ)).
         written_plain (asked_name (components (name_between interest start end)) d) false) (sym want_digest);
     short = omega (arith, short, ap length between);
-    in_order = omega (arith, starts, behind, ap length goes_on, length-append front octets);
-    within = omega (arith, behind, ap length ends, length-append named (digest_component digest));
+    in_order = omega (arith, starts, after, ap length goes_on, length-append prefix octets);
+    within = omega (arith, after, ap length ends, length-append named (digest_component digest));
   }
 
   pub want_is : (part : Part) (lists : Option ℕ)
-      → wanted_fields part (components (name_between interest start end)) (digest_behind interest end has) lists
+      → wanted_fields part (components (name_between interest start end)) (digest_after interest end has) lists
       interest
       ≡ wanted_part part (components octets) digest lists
   want_is part lists =
-      ap (λ (n : List Component). wanted_fields part n (digest_behind interest end has) lists interest) want_name
+      ap (λ (n : List Component). wanted_fields part n (digest_after interest end has) lists interest) want_name
       ∙ ap (λ (d : Option (List ℕ)). wanted_fields part (components octets) d lists interest) want_digest
       ∙ ap (wanted_fields part (components octets) digest lists) written

@@ -5,7 +5,7 @@ use Rattle.std.proofs.Common.{ap, ◌∙◌, arith}
 use Rattle.std.specs.List.{All, flat_map}
 use Rattle.std.proofs.lemmas.List.{append-nil}
 use Rattle.std.proofs.lemmas.List.Elements.{All-head, All-tail}
-use Rattle.ndn_tlv.specs.declared.order_table.FieldFault.{FieldFault}
+use Rattle.ndn_tlv.specs.declared.order_table.FieldError.{FieldError}
 use Rattle.ndn_tlv.specs.declared.order_table.Place.{Place}
 use Rattle.ndn_tlv.specs.declared.tlv_fault.TlvFault.{TlvFault}
 use Rattle.ndn_tlv.specs.Spelling.{element}
@@ -23,9 +23,9 @@ use Rattle.repo_object.specs.declared.record_fields.RecordField.TheVariants as f
 use Rattle.repo_object.specs.Publication.{Listed, RecordSays, is_indexed, record_content, index_content}
 use Rattle.repo_object.specs.Publication.RecordSays.{Lists, WithdrawsNumber}
 use Rattle.repo_object.specs.Records.{record_table, index_table, record_of, index_of}
-use Rattle.repo_object.specs.Formats.{IsDigest, IsListing, IsSaid, HasListing, HasWithdrawal, as_digests, values}
+use Rattle.repo_object.specs.Formats.{IsDigest, IsListing, IsStated, HasListing, HasWithdrawal, as_digests, values}
 use Rattle.repo_object.proofs.Sizes.{number_field-two, named_short}
-use Rattle.repo_object.proofs.RecordLemmas.{Field, said, index_from}
+use Rattle.repo_object.proofs.RecordLemmas.{Field, stated, index_from}
 
 abbrev digest_place : Place RecordField
 digest_place = record { typ = 0x83; field = field.Digest; repeats = true }
@@ -41,7 +41,7 @@ digest_items typ o (d ∷ ds) = placed o typ d ∷ digest_items typ (o + length 
 abbrev only_items : List Item → Listing Item TlvFault
 only_items items = record { items = items; fault = None }
 
-abbrev only_fields : List Field → Listing Field FieldFault
+abbrev only_fields : List Field → Listing Field FieldError
 only_fields items = record { items = items; fault = None }
 
 digests_read : (typ o : ℕ) (ds : List (List ℕ)) → 0 < typ → typ < 253 → All IsDigest ds
@@ -67,7 +67,7 @@ digests_are_fields : (others : List (Place RecordField)) (o : ℕ) (ds : List (L
 unfolding fields_among place_of digest_items
 digests_are_fields others o [] = refl
 digests_are_fields others o (d ∷ ds) =
-    ap (λ (l : Listing Field FieldFault). (field.Digest, placed o 0x83 d) then l)
+    ap (λ (l : Listing Field FieldError). (field.Digest, placed o 0x83 d) then l)
     (digests_are_fields others (o + length (element 0x83 d)) ds)
 
 -- those of index packets
@@ -77,7 +77,7 @@ indexes_are_fields : (o : ℕ) (ds : List (List ℕ))
 unfolding fields_among place_of digest_items
 indexes_are_fields o [] = refl
 indexes_are_fields o (d ∷ ds) =
-    ap (λ (l : Listing Field FieldFault). (field.IndexDigest, placed o 0x87 d) then l)
+    ap (λ (l : Listing Field FieldError). (field.IndexDigest, placed o 0x87 d) then l)
     (indexes_are_fields (o + length (element 0x87 d)) ds)
 
 abbrev digest_places : List (Place RecordField)
@@ -89,7 +89,7 @@ first_indexes : (o : ℕ) (ds : List (List ℕ))
 unfolding fields_among place_of digest_items
 first_indexes o [] = refl
 first_indexes o (d ∷ ds) =
-    ap (λ (l : Listing Field FieldFault). (field.IndexDigest, placed o 0x87 d) then l)
+    ap (λ (l : Listing Field FieldError). (field.IndexDigest, placed o 0x87 d) then l)
     (indexes_are_fields (o + length (element 0x87 d)) ds)
 
 abbrev typ_of : Bool → ℕ
@@ -143,7 +143,7 @@ written_lists l within =
       fields =
           ap (fields record_table) read
           ∙ table a b (digest_items typ p l.digests) refl refl
-          ∙ ap (λ (f : Listing Field FieldFault). (field.Name, a) then ((field.SegmentCount, b) then f))
+          ∙ ap (λ (f : Listing Field FieldError). (field.Name, a) then ((field.SegmentCount, b) then f))
           (either_kind kind p l.digests);
       names = name_of-encoding a.value_start l.name within.name;
       named = within.named;
@@ -177,10 +177,10 @@ written_withdraws seq some few =
     }
 
 -- the content of a record says what was written
-pub written_says : (says : RecordSays) → IsSaid says → record_of (record_content says) ≡ Some says
-written_says (Lists l) within = (said (record_content (Lists l)) (Lists l)).1 (written_lists l within)
+pub written_says : (says : RecordSays) → IsStated says → record_of (record_content says) ≡ Some says
+written_says (Lists l) within = (stated (record_content (Lists l)) (Lists l)).1 (written_lists l within)
 written_says (WithdrawsNumber seq) within =
-    (said (record_content (WithdrawsNumber seq)) (WithdrawsNumber seq)).1 (written_withdraws seq within.0 within.1)
+    (stated (record_content (WithdrawsNumber seq)) (WithdrawsNumber seq)).1 (written_withdraws seq within.0 within.1)
 
 -- and that of an index packet lists it
 pub written_index : (digests : List (List ℕ)) → All IsDigest digests

@@ -26,9 +26,9 @@ pub record IsListing (l : Listed) : Type 0 where
   pub digests : All IsDigest l.digests
 
 -- The same of all that a record may say: a withdrawal is of a number from 1 to 65,535.
-abbrev pub IsSaid : RecordSays → Type 0
-IsSaid (Lists l) = IsListing l
-IsSaid (WithdrawsNumber seq) = (0 < seq) × (seq ≤ number_limit)
+abbrev pub IsStated : RecordSays → Type 0
+IsStated (Lists l) = IsListing l
+IsStated (WithdrawsNumber seq) = (0 < seq) × (seq ≤ number_limit)
 
 -- These elements as fields that list digests: of index packets, or of segments.
 abbrev pub digest_field : Bool → RecordField
@@ -69,9 +69,9 @@ pub record HasWithdrawal (content : List ℕ) (seq : ℕ) : Type 0 where
   pub few : seq ≤ number_limit
 
 -- So it has the fields of a record that says this.
-abbrev pub HasSaid : List ℕ → RecordSays → Type 0
-HasSaid content (Lists l) = HasListing content l
-HasSaid content (WithdrawsNumber seq) = HasWithdrawal content seq
+abbrev pub HasStated : List ℕ → RecordSays → Type 0
+HasStated content (Lists l) = HasListing content l
+HasStated content (WithdrawsNumber seq) = HasWithdrawal content seq
 
 -- It has the fields of an index packet that lists these digests of segments: Digests alone.
 pub record HasIndex (content : List ℕ) (digests : List (List ℕ)) : Type 0 where

@@ -17,7 +17,7 @@ pub mod KindTables
 pub mod Readers
 pub mod Formats
 pub mod WorkedContents
-pub mod Said
+pub mod Stated
 pub mod NameParts
 pub mod Wants
 pub mod Verdict

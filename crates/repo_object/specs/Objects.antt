@@ -29,7 +29,7 @@ abbrev pub contents_of : Post → List (List ℕ)
 contents_of (Offers object) = object.contents
 contents_of (Withdraws seq) = []
 
--- What its record tells of its parts.
+-- What its record says of its parts.
 abbrev pub shape_in : Post → Shape
 shape_in post = shape_of_segments (length (contents_of post))
 
@@ -86,7 +86,7 @@ pub record IsPublisher (publisher : Publisher) : Type 0 where
 abbrev pub key_word : List ℕ
 key_word = 75 ∷ 69 ∷ 89 ∷ []
 
--- The name of a node's key: the node's with that word behind it.
+-- The name of a node's key: the node's with that word after it.
 abbrev pub key_name : List Component → List Component
 key_name node = node ++ (types.GenericNameComponent, key_word) ∷ []
 

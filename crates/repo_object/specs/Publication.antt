@@ -41,10 +41,10 @@ count_listed segments = if is_indexed segments then index_packets segments else 
 abbrev pub digest_type : ℕ → ℕ
 digest_type segments = if is_indexed segments then record_types.IndexDigest else record_types.Digest
 
--- What a record tells of its publication's parts. A withdrawal has none behind its record.
-abbrev pub shape_said : RecordSays → Shape
-shape_said (Lists l) = shape_of_segments l.segments
-shape_said (WithdrawsNumber seq) = shape_of_segments 0
+-- What a record says of its publication's parts. A withdrawal has none after its record.
+abbrev pub shape_stated : RecordSays → Shape
+shape_stated (Lists l) = shape_of_segments l.segments
+shape_stated (WithdrawsNumber seq) = shape_of_segments 0
 
 -- The content of a record: Name, SegmentCount and the digests, or Withdraws.
 abbrev pub record_content : RecordSays → List ℕ
@@ -125,17 +125,17 @@ record_packet publisher seq says =
     written_data (record_name publisher.node publisher.group seq) None (record_content says)
     (key_name publisher.node) publisher.key
 
--- The packets of the parts behind the record.
-abbrev pub packets_behind : Publisher → ℕ → Post → List (List ℕ)
-packets_behind publisher seq (Offers object) =
+-- The packets of the parts after the record.
+abbrev pub packets_after : Publisher → ℕ → Post → List (List ℕ)
+packets_after publisher seq (Offers object) =
     published_indexes publisher seq object ++ published_segments publisher object
-packets_behind publisher seq (Withdraws withdrawn) = []
+packets_after publisher seq (Withdraws withdrawn) = []
 
 -- The packets of a publication: the record, then the index packets, then the segments, each kind in order.
 abbrev pub packets : Publisher → ℕ → Post → List (List ℕ)
 packets publisher seq post =
-    record_packet publisher seq (published_record publisher seq post) ∷ packets_behind publisher seq post
+    record_packet publisher seq (published_record publisher seq post) ∷ packets_after publisher seq post
 
--- The packet of part `x`, counted from 0: part 0 is the record, and the parts behind it follow.
+-- The packet of part `x`, counted from 0: part 0 is the record, and the parts after it follow.
 abbrev pub packet_at : Publisher → ℕ → Post → ℕ → Option (List ℕ)
 packet_at publisher seq post x = slice_get (packets publisher seq post) x

@@ -1,7 +1,7 @@
 -- What readers of records and index packets have still to read.
 use Rattle.std.specs.Prelude.{◌≡◌, ◌<◌, ℕ, ◌+◌, ◌*◌, IsSome, List, [], length, take, drop, slice_get, Option, Some}
 use Rattle.std.specs.Prelude.{option_map, unwrap_or}
-use Rattle.ndn_tlv.specs.declared.order_table.FieldFault.{FieldFault}
+use Rattle.ndn_tlv.specs.declared.order_table.FieldError.{FieldError}
 use Rattle.ndn_tlv.specs.Listing.{Listing, ◌then◌}
 use Rattle.ndn_tlv.specs.Elements.{Item}
 use Rattle.repo_object.specs.declared.record_fields.RecordField.{RecordField}
@@ -21,9 +21,9 @@ abbrev pub digests_left : DigestReader → List (List ℕ)
 digests_left reader = unwrap_or (digests_to_come reader) []
 
 -- What a record says that was read up to its digests, where these are all there.
-abbrev pub said_to_come : RecordReader → Option RecordSays
-said_to_come (reader.Withdraws withdrawn) = Some (WithdrawsNumber withdrawn)
-said_to_come (reader.Lists name segments digests row) =
+abbrev pub stated_to_come : RecordReader → Option RecordSays
+stated_to_come (reader.Withdraws withdrawn) = Some (WithdrawsNumber withdrawn)
+stated_to_come (reader.Lists name segments digests row) =
     option_map (listed_record name segments) (digests_to_come digests)
 
 -- How many octets the element of a digest has: a type, a length, and the digest.
@@ -48,5 +48,5 @@ HasItsRow (reader.Withdraws withdrawn) = Unit
 HasItsRow (reader.Lists name segments digests row) = IsSome (digests_to_come digests) → IsRow row.now digests
 
 -- The fields of a content by the order table of records begin with this one, and these follow.
-abbrev pub BeginsWith : List ℕ → RecordField × Item → Listing (RecordField × Item) FieldFault → Type 0
+abbrev pub BeginsWith : List ℕ → RecordField × Item → Listing (RecordField × Item) FieldError → Type 0
 BeginsWith content first others = record_fields content ≡ (first then others)

@@ -3,7 +3,7 @@ use Rattle.std.specs.Prelude.{ℕ, ◌==◌, nat_le, Bool, true, false, ◌&&◌
 use Rattle.std.specs.Prelude.{Some, None, option_map, Result, Ok, Err}
 use Rattle.std.specs.Option.{option_and_then}
 use Rattle.ndn_tlv.specs.Types as types
-use Rattle.ndn_tlv.specs.declared.order_table.FieldFault.{FieldFault}
+use Rattle.ndn_tlv.specs.declared.order_table.FieldError.{FieldError}
 use Rattle.ndn_tlv.specs.declared.order_table.Place.{Place}
 use Rattle.ndn_tlv.specs.Listing.{Listing}
 use Rattle.ndn_tlv.specs.Elements.{Item, elements}
@@ -81,7 +81,7 @@ digest_in indexes (field, e) =
     if is_kind indexes (lists_index field) && length e.value == digest_len then Some e.value else None
 
 -- The digests that fields are, where each is one and nothing ends them but the end.
-unfoldable pub digests_among : Bool → List (RecordField × Item) → Option FieldFault → Option (List (List ℕ))
+unfoldable pub digests_among : Bool → List (RecordField × Item) → Option FieldError → Option (List (List ℕ))
 digests_among indexes [] None = Some []
 digests_among indexes [] (Some fault) = None
 digests_among indexes (first ∷ fields) fault =
@@ -90,17 +90,17 @@ digests_among indexes (first ∷ fields) fault =
     (digest_in indexes first)
 
 -- The same, where there are so many.
-abbrev pub counted_digests : Bool → ℕ → Listing (RecordField × Item) FieldFault → Option (List (List ℕ))
+abbrev pub counted_digests : Bool → ℕ → Listing (RecordField × Item) FieldError → Option (List (List ℕ))
 counted_digests indexes count fields =
     that_passes (λ digests. length digests == count) (digests_among indexes fields.items fields.fault)
 
 -- The digests that the record of so many segments lists.
-abbrev pub listed_digests : ℕ → List (RecordField × Item) → Option FieldFault → Option (List (List ℕ))
+abbrev pub listed_digests : ℕ → List (RecordField × Item) → Option FieldError → Option (List (List ℕ))
 listed_digests segments items fault =
     counted_digests (is_indexed segments) (count_listed segments) (record { items = items; fault = fault })
 
 -- What a record says that begins with Withdraws: nothing else follows.
-abbrev pub withdrawal_among : Item → List (RecordField × Item) → Option FieldFault → Option RecordSays
+abbrev pub withdrawal_among : Item → List (RecordField × Item) → Option FieldError → Option RecordSays
 withdrawal_among w [] None = option_map WithdrawsNumber (number_in w)
 withdrawal_among w [] (Some fault) = None
 withdrawal_among w (field ∷ fields) fault = None
@@ -110,7 +110,7 @@ abbrev pub listed_record : List Component → ℕ → List (List ℕ) → Record
 listed_record name segments digests = Lists (record { name = name; segments = segments; digests = digests })
 
 -- What a record says that begins with a Name and a SegmentCount: the digests follow that the number asks for.
-abbrev pub listing_among : Item → Item → List (RecordField × Item) → Option FieldFault → Option RecordSays
+abbrev pub listing_among : Item → Item → List (RecordField × Item) → Option FieldError → Option RecordSays
 listing_among n c digests fault =
     option_and_then (λ name.
     option_and_then (λ segments. option_map (listed_record name segments) (listed_digests segments digests fault))
@@ -118,26 +118,26 @@ listing_among n c digests fault =
     (object_name_in n)
 
 -- What a record says that begins with a Name: a SegmentCount follows.
-abbrev pub counted_among : Item → List (RecordField × Item) → Option FieldFault → Option RecordSays
+abbrev pub counted_among : Item → List (RecordField × Item) → Option FieldError → Option RecordSays
 counted_among n ((field.SegmentCount, c) ∷ digests) fault = listing_among n c digests fault
 counted_among n _ fault = None
 
 -- What the fields of a record say.
-abbrev pub said_among : List (RecordField × Item) → Option FieldFault → Option RecordSays
-said_among ((field.Withdraws, w) ∷ fields) fault = withdrawal_among w fields fault
-said_among ((field.Name, n) ∷ fields) fault = counted_among n fields fault
-said_among _ fault = None
+abbrev pub stated_among : List (RecordField × Item) → Option FieldError → Option RecordSays
+stated_among ((field.Withdraws, w) ∷ fields) fault = withdrawal_among w fields fault
+stated_among ((field.Name, n) ∷ fields) fault = counted_among n fields fault
+stated_among _ fault = None
 
 -- The fields of a content by the order table of records.
-abbrev pub record_fields : List ℕ → Listing (RecordField × Item) FieldFault
+abbrev pub record_fields : List ℕ → Listing (RecordField × Item) FieldError
 record_fields content = fields record_table (elements 0 content)
 
 -- What the content of a record says, or None where it is no record's.
 abbrev pub record_of : List ℕ → Option RecordSays
-record_of content = said_among (record_fields content).items (record_fields content).fault
+record_of content = stated_among (record_fields content).items (record_fields content).fault
 
 -- The fields of a content by the order table of index packets.
-abbrev pub index_fields : List ℕ → Listing (RecordField × Item) FieldFault
+abbrev pub index_fields : List ℕ → Listing (RecordField × Item) FieldError
 index_fields content = fields index_table (elements 0 content)
 
 -- The digests of segments that the content of an index packet lists, where there are so many.

@@ -23,7 +23,7 @@ use Rattle.repo_object.specs.Publication.RecordSays.{Lists, WithdrawsNumber}
 use Rattle.repo_object.specs.Records.{record_of, index_of}
 use Rattle.repo_object.specs.Wants.{WantedPart}
 
--- The packet has no octets but those that are signed, and the signature behind them.
+-- The packet has no octets but those that are signed, and the signature after them.
 abbrev pub is_all_signed : Data → Bool
 is_all_signed d = bytes_eq d.value (d.signed ++ element types.SignatureValue d.signature)
 
@@ -63,8 +63,8 @@ lists_as_many (Some count) content = is_some (index_of content count)
 
 -- A record's content is a record's that its publication may have, and an index packet's lists as many digests as it has
 -- to.
-abbrev pub is_well_said : WantedPart → Data → Bool
-is_well_said want d =
+abbrev pub is_well_stated : WantedPart → Data → Bool
+is_well_stated want d =
     (not (want.part.part == 0) || may_say want.part.seq (record_of d.content)) && lists_as_many want.lists d.content
 
 -- The packet, where it passes for the want under the publisher's key of that name, or the first
@@ -76,7 +76,7 @@ packet_verdict want key_name key octets d =
     else if not (has_digest want.digest octets) then Err OtherDigest
     else if not (names_key key_name d) then Err UnknownKey
     else if not (is_signed_by key d) then Err BadSignature
-    else if not (is_well_said want d) then Err BadRecord
+    else if not (is_well_stated want d) then Err BadRecord
     else Ok d
 
 -- A packet, where it was read.
@@ -100,7 +100,7 @@ pub record Passes (want : WantedPart) (key_name key octets : List ℕ) (d : Data
   pub located : d.locator ≡ Some locator
   pub key_named : encoding locator ≡ key_name
   pub signature : d.signature ≡ hmac key d.signed
-  pub said : want.part.part ≡ 0 → IsTrue (may_say want.part.seq (record_of d.content))
+  pub stated : want.part.part ≡ 0 → IsTrue (may_say want.part.seq (record_of d.content))
   pub listing : IfSome want.lists (λ count. IsSome (index_of d.content count))
 
 -- ---- what a check gives
@@ -149,8 +149,8 @@ abbrev pub content_in : List ℕ → Option (List ℕ)
 content_in octets = content_within (data_of octets)
 
 -- What the record that the octets are says.
-abbrev pub said_in : List ℕ → Option RecordSays
-said_in octets = option_and_then record_of (content_in octets)
+abbrev pub stated_in : List ℕ → Option RecordSays
+stated_in octets = option_and_then record_of (content_in octets)
 
 -- The digests that the index packet that the octets are lists, where there are so many.
 abbrev pub index_in : List ℕ → ℕ → Option (List (List ℕ))

@@ -61,10 +61,10 @@ want_segment part shape name digest =
 -- ---- wants as they are kept
 
 -- How an Interest begins that asks for a name of so many octets and says nothing else.
-abbrev pub interest_front : ℕ → List ℕ
-interest_front asked = head types.Interest (length (head types.Name asked) + asked) ++ head types.Name asked
+abbrev pub interest_prefix : ℕ → List ℕ
+interest_prefix asked = head types.Interest (length (head types.Name asked) + asked) ++ head types.Name asked
 
--- The component of a digest behind a name, where there is one.
+-- The component of a digest after a name, where there is one.
 abbrev pub digest_component : Option (List ℕ) → List ℕ
 digest_component None = []
 digest_component (Some digest) = element types.ImplicitSha256DigestComponent digest
@@ -74,8 +74,8 @@ abbrev pub name_between : List ℕ → ℕ → ℕ → List ℕ
 name_between interest start end = drop start (take end interest)
 
 -- The digest that ends the Interest, where one does: two octets of its component stand between the name and it.
-abbrev pub digest_behind : List ℕ → ℕ → Bool → Option (List ℕ)
-digest_behind interest end has_digest = if has_digest then Some (drop (end + 2) interest) else None
+abbrev pub digest_after : List ℕ → ℕ → Bool → Option (List ℕ)
+digest_after interest end has_digest = if has_digest then Some (drop (end + 2) interest) else None
 
 -- A name of these octets and a digest, if one is known, of which a want can be made.
 pub record IsExpected (octets : List ℕ) (digest : Option (List ℕ)) : Type 0 where
@@ -83,13 +83,13 @@ pub record IsExpected (octets : List ℕ) (digest : Option (List ℕ)) : Type 0 
   pub short : length octets ≤ 900
   pub long : IfSome digest (λ d. length d ≡ 32)
 
--- The Interest is written of the name that stands between these places, and of the digest behind it.
+-- The Interest is written of the name that stands between these places, and of the digest after it.
 pub record WantIsWritten (interest : List ℕ) (start end : ℕ) (has_digest : Bool) : Type 0 where
   pub name : IsName (components (name_between interest start end))
   pub spelled : name_between interest start end ≡ encoding (components (name_between interest start end))
-  pub digest : IfSome (digest_behind interest end has_digest) (λ digest. length digest ≡ 32)
+  pub digest : IfSome (digest_after interest end has_digest) (λ digest. length digest ≡ 32)
   pub written : interest ≡ written_plain
-      (asked_name (components (name_between interest start end)) (digest_behind interest end has_digest)) false
+      (asked_name (components (name_between interest start end)) (digest_after interest end has_digest)) false
   pub short : length (name_between interest start end) ≤ 900
   pub in_order : start ≤ end
   pub within : end ≤ length interest

@@ -81,7 +81,7 @@ impl<'p> DigestsView<'p> {
         ensures { option_map (λ digest. digest.now) result ≡ slice_get self.now i }
     {
         let count = usize::from(self.digests.left());
-        // Where nothing else has room, only digests stand there, each behind one octet of type and one of length.
+        // Where nothing else has room, only digests stand there, each after one octet of type and one of length.
         if i < count && self.row.len() == DIGEST_ELEMENT_LEN * count {
             let (_, digest) = self.row.split_at(DIGEST_ELEMENT_LEN * i + 2);
             return digest.first_chunk();

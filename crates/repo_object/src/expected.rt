@@ -155,8 +155,8 @@ impl<'w> Expected<'w> {
         self.digest
     }
 
-    /// Whether the octets are the packet that is expected, under the key that the ring has at its publisher's number, or
-    /// the first reason why not. It takes no memory.
+    /// Whether the octets are the packet that is expected, under the key that the ring has at its publisher's number,
+    /// or the first reason why not. It takes no memory.
     pub fn check(&self, octets: &[u8], ring: &KeyRing) -> Result<(), PartRefusal>
         requires { self.now.part.publisher < length ring.now }
         ensures { MatchResult result
@@ -184,7 +184,7 @@ impl<'w> Expected<'w> {
         self.part
     }
 
-    // How many digests the packet has to list, if it is an index packet.
+    // How many digests the packet must list, if it is an index packet.
     pub(crate) fn lists(&self) -> Option<u16>
         ensures { result ≡ self.now.lists }
     {

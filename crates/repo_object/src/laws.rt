@@ -12,22 +12,22 @@ ghost use Rattle.ndn_interest.specs.Interest.{interest_of};
 ghost use Rattle.ndn_interest.specs.WrittenInterest.{read_plain};
 ghost use Rattle.repo_plan.specs.declared.part.Part.{Part};
 ghost use Rattle.repo_plan.specs.declared.shape.Shape.{Shape};
-ghost use Rattle.repo_plan.specs.Parts.{most_listed, index_packets, parts_behind};
+ghost use Rattle.repo_plan.specs.Parts.{most_listed, index_packets, parts_after};
 ghost use Rattle.repo_object.specs.Limits.{node_name_limit, object_name_limit, segment_limit, content_limit};
 ghost use Rattle.repo_object.specs.Objects.{NamedContents, Post, IsObject, IsPost, Publisher, IsPublisher};
 ghost use Rattle.repo_object.specs.Objects.{IsShortName, key_name, record_name, segment_name, shape_in};
 ghost use Rattle.repo_object.specs.Objects.Post.{Offers};
 ghost use Rattle.repo_object.specs.Publication.{Listed, RecordSays, published_segments, published_listing, listed_by};
 ghost use Rattle.repo_object.specs.Publication.{published_record, record_packet, packets, packet_at};
-ghost use Rattle.repo_object.specs.Publication.{shape_said};
-ghost use Rattle.repo_object.specs.Published.{AreClear};
+ghost use Rattle.repo_object.specs.Publication.{shape_stated};
+ghost use Rattle.repo_object.specs.Published.{AreCollisionFree};
 ghost use Rattle.repo_object.specs.declared.record_fields.RecordField.{RecordField};
 ghost use Rattle.repo_object.specs.Records.{record_fields, record_of, index_of};
 ghost use Rattle.repo_object.specs.KindTables.{Kind, kind_table, is_of_kind};
-ghost use Rattle.repo_object.specs.Formats.{IsListing, IsSaid, HasSaid, HasIndex};
+ghost use Rattle.repo_object.specs.Formats.{IsListing, IsStated, HasStated, HasIndex};
 ghost use Rattle.repo_object.specs.WorkedContents.{RecordsAreReadSo, IndexPacketsAreReadSo};
 ghost use Rattle.repo_object.specs.Wants.{WantedPart, asked_name, want_record, want_index, want_segment, listed_in};
-ghost use Rattle.repo_object.specs.Verdict.{part_verdict, Passes, may_say, content_in, said_in, index_in};
+ghost use Rattle.repo_object.specs.Verdict.{part_verdict, Passes, may_say, content_in, stated_in, index_in};
 ghost use Rattle.repo_object.specs.Cuts.{pieces, AreCut};
 
 use crate::names::NODE_NAME_LIMIT;
@@ -51,9 +51,9 @@ pub fn cut_pieces_are_the_content()
 /// A record says what its fields say: a Name, a SegmentCount and as many digests as that asks for, or Withdraws alone,
 /// within the limits. An index packet lists Digests alone, and is read as that of as many as there are.
 pub fn records_are_what_their_fields_say()
-    ensures fields { (content : List ℕ) (says : RecordSays) → (record_of content ≡ Some says) ↔ HasSaid content says }
+    ensures fields { (content : List ℕ) (says : RecordSays) → (record_of content ≡ Some says) ↔ HasStated content says }
     ensures within { (content : List ℕ) (says : RecordSays) → IsOctets content → length content < 2 ^ 64
-        → record_of content ≡ Some says → IsSaid says }
+        → record_of content ≡ Some says → IsStated says }
     ensures index { (content : List ℕ) (count : ℕ) (digests : List (List ℕ))
         → (index_of content count ≡ Some digests) ↔ (HasIndex content digests × (length digests ≡ count)) }
 {}
@@ -82,8 +82,8 @@ pub fn index_packets_are_read_so()
 pub fn passing_is_every_check()
     ensures checks { (want : WantedPart) (key_name key octets : List ℕ) (d : Data)
         → (part_verdict want key_name key octets ≡ Ok d) ↔ Passes want key_name key octets d }
-    ensures said { (want : WantedPart) (key_name key octets : List ℕ) → IsOk (part_verdict want key_name key octets)
-        → want.part.part ≡ 0 → IsTrue (may_say want.part.seq (said_in octets)) }
+    ensures stated { (want : WantedPart) (key_name key octets : List ℕ) → IsOk (part_verdict want key_name key octets)
+        → want.part.part ≡ 0 → IsTrue (may_say want.part.seq (stated_in octets)) }
     ensures lists { (want : WantedPart) (key_name key octets : List ℕ) → IsOk (part_verdict want key_name key octets)
         → IfSome want.lists (λ count. IsSome (index_in octets count)) }
 {}
@@ -91,7 +91,7 @@ pub fn passing_is_every_check()
 /// A publication has a packet for each part, and none has more octets than a packet may have.
 pub fn packets_fit()
     ensures count { (publisher : Publisher) (seq : ℕ) (post : Post)
-        → length (packets publisher seq post) ≡ parts_behind (shape_in post) + 1 }
+        → length (packets publisher seq post) ≡ parts_after (shape_in post) + 1 }
     ensures short { (publisher : Publisher) (seq : ℕ) (post : Post)
         → IsPublisher publisher → IsPost seq post → seq < 2 ^ 16
         → All (λ packet. length packet ≤ packet_limit) (packets publisher seq post) }
@@ -105,10 +105,10 @@ pub fn packets_fit()
 pub fn packets_are_read_back()
     ensures records { (publisher : Publisher) (seq : ℕ) (post : Post)
         → IsPublisher publisher → IsPost seq post → seq < 2 ^ 16
-        → said_in (record_packet publisher seq (published_record publisher seq post))
+        → stated_in (record_packet publisher seq (published_record publisher seq post))
         ≡ Some (published_record publisher seq post) }
     ensures shapes { (publisher : Publisher) (seq : ℕ) (post : Post)
-        → shape_said (published_record publisher seq post) ≡ shape_in post }
+        → shape_stated (published_record publisher seq post) ≡ shape_in post }
     ensures indexes { (publisher : Publisher) (seq k : ℕ) (object : NamedContents) (octets : List ℕ)
         → IsPublisher publisher → IsObject object → seq < 2 ^ 16 → k < index_packets (length object.contents)
         → packet_at publisher seq (Offers object) (k + 1) ≡ Some octets
@@ -155,7 +155,7 @@ pub fn packets_pass_for_their_wants()
 {}
 
 /// Of the packets of a group's publications, none passes for the want of a record but that of the same node and number.
-/// None passes for the want of a part behind a record but such as have its name and digest: where those tell packets
+/// None passes for the want of a part after a record but such as have its name and digest: where those tell packets
 /// apart, it is the part's.
 pub fn packets_that_pass_are_the_parts()
     ensures records { (own other : Publisher) (part : Part) (theirs : Post) (seq x : ℕ)
@@ -168,7 +168,7 @@ pub fn packets_that_pass_are_the_parts()
     ensures indexes { (own other : Publisher) (part : Part) (object : NamedContents) (theirs : Post)
         (seq x : ℕ) (key_name key packet octets : List ℕ)
         → IsPublisher own → IsObject object → IsPublisher other → IsPost seq theirs
-        → AreClear (record { publisher = own; seq = part.seq; post = Offers object })
+        → AreCollisionFree (record { publisher = own; seq = part.seq; post = Offers object })
         (record { publisher = other; seq = seq; post = theirs })
         → part.seq < 2 ^ 16 → seq < 2 ^ 16
         → 0 < part.part → part.part ≤ index_packets (length object.contents)
@@ -180,7 +180,7 @@ pub fn packets_that_pass_are_the_parts()
     ensures segments { (own other : Publisher) (part : Part) (object : NamedContents) (theirs : Post)
         (seq x : ℕ) (key_name key packet octets : List ℕ)
         → IsPublisher own → IsObject object → IsPublisher other → IsPost seq theirs
-        → AreClear (record { publisher = own; seq = part.seq; post = Offers object })
+        → AreCollisionFree (record { publisher = own; seq = part.seq; post = Offers object })
         (record { publisher = other; seq = seq; post = theirs })
         → seq < 2 ^ 16 → index_packets (length object.contents) < part.part
         → packet_at own part.seq (Offers object) part.part ≡ Some packet

@@ -7,7 +7,7 @@ use ndn_packet::{element_len, number_field_len};
 use ndn_tlv::{Writer, types};
 use std::alloc::AllocError;
 
-// A name in parts, which are written one behind the other: octets of components, the number of a publication, and the
+// A name in parts, which are written one after the other: octets of components, the number of a publication, and the
 // number of a segment or an index packet.
 #[derive(Drop)]
 pub(crate) struct NameParts<'n> {

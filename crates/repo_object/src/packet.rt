@@ -13,7 +13,7 @@ use std::sync::Arc;
 // A packet that is kept by itself, or one that others may hold too, with what is read of it once.
 #[derive(Debug, Drop)]
 enum Form {
-    Alone(Vec<u8>),
+    MemberState(Vec<u8>),
     Shared(Arc<Body>),
 }
 
@@ -68,7 +68,7 @@ impl Packet {
         ensures { result ≡ octets.items }
     {
         Packet {
-            form: Form::Alone(octets),
+            form: Form::MemberState(octets),
         }
     }
 
@@ -77,7 +77,7 @@ impl Packet {
         ensures { IfOk result (λ packet. packet ≡ self.now) }
     {
         match &self.form {
-            Form::Alone(octets) => Packet::new(alloc, octets.as_slice().to_vec(alloc)?, None),
+            Form::MemberState(octets) => Packet::new(alloc, octets.as_slice().to_vec(alloc)?, None),
             Form::Shared(body) => {
                 let body = Arc::try_clone(body)?;
                 Ok(Packet {
@@ -101,7 +101,7 @@ impl Packet {
         ensures data { IsOk (data_of result.now) }
     {
         match &self.form {
-            Form::Alone(octets) => octets,
+            Form::MemberState(octets) => octets,
             Form::Shared(body) => body.octets(),
         }
     }
@@ -111,7 +111,7 @@ impl Packet {
         ensures { result ≡ sha256 self.now }
     {
         match &self.form {
-            Form::Alone(octets) => digest_of(octets),
+            Form::MemberState(octets) => digest_of(octets),
             Form::Shared(body) => body.digest(),
         }
     }
@@ -121,7 +121,7 @@ impl Packet {
         ensures { result.now ≡ packet_name self.now }
     {
         match &self.form {
-            Form::Alone(octets) => DataView::read(octets).unwrap().name.octets(),
+            Form::MemberState(octets) => DataView::read(octets).unwrap().name.octets(),
             Form::Shared(body) => body.name(),
         }
     }
@@ -131,7 +131,7 @@ impl Packet {
         ensures { result.now ≡ packet_content self.now }
     {
         match &self.form {
-            Form::Alone(octets) => DataView::read(octets).unwrap().content,
+            Form::MemberState(octets) => DataView::read(octets).unwrap().content,
             Form::Shared(body) => body.content(),
         }
     }

@@ -85,15 +85,15 @@ pub fn packet_of(
     ensures { IfOk result (λ packet. option_map (λ p. p.items) packet
         ≡ packet_at (publisher node.now group.now key.now) seq (Offers object.now) part) }
 {
-    let Some(behind) = part.checked_sub(1) else {
+    let Some(after) = part.checked_sub(1) else {
         let (record, _, _) = made(alloc, object, seq, node, group, key)?;
         return Ok(Some(record));
     };
     let shape = Shape::of(object.contents().len() as u16);
     let key_name = key_name(node)?;
-    let Some(i) = behind.checked_sub(shape.index) else {
+    let Some(i) = after.checked_sub(shape.index) else {
         let name = record_name(node, group, seq)?;
-        let packet = index_alone(alloc, object, &name, shape, behind, &key_name, key)?;
+        let packet = index_alone(alloc, object, &name, shape, after, &key_name, key)?;
         return Ok(Some(packet));
     };
     segment_alone(alloc, object, i, &key_name, key)

@@ -1,8 +1,8 @@
 ghost use Rattle.std.specs.Prelude.{◌≡◌, ◌↔◌, None, Some, Err, is_some, IfOk};
 ghost use Rattle.repo_object.specs.Publication.RecordSays.{Lists};
-ghost use Rattle.repo_object.specs.Formats.{IsSaid};
+ghost use Rattle.repo_object.specs.Formats.{IsStated};
 ghost use Rattle.repo_object.specs.Records.{record_of, index_of};
-ghost use Rattle.repo_object.specs.Said.{owned_record, IsOfItsKind};
+ghost use Rattle.repo_object.specs.Stated.{owned_record, IsOfItsKind};
 
 use crate::digests_view::DigestsView;
 use crate::listing_view::ListingView;
@@ -62,7 +62,7 @@ pub fn is_record(content: &[u8]) -> bool
 pub fn read_record(alloc: Global, content: &[u8]) -> Result<Record, RecordFault>
     ensures ok { IfOk result (λ read. record_of content.now ≡ Some (owned_record read)) }
     ensures kind { IfOk result IsOfItsKind }
-    ensures within { IfOk result (λ read. IsSaid (owned_record read)) }
+    ensures within { IfOk result (λ read. IsStated (owned_record read)) }
     ensures bad { (result ≡ Err RecordFault.BadRecord) ↔ (record_of content.now ≡ None) }
 {
     match RecordView::read(content) {
@@ -94,7 +94,7 @@ pub(crate) fn is_index(content: &[u8], count: u16) -> bool
 fn owned(alloc: Global, listing: &ListingView<'_>) -> Result<Record, AllocError>
     ensures same { IfOk result (λ owned. owned_record owned ≡ Lists listing.now) }
     ensures kind { IfOk result IsOfItsKind }
-    ensures within { IfOk result (λ read. IsSaid (owned_record read)) }
+    ensures within { IfOk result (λ read. IsStated (owned_record read)) }
 {
     let shape = listing.shape();
     let digests = listing.digests().to_vec(alloc)?;

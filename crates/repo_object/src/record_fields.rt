@@ -5,7 +5,8 @@ ghost use Rattle.repo_object.specs.Limits.{segment_limit};
 ghost use Rattle.repo_object.specs.Publication.{count_listed};
 ghost use Rattle.repo_object.specs.Records.{record_of, index_of, withdrawal_among, counted_among, digest_in};
 ghost use Rattle.repo_object.specs.Records.{number_in, object_name_in, segment_count_in};
-ghost use Rattle.repo_object.specs.Readers.{said_to_come, digests_to_come, digests_left, IsRow, HasItsRow, BeginsWith};
+ghost use Rattle.repo_object.specs.Readers.{stated_to_come, digests_to_come, digests_left, IsRow, HasItsRow};
+ghost use Rattle.repo_object.specs.Readers.{BeginsWith};
 
 use crate::object::{SEGMENT_LIMIT, is_object_name};
 use crate::record_fault::RecordFault;
@@ -63,7 +64,7 @@ pub(crate) struct DigestReader<'p> {
     fields: FieldReader<'p, RecordField>,
     // Whether they are of index packets.
     indexes: bool,
-    // How many there have to be.
+    // How many there must be.
     left: u16,
 }
 
@@ -85,7 +86,7 @@ impl<'p> RecordReader<'p> {
     pub(crate) fn new(content: &'p [u8]) -> Option<RecordReader<'p>>
         ensures read { MatchOption result
             (record_of content.now ≡ None)
-            (λ reader. record_of content.now ≡ said_to_come reader) }
+            (λ reader. record_of content.now ≡ stated_to_come reader) }
         ensures row { IfSome result HasItsRow }
     {
         let mut fields = FieldReader::new(Reader::new(content, 0), &RECORD);
@@ -108,7 +109,7 @@ fn withdrawal<'p>(
 ) -> Option<RecordReader<'p>>
     ensures read { MatchOption result
         (withdrawal_among (item number.entry) fields.entry.items fields.entry.fault ≡ None)
-        (λ reader. withdrawal_among (item number.entry) fields.entry.items fields.entry.fault ≡ said_to_come reader) }
+        (λ reader. withdrawal_among (item number.entry) fields.entry.items fields.entry.fault ≡ stated_to_come reader) }
     ensures row { IfSome result HasItsRow }
 {
     let withdrawn = number_in(number)?;
@@ -128,7 +129,7 @@ fn listing<'p>(
     requires fields { BeginsWith content.now (RecordField.Name, item name) fields }
     ensures read { MatchOption result
         (counted_among (item name.entry) fields.entry.items fields.entry.fault ≡ None)
-        (λ reader. counted_among (item name.entry) fields.entry.items fields.entry.fault ≡ said_to_come reader) }
+        (λ reader. counted_among (item name.entry) fields.entry.items fields.entry.fault ≡ stated_to_come reader) }
     ensures row { IfSome result HasItsRow }
 {
     let Ok(Some(second)) = fields.next() else {
@@ -225,7 +226,7 @@ impl<'p> DigestReader<'p> {
         }
     }
 
-    // How many there have to be.
+    // How many there must be.
     pub(crate) fn left(&self) -> u16
         ensures { result ≡ self.now.left }
     {

@@ -1,9 +1,9 @@
 ghost use Rattle.std.specs.Prelude.{◌≡◌, ◌<◌, Some, IsSome, option_map};
 ghost use Rattle.repo_plan.specs.Parts.{IsShape};
-ghost use Rattle.repo_object.specs.Publication.{shape_said};
+ghost use Rattle.repo_object.specs.Publication.{shape_stated};
 ghost use Rattle.repo_object.specs.Records.{record_of};
-ghost use Rattle.repo_object.specs.Said.{seen_record};
-ghost use Rattle.repo_object.specs.Verdict.{said_in};
+ghost use Rattle.repo_object.specs.Stated.{seen_record};
+ghost use Rattle.repo_object.specs.Verdict.{stated_in};
 
 use crate::digests_view::DigestsView;
 use crate::listing_view::ListingView;
@@ -58,7 +58,7 @@ impl<'p> RecordView<'p> {
 
     /// How many segments the publication has, and how many index packets list them. A withdrawal has none.
     pub fn shape(&self) -> Shape
-        ensures same { result ≡ shape_said (seen_record self.now) }
+        ensures same { result ≡ shape_stated (seen_record self.now) }
         ensures sized { IsShape result }
     {
         match self {
@@ -69,8 +69,8 @@ impl<'p> RecordView<'p> {
 
     /// The record that a packet is known to be.
     pub fn in_packet(packet: &'p [u8]) -> RecordView<'p>
-        requires { IsSome (said_in packet.now) }
-        ensures { said_in packet.now ≡ Some (seen_record result) }
+        requires { IsSome (stated_in packet.now) }
+        ensures { stated_in packet.now ≡ Some (seen_record result) }
     {
         RecordView::known(DataView::read(packet).unwrap().content)
     }

@@ -3,7 +3,7 @@ ghost use Rattle.ndn_data.specs.Data.{data_seen};
 ghost use Rattle.repo_object.specs.Records.{record_of};
 ghost use Rattle.repo_object.specs.Shown.{octets_shown};
 ghost use Rattle.repo_object.specs.Verdict.{is_all_signed, locates, names_key, is_signed_by, may_say};
-ghost use Rattle.repo_object.specs.Verdict.{lists_as_many, is_well_said, packet_verdict, key_at};
+ghost use Rattle.repo_object.specs.Verdict.{lists_as_many, is_well_stated, packet_verdict, key_at};
 
 use crate::expected::Expected;
 use crate::part_refusal::PartRefusal;
@@ -48,13 +48,13 @@ pub(crate) fn judge(
     if !is_signed_by(ring, number, view) {
         return Err(PartRefusal::BadSignature);
     }
-    if !is_well_said(want, view) {
+    if !is_well_stated(want, view) {
         return Err(PartRefusal::BadRecord);
     }
     Ok(())
 }
 
-// Whether the packet has no octets but those that are signed, and the signature behind them.
+// Whether the packet has no octets but those that are signed, and the signature after them.
 fn is_all_signed(view: &DataView<'_>) -> bool
     ensures { result ≡ is_all_signed (data_seen view.now) }
 {
@@ -87,13 +87,13 @@ fn is_signed_by(ring: &KeyRing, number: u32, view: &DataView<'_>) -> bool
 
 // Whether a record's content is one that the publication may have, and an index packet's lists as many digests as it
 // has to.
-fn is_well_said(want: &Expected<'_>, view: &DataView<'_>) -> bool
-    ensures { result ≡ is_well_said want.now (data_seen view.now) }
+fn is_well_stated(want: &Expected<'_>, view: &DataView<'_>) -> bool
+    ensures { result ≡ is_well_stated want.now (data_seen view.now) }
 {
     may_say(want.part(), view.content) && lists_as_many(want.lists(), view.content)
 }
 
-// Whether the content is a record's that the publication may have, where it has to be one.
+// Whether the content is a record's that the publication may have, where it must be one.
 fn may_say(part: Part, content: &[u8]) -> bool
     ensures { result ≡ (not (part.part == 0) || may_say part.seq (record_of content.now)) }
 {

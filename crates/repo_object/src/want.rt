@@ -6,10 +6,10 @@ ghost use Rattle.repo_object.specs.Limits.{node_name_limit, object_name_limit};
 ghost use Rattle.repo_object.specs.Objects.{record_name, segment_name};
 ghost use Rattle.repo_object.specs.Publication.{Listed};
 ghost use Rattle.repo_object.specs.Publication.RecordSays.{Lists};
-ghost use Rattle.repo_object.specs.Said.{owned_record, ListsIndex};
+ghost use Rattle.repo_object.specs.Stated.{owned_record, ListsIndex};
 ghost use Rattle.repo_object.specs.NameParts.{spelled, IsSpelled};
 ghost use Rattle.repo_object.specs.Wants.{wanted_part, want_record, want_index, want_segment, listed_in};
-ghost use Rattle.repo_object.specs.Wants.{interest_front};
+ghost use Rattle.repo_object.specs.Wants.{interest_prefix};
 ghost use Rattle.repo_object.specs.Wants.{digest_component};
 ghost use Rattle.repo_object.specs.Shown.{octets_shown};
 ghost use Rattle.repo_object.specs.Verdict.{data_has_name, has_digest, ring_verdict};
@@ -45,14 +45,14 @@ pub struct Want {
 
 impl Model for Want {
     ghost use Rattle.ndn_name.specs.Names.{components};
-    ghost use Rattle.repo_object.specs.Wants.{WantedPart, WantIsWritten, name_between, digest_behind};
+    ghost use Rattle.repo_object.specs.Wants.{WantedPart, WantIsWritten, name_between, digest_after};
 
     ghost Value = { WantedPart };
 
     ghost view = { λ w. record {
       part = w.part;
       name = components (name_between w.interest.items w.name_start w.name_end);
-      digest = digest_behind w.interest.items w.name_end w.has_digest;
+      digest = digest_after w.interest.items w.name_end w.has_digest;
       lists = w.lists;
       interest = w.interest.items;
     } };
@@ -171,8 +171,8 @@ impl Want {
     fn expected(&self) -> Expected<'_>
         ensures { result ≡ self.now }
     {
-        let (front, _) = self.interest.split_at(self.name_end);
-        let (_, name) = front.split_at(self.name_start);
+        let (prefix, _) = self.interest.split_at(self.name_end);
+        let (_, name) = prefix.split_at(self.name_start);
         Expected::kept(self.part, self.lists, name, self.digest())
     }
 
@@ -204,7 +204,7 @@ const DIGEST_COMPONENT: u32 = types::IMPLICIT_SHA256_DIGEST_COMPONENT as u32;
 // The beginning of an Interest that asks for a name of so many octets, with room for the whole.
 fn begun(alloc: Global, asked: usize) -> Result<Writer, AllocError>
     requires { asked ≤ 1000 }
-    ensures { IfOk result (λ writer. writer ≡ interest_front asked) }
+    ensures { IfOk result (λ writer. writer ≡ interest_prefix asked) }
 {
     let body = element_len(types::NAME, asked);
     let mut writer = Writer::with_capacity(alloc, element_len(types::INTEREST, body))?;

@@ -3,7 +3,7 @@ use Rattle.std.proofs.Common.{◌≡◌, ℕ, ◌+◌, ◌-◌, ◌*◌, ◌/◌
 use Rattle.std.proofs.Common.{arith}
 use Rattle.std.proofs.lemmas.Bool.{or_left, or_right, or_parts, le-leb, lt-leb, leb-false, eq-eqb, eqb-true, eqb-false}
 use Rattle.std.specs.Prelude.{nat_le, ◌==◌, ◌↔◌}
-use Rattle.repo_plan.specs.Parts.{Shape, IsShape, ListsInTurn, most_listed, parts_behind, parent_number}
+use Rattle.repo_plan.specs.Parts.{Shape, IsShape, ListsInTurn, most_listed, parts_after, parent_number}
 
 -- what lists a part, by whether it is the record
 abbrev listed_by : Shape → ℕ → Bool → ℕ
@@ -16,12 +16,12 @@ by_record shape x l = ap (listed_by shape x) (or_right (shape.index == 0) _ (le-
 without_index : (shape : Shape) → shape.index ≡ 0 → (x : ℕ) → parent_number shape x ≡ 0
 without_index shape e x = ap (listed_by shape x) (or_left (shape.index == 0) _ (eq-eqb shape.index 0 e))
 
--- a segment behind index packets is listed by the one of its place
+-- a segment after index packets is listed by the one of its place
 by_place : (shape : Shape) (i : ℕ) → 1 ≤ shape.index → parent_number shape (shape.index + 1 + i) ≡ 1 + i / most_listed
-by_place shape i some = ap (listed_by shape (shape.index + 1 + i)) (behind (shape.index == 0) refl) ∙ place where
-  behind : (b : Bool) → (shape.index == 0) ≡ b → (b || nat_le (shape.index + 1 + i) shape.index) ≡ false
-  behind true e = absurd (omega (arith, eqb-true shape.index 0 e))
-  behind false e = lt-leb (shape.index + 1 + i) shape.index (omega arith)
+by_place shape i some = ap (listed_by shape (shape.index + 1 + i)) (following (shape.index == 0) refl) ∙ place where
+  following : (b : Bool) → (shape.index == 0) ≡ b → (b || nat_le (shape.index + 1 + i) shape.index) ≡ false
+  following true e = absurd (omega (arith, eqb-true shape.index 0 e))
+  following false e = lt-leb (shape.index + 1 + i) shape.index (omega arith)
 
   place : 1 + (shape.index + 1 + i - shape.index - 1) / most_listed ≡ 1 + i / most_listed
   place = omega arith
@@ -45,10 +45,10 @@ module _ (shape : Shape) (is : IsShape shape) (some : 1 ≤ shape.index) where
     go false h =
         let many : shape.index ≡ (shape.segments + most_listed - 1) / most_listed =
         is.index ∙ ap (λ (b : Bool). cond b 0 ((shape.segments + most_listed - 1) / most_listed)) h in
-        let behind : most_listed < shape.segments = leb-false shape.segments most_listed h in
-        (omega (arith, many, behind), omega (arith, many, behind))
+        let following : most_listed < shape.segments = leb-false shape.segments most_listed h in
+        (omega (arith, many, following), omega (arith, many, following))
 
-listed : (shape : Shape) → IsShape shape → (x : ℕ) → x ≤ parts_behind shape → parent_number shape x ≤ shape.index
+listed : (shape : Shape) → IsShape shape → (x : ℕ) → x ≤ parts_after shape → parent_number shape x ≤ shape.index
 listed shape is x l = go (shape.index == 0 || nat_le x shape.index) refl where
   go : (b : Bool) → (shape.index == 0 || nat_le x shape.index) ≡ b → listed_by shape x b ≤ shape.index
   go true h = omega arith

@@ -122,14 +122,14 @@ impl Plan {
     {
         let publication = (part.publisher, part.seq);
         match self.shape(part.publisher, part.seq) {
-            Some(shape) if u32::from(part.part) <= shape.parts_behind() => {
+            Some(shape) if u32::from(part.part) <= shape.parts_after() => {
                 self.done.contains(publication) || self.held.contains((publication, part.part))
             }
             _ => false,
         }
     }
 
-    /// What the held record of a publication tells of its parts, or `None` where its record is not held.
+    /// What the held record of a publication says of its parts, or `None` where its record is not held.
     pub fn shape(&self, publisher: u32, seq: u16) -> Option<Shape>
         ensures shape { result ≡ shape_of self.now (publisher, seq) }
         ensures sized { IfSome result IsShape }

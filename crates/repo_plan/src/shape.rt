@@ -1,9 +1,9 @@
 ghost use Rattle.std.specs.Prelude.{ℕ, ◌≡◌, ◌≤◌, ◌<◌};
 ghost use Rattle.repo_plan.specs.Parts.{IsShape, most_segments, shape_of_segments};
-ghost use Rattle.repo_plan.specs.Parts.{parts_behind, parent_number, parts_told};
+ghost use Rattle.repo_plan.specs.Parts.{parts_after, parent_number, parts_reported};
 
-/// What a record tells of its publication's parts. Part 0 is the record, the parts from 1 on are the index packets, if
-/// there are any, and those behind them are the segments.
+/// What a record says of its publication's parts. Part 0 is the record, the parts from 1 on are the index packets, if
+/// there are any, and those after them are the segments.
 ///
 /// A record lists up to 200 segments itself. Of a larger publication it lists index packets, and these list the
 /// segments, up to 200 each.
@@ -34,8 +34,8 @@ impl Shape {
     }
 
     /// How many parts there are besides the record.
-    pub fn parts_behind(self) -> u32
-        ensures { result ≡ parts_behind self }
+    pub fn parts_after(self) -> u32
+        ensures { result ≡ parts_after self }
     {
         u32::from(self.index) + u32::from(self.segments)
     }
@@ -52,10 +52,10 @@ impl Shape {
         }
     }
 
-    // The number behind this part and behind all that are listed with it.
-    pub(crate) fn behind_listed_with(self, part: u16) -> u32
+    // The number after this part and after all that are listed with it.
+    pub(crate) fn after_listed_with(self, part: u16) -> u32
         requires { 0 < parent_number self part }
-        ensures behind { part < result }
+        ensures following { part < result }
         ensures same { (x : ℕ) → part ≤ x → x < result → parent_number self x ≡ parent_number self part }
     {
         u32::from(self.index) + 1 + u32::from(self.parent(part)) * u32::from(MOST_LISTED)
@@ -63,11 +63,11 @@ impl Shape {
 }
 
 // How many parts besides the record are known of, of a publication whose record tells this, or is not held.
-pub(crate) fn told_by(shape: Option<Shape>) -> u32
-    ensures { result ≡ parts_told shape }
+pub(crate) fn reported_by(shape: Option<Shape>) -> u32
+    ensures { result ≡ parts_reported shape }
 {
     match shape {
-        Some(shape) => shape.parts_behind(),
+        Some(shape) => shape.parts_after(),
         None => 0,
     }
 }

@@ -137,31 +137,31 @@ missing_in ((x ∷ xs) ∷ cs) = missing_in cs
 abbrev Tells : (ℕ → Bool) → ℕ → List (List ℕ) → Type 0
 Tells g first cs = (j : ℕ) → j < length cs → g (first + j) ≡ is_some (come (get_or cs j []))
 
-tells_rest : (g : ℕ → Bool) (first : ℕ) (c : List ℕ) (cs : List (List ℕ)) → Tells g first (c ∷ cs)
+reports_rest : (g : ℕ → Bool) (first : ℕ) (c : List ℕ) (cs : List (List ℕ)) → Tells g first (c ∷ cs)
     → Tells g (first + 1) cs
-tells_rest g first c cs tells j within = ap g (sym (next first j)) ∙ tells (suc j) (omega arith)
+reports_rest g first c cs tells j within = ap g (sym (next first j)) ∙ tells (suc j) (omega arith)
 
-tells_here : (g : ℕ → Bool) (first : ℕ) (c : List ℕ) (cs : List (List ℕ)) → Tells g first (c ∷ cs)
+reports_here : (g : ℕ → Bool) (first : ℕ) (c : List ℕ) (cs : List (List ℕ)) → Tells g first (c ∷ cs)
     → g first ≡ is_some (come c)
-tells_here g first c cs tells = ap g (sym (here first)) ∙ tells zero (omega arith)
+reports_here g first c cs tells = ap g (sym (here first)) ∙ tells zero (omega arith)
 
 pub come_or_missing : (g : ℕ → Bool) (first : ℕ) (cs : List (List ℕ)) → Tells g first cs
     → length (filter g (numbers_from first (length cs))) + missing_in cs ≡ length cs
 come_or_missing g first [] tells = refl
 come_or_missing g first ([] ∷ cs) tells =
-    let rest = come_or_missing g (first + 1) cs (tells_rest g first [] cs tells) in
-    rw (tells_here g first [] cs tells) (omega (arith, rest))
+    let rest = come_or_missing g (first + 1) cs (reports_rest g first [] cs tells) in
+    rw (reports_here g first [] cs tells) (omega (arith, rest))
 come_or_missing g first ((x ∷ xs) ∷ cs) tells =
-    let rest = come_or_missing g (first + 1) cs (tells_rest g first (x ∷ xs) cs tells) in
-    rw (tells_here g first (x ∷ xs) cs tells) (omega (arith, rest))
+    let rest = come_or_missing g (first + 1) cs (reports_rest g first (x ∷ xs) cs tells) in
+    rw (reports_here g first (x ∷ xs) cs tells) (omega (arith, rest))
 
 pub all_come : (g : ℕ → Bool) (first : ℕ) (cs : List (List ℕ)) → Tells g first cs
     → list_all g (numbers_from first (length cs)) ≡ eqb (missing_in cs) 0
 all_come g first [] tells = refl
 all_come g first ([] ∷ cs) tells =
-    rw (tells_here g first [] cs tells) (sym (other (suc (missing_in cs)) 0 (λ e. omega arith)))
+    rw (reports_here g first [] cs tells) (sym (other (suc (missing_in cs)) 0 (λ e. omega arith)))
 all_come g first ((x ∷ xs) ∷ cs) tells =
-    rw (tells_here g first (x ∷ xs) cs tells) (all_come g (first + 1) cs (tells_rest g first (x ∷ xs) cs tells))
+    rw (reports_here g first (x ∷ xs) cs tells) (all_come g (first + 1) cs (reports_rest g first (x ∷ xs) cs tells))
 
 pub come_again : (c : List ℕ) → unwrap_or (come c) [] ≡ c
 come_again [] = refl

@@ -22,7 +22,7 @@ module _ {A : Type 0} where
   value_of-numbered first (suc i) (x ∷ xs) =
       rw (key_above (first + suc i) first (omega arith), next first i) (value_of-numbered (first + 1) i xs)
 
-  -- a key behind the first
+  -- a key after the first
   pub later : (k first : ℕ) (y x : A) (rest : List (ℕ × A)) → first < k
       → with_value nat_cmp k y ((first, x) ∷ rest) ≡ (first, x) ∷ with_value nat_cmp k y rest
   later k first y x rest more =

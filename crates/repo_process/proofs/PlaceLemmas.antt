@@ -169,13 +169,13 @@ pub pushed : (m : Inside) (i : Insertions) (p : Process) (items : List Process) 
     → numbered_from (m.next + 1 - length items) items ≡ with_value nat_cmp i.next_process p i.processes
 pushed m i p items are view more =
     let old = m.insertions.items in
-    let front = m.next - length old in
-    let same : m.next + 1 - length (old ++ p ∷ []) ≡ front = omega (arith, length-append old (p ∷ []), are.given) in
-    let last : front + length old ≡ m.next = omega (arith, are.given) in
+    let prefix = m.next - length old in
+    let same : m.next + 1 - length (old ++ p ∷ []) ≡ prefix = omega (arith, length-append old (p ∷ []), are.given) in
+    let last : prefix + length old ≡ m.next = omega (arith, are.given) in
     ap (λ (ps : List Process). numbered_from (m.next + 1 - length ps) ps) more
     ∙ ap (λ (n : ℕ). numbered_from n (old ++ p ∷ [])) same
-    ∙ sym (with_value-push front p old)
-    ∙ ap (λ (n : ℕ). with_value nat_cmp n p (numbered_from front old)) last
+    ∙ sym (with_value-push prefix p old)
+    ∙ ap (λ (n : ℕ). with_value nat_cmp n p (numbered_from prefix old)) last
     ∙ ap (λ (j : Insertions). with_value nat_cmp j.next_process p j.processes) view
 
 -- ---- a process that is whole

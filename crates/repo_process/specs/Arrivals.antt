@@ -1,4 +1,4 @@
--- What a block makes of a process, what is told of it, and the object that a whole process is.
+-- What a block makes of a process, what is reported of it, and the object that a whole process is.
 use Rattle.std.specs.Prelude.{ℕ, Bool, true, false, not, ◌&&◌, List, Vec, map, Option, Some, None, if◌then◌else◌}
 use Rattle.std.specs.Borrow.{Bor}
 use Rattle.ndn_name.specs.Names.{Component}
@@ -9,12 +9,12 @@ use Rattle.repo_process.specs.Processes.{Process, BlockState, missing, is_whole,
 use Rattle.repo_process.specs.Processes.BlockState.{Unknown, Already, Waiting, Whole}
 use Rattle.repo_process.specs.Fields.{blocks_from}
 
--- What is told of a block.
-abbrev pub told_of_block : BlockState → declared_state.BlockState
-told_of_block Unknown = state.Unknown
-told_of_block Already = state.Complete
-told_of_block (Waiting p) = state.Kept (missing p)
-told_of_block (Whole p) = state.Complete
+-- What is reported of a block.
+abbrev pub reported_of_block : BlockState → declared_state.BlockState
+reported_of_block Unknown = state.Unknown
+reported_of_block Already = state.Complete
+reported_of_block (Waiting p) = state.Kept (missing p)
+reported_of_block (Whole p) = state.Complete
 
 -- No block is missing any more.
 abbrev pub is_last : BlockState → Bool

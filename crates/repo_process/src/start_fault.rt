@@ -14,7 +14,7 @@ pub enum StartFault {
 }
 
 impl StartFault {
-    /// Want of memory, which is all that a start can meet where there is a number for it.
+    /// Running out of memory, which is all that a start can meet where there is a number for it.
     pub fn only_memory(self) -> AllocError
         requires { self ≡ StartFault.NoMemory }
     {

@@ -19,50 +19,51 @@ use Rattle.sorted_lists.specs.Least.{Passes}
 use Rattle.sorted_lists.proofs.Orders.{less_back, nat_same, nat_itself}
 use Rattle.sorted_lists.proofs.Sets.{in_append, append_left, append_right}
 use Rattle.sorted_lists.proofs.RunOrder.{le_itself, lt_not_le}
-use Rattle.sorted_lists.proofs.Members.{in_front, in_back, in_at}
+use Rattle.sorted_lists.proofs.Members.{in_prefix, in_back, in_at}
 use Rattle.sorted_lists.proofs.Climbs.{climbs_parts, pairs_climb}
 use Rattle.sorted_lists.proofs.LeastOnes.{le_both, first_same}
 use Rattle.repo_plan.proofs.Orders.{exact_parts}
-use Rattle.repo_store.specs.Kept.{Slots, Held}
+use Rattle.repo_store.specs.PacketTable.{Slots, Held}
 use Rattle.repo_store.specs.Indexes.{name_at, key_in, AreInOrder, asks, is_asked, held_part, IsFrom, AreAsked}
 use Rattle.repo_store.specs.Indexes.{IsFirstOf}
 use Rattle.repo_store.proofs.IndexLemmas.{exact_octets, exact_keys, NameLe, PartLe, names_le, parts_le}
 
 -- ---- octets in order
 
--- octets that are neither before a front nor behind octets that begin with it begin with it too
-between : (front a rest : List ℕ) → NameLe front a → NameLe a (front ++ rest) → (more : List ℕ) × (a ≡ front ++ more)
+-- octets that are neither before a prefix nor after octets that begin with it begin with it too
+between : (prefix a rest : List ℕ) → NameLe prefix a → NameLe a (prefix ++ rest) → (more : List ℕ)
+    × (a ≡ prefix ++ more)
 between [] a rest low high = (a, refl)
-between (x ∷ front) [] rest low high = absurd (true≢false (sym low))
-between (x ∷ front) (y ∷ a) rest low high = go (nat_cmp x y) refl low (between front a rest) where
-  go : (o : Ordering) → nat_cmp x y ≡ o → is_le (ordering_then o (slice_cmp nat_cmp front a)) ≡ true
-      → (NameLe front a → NameLe a (front ++ rest) → (more : List ℕ) × (a ≡ front ++ more))
-      → (more : List ℕ) × ((y ∷ a) ≡ x ∷ (front ++ more))
+between (x ∷ prefix) [] rest low high = absurd (true≢false (sym low))
+between (x ∷ prefix) (y ∷ a) rest low high = go (nat_cmp x y) refl low (between prefix a rest) where
+  go : (o : Ordering) → nat_cmp x y ≡ o → is_le (ordering_then o (slice_cmp nat_cmp prefix a)) ≡ true
+      → (NameLe prefix a → NameLe a (prefix ++ rest) → (more : List ℕ) × (a ≡ prefix ++ more))
+      → (more : List ℕ) × ((y ∷ a) ≡ x ∷ (prefix ++ more))
   go Less e l inner =
-      let behind = slice_cmp nat_cmp a (front ++ rest) in
+      let after = slice_cmp nat_cmp a (prefix ++ rest) in
       absurd (true≢false (sym high
-      ∙ ap (λ (o : Ordering). is_le (ordering_then o behind)) (less_back nat_cmp_total x y e)))
+      ∙ ap (λ (o : Ordering). is_le (ordering_then o after)) (less_back nat_cmp_total x y e)))
   go Equal e l inner =
       let same : x ≡ y = nat_same x y e in
       let tied : nat_cmp y x ≡ Equal = ap (nat_cmp y) same ∙ nat_itself y in
-      let behind = slice_cmp nat_cmp a (front ++ rest) in
-      let more : (more : List ℕ) × (a ≡ front ++ more) =
-      inner l (ap (λ (o : Ordering). is_le (ordering_then o behind)) (sym tied) ∙ high) in
-      (more.0, ap (λ (n : List ℕ). y ∷ n) more.1 ∙ ap (λ (z : ℕ). z ∷ (front ++ more.0)) (sym same))
+      let after = slice_cmp nat_cmp a (prefix ++ rest) in
+      let more : (more : List ℕ) × (a ≡ prefix ++ more) =
+      inner l (ap (λ (o : Ordering). is_le (ordering_then o after)) (sym tied) ∙ high) in
+      (more.0, ap (λ (n : List ℕ). y ∷ n) more.1 ∙ ap (λ (z : ℕ). z ∷ (prefix ++ more.0)) (sym same))
   go Greater e l inner = absurd (true≢false (sym l))
 
--- octets that begin with a front are not before it
-front_before : (front rest : List ℕ) → NameLe front (front ++ rest)
-front_before [] [] = refl
-front_before [] (x ∷ rest) = refl
-front_before (x ∷ front) rest =
-    ap (λ (o : Ordering). is_le (ordering_then o (slice_cmp nat_cmp front (front ++ rest)))) (nat_itself x)
-    ∙ front_before front rest
+-- octets that begin with a prefix are not before it
+prefix_before : (prefix rest : List ℕ) → NameLe prefix (prefix ++ rest)
+prefix_before [] [] = refl
+prefix_before [] (x ∷ rest) = refl
+prefix_before (x ∷ prefix) rest =
+    ap (λ (o : Ordering). is_le (ordering_then o (slice_cmp nat_cmp prefix (prefix ++ rest)))) (nat_itself x)
+    ∙ prefix_before prefix rest
 
-begins_is : (front name : List ℕ)
-    → (starts_with nat_eq name front ≡ true → name ≡ front ++ drop (length front) name)
-    × ((rest : List ℕ) → name ≡ front ++ rest → starts_with nat_eq name front ≡ true)
-begins_is front name = starts_is unsigned_Decides name front _ refl
+begins_is : (prefix name : List ℕ)
+    → (starts_with nat_eq name prefix ≡ true → name ≡ prefix ++ drop (length prefix) name)
+    × ((rest : List ℕ) → name ≡ prefix ++ rest → starts_with nat_eq name prefix ≡ true)
+begins_is prefix name = starts_is unsigned_Decides name prefix _ refl
 
 is_name : (asked name : List ℕ) → (asks asked false name ≡ true → name ≡ asked)
     × (name ≡ asked → asks asked false name ≡ true)
@@ -71,7 +72,7 @@ is_name asked name = slice_eq-Decides unsigned_Decides name asked _ refl
 -- names that are asked for are not before what is asked for
 asked_from : (asked : List ℕ) (p : Bool) (name : List ℕ) → asks asked p name ≡ true → NameLe asked name
 asked_from asked true name h =
-    subst (NameLe asked) (sym ((begins_is asked name).0 h)) (front_before asked (drop (length asked) name))
+    subst (NameLe asked) (sym ((begins_is asked name).0 h)) (prefix_before asked (drop (length asked) name))
 asked_from asked false name h = subst (NameLe asked) (sym ((is_name asked name).0 h)) (le_itself exact_octets asked)
 
 -- and stand side by side
@@ -98,7 +99,7 @@ module _ (slots : Slots) (held : List Held) (asked : List ℕ) (p : Bool) where
         (pairs_climb exact_keys (key_in slots) rest from.in_order i j d l m)
 
     low_at : (i : ℕ) (d : Held) → i < length rest → NameLe asked (name_at slots (get_or rest i d))
-    low_at i d l = from.behind (get_or rest i d) (in_at rest i d l)
+    low_at i d l = from.after (get_or rest i d) (in_at rest i d l)
 
     pub asked_parted : IsPartitionedBy test rest
     asked_parted i j d l m passes = elim (cases_lt i j) [
@@ -110,16 +111,16 @@ module _ (slots : Slots) (held : List Held) (asked : List ℕ) (p : Bool) where
 
     module _ (end : ℕ) (within : end ≤ length rest)
         (point : IsPartitionPoint (λ h. test h ≡ true) (λ h. test h ≡ false) rest end) where
-      -- what stands in front of what is held from the name on is not asked for, and what stands behind the end neither
+      -- what stands in front of what is held from the name on is not asked for, and what stands after the end neither
       within_end : (h : Held) → Passes held test h → In h (take end rest)
-      within_end h i = elim (in_append from.front rest h (subst (In h) (sym from.whole) i.0)) [
+      within_end h i = elim (in_append from.prefix rest h (subst (In h) (sym from.whole) i.0)) [
         | inl before ↦
             absurd (lt_not_le exact_octets (name_at slots h) asked (from.before h before)
             (asked_from asked p (name_at slots h) i.1))
         | inr later ↦
             elim (in_append (take end rest) (drop end rest) h (subst (In h) (sym (take-append-drop end rest)) later)) [
               | inl there ↦ there
-              | inr behind ↦ absurd (true≢false (sym i.1 ∙ in_back (λ x. test x ≡ false) rest end point.1 h behind))
+              | inr after ↦ absurd (true≢false (sym i.1 ∙ in_back (λ x. test x ≡ false) rest end point.1 h after))
             ]
       ]
 
@@ -127,9 +128,9 @@ module _ (slots : Slots) (held : List Held) (asked : List ℕ) (p : Bool) where
       asked_found = record {
         in_order = (climbs_parts exact_keys (key_in slots) end rest from.in_order).0;
         there = λ h i. (
-          subst (In h) from.whole (append_right from.front rest h
+          subst (In h) from.whole (append_right from.prefix rest h
               (subst (In h) (take-append-drop end rest) (append_left (take end rest) (drop end rest) h i))),
-          in_front (λ x. test x ≡ true) rest end within point.0 h i,
+          in_prefix (λ x. test x ≡ true) rest end within point.0 h i,
         );
         back = within_end;
       }

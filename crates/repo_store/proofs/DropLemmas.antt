@@ -21,7 +21,7 @@ use Rattle.repo_plan.specs.declared.part.Part.{Part}
 use Rattle.repo_plan.specs.Parts.{Pair, pair_cmp, pair_of, part_cmp}
 use Rattle.repo_plan.specs.Plan.{is_in}
 use Rattle.repo_plan.proofs.Orders.{exact_pairs, exact_parts}
-use Rattle.repo_store.specs.Kept.{Held, KeptState}
+use Rattle.repo_store.specs.PacketTable.{Held, PacketTableState}
 use Rattle.repo_store.specs.StoreList.{is_in_any}
 use Rattle.repo_store.specs.Slots.{AreSame, held_outside, held_outside_all}
 use Rattle.repo_store.proofs.StoreLemmas.{outside_more}
@@ -31,14 +31,14 @@ abbrev PairLe : Pair → Pair → Type 0
 PairLe a b = Le exact_pairs a b
 
 -- how far the parts of a publication are dropped: some are, and what is outside of it stays
-pub record Dropping (pair : Pair) (old now : KeptState) : Type 0 where
+pub record Dropping (pair : Pair) (old now : PacketTableState) : Type 0 where
   pub outside : held_outside pair now.held ≡ held_outside pair old.held
   pub same : AreSame old now
   pub spare : now.spare ≡ old.spare
   pub few : length old.held ≤ length now.held + 65536
   pub by_number : (h : Held) → In h now.held → is_in pair h.0 ≡ true → length old.held ≤ length now.held + h.0.part
 
-pub dropping_none : (pair : Pair) (k : KeptState) → Dropping pair k k
+pub dropping_none : (pair : Pair) (k : PacketTableState) → Dropping pair k k
 dropping_none pair k = record {
   outside = refl;
   same = λ h i. refl;
@@ -114,7 +114,7 @@ later_part pair t u t_inside u_inside le other = go (part_cmp t u) refl le where
   go Greater e h = absurd cc
 
 -- the first part that is left goes: by its number, so many at most went before it
-pub dropping_more : (pair : Pair) (old now new : KeptState) (x : Held) → is_in pair x.0 ≡ true → x.0.part < 65536
+pub dropping_more : (pair : Pair) (old now new : PacketTableState) (x : Held) → is_in pair x.0 ≡ true → x.0.part < 65536
     → Rises part_cmp (keys now.held) → first_from part_cmp (first_of pair) now.held ≡ Some x
     → new.held ≡ without_key part_cmp x.0 now.held → AreSame now new → new.spare ≡ now.spare → Dropping pair old now
     → Dropping pair old new
@@ -142,14 +142,14 @@ dropping_more pair old now new x inside small rises is held same spare d =
           omega (arith, fewer, before, later_part pair x.0 h.0 inside within high was.1);
     }
 
-all_outside : (pair : Pair) (old now : KeptState) → Dropping pair old now
+all_outside : (pair : Pair) (old now : PacketTableState) → Dropping pair old now
     → ((h : Held) → In h now.held → is_in pair h.0 ≡ true → ⊥) → now.held ≡ held_outside pair old.held
 all_outside pair old now d none =
     sym (filter_whole (λ (h : Held). not (is_in pair h.0)) now.held
     (λ h i. ap not (false_from_ne_true (is_in pair h.0) (none h i))))
     ∙ d.outside
 
-module _ (pair : Pair) (old now : KeptState) (d : Dropping pair old now) where
+module _ (pair : Pair) (old now : PacketTableState) (d : Dropping pair old now) where
   pub dropped_none : first_from part_cmp (first_of pair) now.held ≡ None → now.held ≡ held_outside pair old.held
   dropped_none none = all_outside pair old now d (λ h i inside.
       first_up_to pair h.0 inside (none_from_on exact_parts (first_of pair) now.held none h i))
@@ -165,7 +165,7 @@ module _ (pair : Pair) (old now : KeptState) (d : Dropping pair old now) where
       ])
 
   -- the next one is gone, and there are fewer
-  pub fewer_held : (new : KeptState) (x : Held) → Rises part_cmp (keys now.held) → In x now.held
+  pub fewer_held : (new : PacketTableState) (x : Held) → Rises part_cmp (keys now.held) → In x now.held
       → new.held ≡ without_key part_cmp x.0 now.held → length new.held < length now.held
   fewer_held new x rises i held =
       let less = length-without exact_parts.total x.0 x.1 now.held rises (value_there exact_parts now.held x rises i) in
@@ -174,16 +174,16 @@ module _ (pair : Pair) (old now : KeptState) (d : Dropping pair old now) where
 -- ---- the parts of many publications
 
 -- how far the parts of these publications are dropped: those of the first i are
-pub record DroppingAll (pairs : List Pair) (i : ℕ) (old now : KeptState) : Type 0 where
+pub record DroppingAll (pairs : List Pair) (i : ℕ) (old now : PacketTableState) : Type 0 where
   pub left : held_outside_all (drop i pairs) now.held ≡ held_outside_all pairs old.held
   pub same : AreSame old now
   pub spare : now.spare ≡ old.spare
   pub few : length old.held ≤ length now.held + (length pairs - (length pairs - i)) * 65536
 
-pub dropping_all_none : (pairs : List Pair) (k : KeptState) → DroppingAll pairs 0 k k
+pub dropping_all_none : (pairs : List Pair) (k : PacketTableState) → DroppingAll pairs 0 k k
 dropping_all_none pairs k = record { left = refl; same = λ h i. refl; spare = refl; few = omega arith }
 
-pub dropping_all_more : (pairs : List Pair) (i : ℕ) (d : Pair) (old now new : KeptState) → i < length pairs
+pub dropping_all_more : (pairs : List Pair) (i : ℕ) (d : Pair) (old now new : PacketTableState) → i < length pairs
     → new.held ≡ held_outside (get_or pairs i d) now.held → AreSame now new → new.spare ≡ now.spare
     → length now.held ≤ length new.held + 65536 → DroppingAll pairs i old now → DroppingAll pairs (i + 1) old new
 dropping_all_more pairs i d old now new low held same spare few all = record {
@@ -199,7 +199,7 @@ dropping_all_more pairs i d old now new low held same spare few all = record {
   few = omega (arith, few, all.few, low);
 }
 
-pub dropping_all_end : (pairs : List Pair) (i : ℕ) (old now : KeptState) → length pairs ≤ i
+pub dropping_all_end : (pairs : List Pair) (i : ℕ) (old now : PacketTableState) → length pairs ≤ i
     → DroppingAll pairs i old now → now.held ≡ held_outside_all pairs old.held
 dropping_all_end pairs i old now whole all =
     sym (filter_whole (λ (h : Held). not (is_in_any [] h.0)) now.held (λ h j. refl))
@@ -207,7 +207,8 @@ dropping_all_end pairs i old now whole all =
     ∙ all.left
 
 -- as many are dropped as there are fewer
-pub fewer_left : (pairs : List Pair) (i : ℕ) (old now : KeptState) → length pairs ≤ i → DroppingAll pairs i old now
+pub fewer_left : (pairs : List Pair) (i : ℕ) (old now : PacketTableState) → length pairs ≤ i
+    → DroppingAll pairs i old now
     → length now.held ≤ length old.held
 fewer_left pairs i old now whole all =
     let out : Held → Bool = λ h. not (is_in_any pairs h.0) in

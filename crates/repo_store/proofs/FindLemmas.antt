@@ -26,7 +26,7 @@ use Rattle.repo_plan.proofs.Orders.{exact_parts}
 use Rattle.repo_store.specs.declared.names.Names.{Names}
 use Rattle.repo_store.specs.Served.{satisfies}
 use Rattle.repo_object.specs.Packets.{IsPacket, packet_name}
-use Rattle.repo_store.specs.Kept.{Slots, at, octets_at, Held, entries_of, KeptState}
+use Rattle.repo_store.specs.PacketTable.{Slots, at, octets_at, Held, entries_of, PacketTableState}
 use Rattle.repo_store.specs.Slots.{is_full_name, has_full_name, KeptIsSound}
 use Rattle.repo_store.specs.Indexes.{name_of, asks, is_asked, held_part, lesser, IsFirstOf, satisfies_held}
 use Rattle.repo_store.specs.NameLayers.{IsIndexOf, is_kept, is_kept_and_asked}
@@ -48,7 +48,7 @@ module _ (slots : Slots) (test : List ℕ → Bool) where
 
 -- ---- what is first in the layers of names is first of what is held
 
-module _ (k : KeptState) (asked : List ℕ) (p : Bool) (l : Names) (index : IsIndexOf k.slots k.held l) where
+module _ (k : PacketTableState) (asked : List ℕ) (p : Bool) (l : Names) (index : IsIndexOf k.slots k.held l) where
   abbrev test : Held → Bool
   test = is_asked k.slots asked p
 
@@ -104,7 +104,7 @@ module _ (name : List Component) (asked octets : List ℕ) (packet : IsPacket oc
         λ full. decides.1 (spelled ∙ octets-full name own octets full ∙ sym named),
       )
 
-  -- the name itself, or a front of it where that is asked for
+  -- the name itself, or a prefix of it where that is asked for
   is_own : (p : Bool) → Decides (asks asked p (packet_name octets))
       ((name ≡ packet.packet.name) ⊎ (IsTrue p × IsPrefix name packet.packet.name))
   is_own true = (
@@ -115,8 +115,8 @@ module _ (name : List Component) (asked octets : List ℕ) (packet : IsPacket oc
               (sym own_is ∙ begins.0 t ∙ ap (λ (x : List ℕ). x ++ drop (length asked) (packet_name octets)) spelled),
         ),
     λ h. elim h [
-      | inl a ↦ front (subst (IsPrefix name) a (itself name))
-      | inr f ↦ front f.1
+      | inl a ↦ leading (subst (IsPrefix name) a (itself name))
+      | inr f ↦ leading f.1
     ],
   )
     where
@@ -130,8 +130,8 @@ module _ (name : List Component) (asked octets : List ℕ) (packet : IsPacket oc
       itself [] = refl
       itself (c ∷ a) = ap (λ (n : List Component). c ∷ n) (itself a)
 
-      front : IsPrefix name packet.packet.name → starts_with nat_eq (packet_name octets) asked ≡ true
-      front h =
+      leading : IsPrefix name packet.packet.name → starts_with nat_eq (packet_name octets) asked ≡ true
+      leading h =
           begins.1 (encoding (drop (length name) packet.packet.name))
           (own_is ∙ prefix-encoding name packet.packet.name h
           ∙ ap (λ (x : List ℕ). x ++ encoding (drop (length name) packet.packet.name)) (sym spelled))
@@ -171,7 +171,7 @@ module _ (slots : Slots) (name : List Component) (asked : List ℕ) (is_name : I
         ap (λ (o : Option (List ℕ)). asks asked p (name_of o) || is_full_name asked o) e
         ∙ test_asked name asked octets packet is_name spelled p
 
-    pub answer_found : (k : KeptState) (p : Bool) (a b : Option Held) → slots ≡ k.slots → KeptIsSound k
+    pub answer_found : (k : PacketTableState) (p : Bool) (a b : Option Held) → slots ≡ k.slots → KeptIsSound k
         → IsFirstOf k.held (is_asked slots asked p) a → IsFirstOf k.held (has_full_name slots asked) b
         → IsFirstOf k.held (satisfies_held slots name p) (lesser a b)
     answer_found k p a b is sound named full =

@@ -15,9 +15,9 @@ use Rattle.ndn_tlv.specs.Spelling.{element}
 use Rattle.sorted_lists.proofs.Members.{same_itself}
 use Rattle.sorted_lists.proofs.LeastOnes.{first_of_same}
 use Rattle.repo_plan.proofs.Orders.{exact_parts}
-use Rattle.repo_store.specs.declared.kept.Sought.{Sought}
+use Rattle.repo_store.specs.declared.packet_table.Sought.{Sought}
 use Rattle.repo_object.specs.Packets.{packet_name}
-use Rattle.repo_store.specs.Kept.{front_of, Slots, at, octets_at, Held}
+use Rattle.repo_store.specs.PacketTable.{fingerprint_of, Slots, at, octets_at, Held}
 use Rattle.repo_store.specs.Slots.{AreSlots, is_full_name, has_full_name, is_sought, is_sought_at}
 use Rattle.repo_store.specs.Indexes.{held_part, IsFirstOf}
 use Rattle.repo_store.proofs.NameLemmas.{digest_element}
@@ -33,8 +33,8 @@ append_both (x ∷ a) b (y ∷ c) d l e =
     let rest : (a ≡ c) × (b ≡ d) = append_both a b c d l more in
     ((ap (λ (n : List ℕ). x ∷ n) rest.0 ∙ ap (λ (z : ℕ). z ∷ c) one), rest.1)
 
-pub taken_and_rest : (n : ℕ) (xs front back : List ℕ) → front ≡ take n xs → back ≡ drop n xs → xs ≡ front ++ back
-taken_and_rest n xs front back p q = sym ((λ i. p i ++ q i) ∙ take-append-drop n xs)
+pub taken_and_rest : (n : ℕ) (xs prefix back : List ℕ) → prefix ≡ take n xs → back ≡ drop n xs → xs ≡ prefix ++ back
+taken_and_rest n xs prefix back p q = sym ((λ i. p i ++ q i) ∙ take-append-drop n xs)
 
 -- how long a full name is
 full_length : (octets : List ℕ)
@@ -83,7 +83,8 @@ module _ (slots : Slots) (held : List Held) (asked : List ℕ) where
       ≡ (pointwise nat_eq (sha256 octets) digest && pointwise nat_eq (packet_name octets) name)) where
     -- its digest and its name are those of the full name
     agrees : (octets : List ℕ)
-        → (front_of (sha256 octets) == front_of digest && is_sought sought octets) ≡ is_full_name asked (Some octets)
+        → (fingerprint_of (sha256 octets) == fingerprint_of digest && is_sought sought octets)
+        ≡ is_full_name asked (Some octets)
     agrees octets = both_ways _ _ there back where
       own_digest : Decides (pointwise nat_eq (sha256 octets) digest) (sha256 octets ≡ digest)
       own_digest = slice_eq-Decides unsigned_Decides (sha256 octets) digest _ refl
@@ -94,10 +95,11 @@ module _ (slots : Slots) (held : List Held) (asked : List ℕ) where
       spelled : element 1 (sha256 octets) ≡ (1 ∷ 32 ∷ []) ++ sha256 octets
       spelled = digest_element (sha256 octets) (length-sha256 octets)
 
-      there : (front_of (sha256 octets) == front_of digest && is_sought sought octets) ≡ true
+      there : (fingerprint_of (sha256 octets) == fingerprint_of digest && is_sought sought octets) ≡ true
           → is_full_name asked (Some octets) ≡ true
       there e =
-          let found = (and_parts (front_of (sha256 octets) == front_of digest) (is_sought sought octets) e).1 in
+          let found = (and_parts (fingerprint_of (sha256 octets) == fingerprint_of digest) (is_sought sought octets)
+          e).1 in
           let both = and_parts _ _ (sym (seeks octets) ∙ found) in
           (is_full-Decides asked octets).1
           (is
@@ -106,7 +108,7 @@ module _ (slots : Slots) (held : List Held) (asked : List ℕ) where
           ∙ ap (λ (x : List ℕ). packet_name octets ++ x) (sym spelled))
 
       back : is_full_name asked (Some octets) ≡ true
-          → (front_of (sha256 octets) == front_of digest && is_sought sought octets) ≡ true
+          → (fingerprint_of (sha256 octets) == fingerprint_of digest && is_sought sought octets) ≡ true
       back e =
           let full =
           sym is ∙ (is_full-Decides asked octets).0 e ∙ ap (λ (x : List ℕ). packet_name octets ++ x) spelled in
@@ -120,14 +122,15 @@ module _ (slots : Slots) (held : List Held) (asked : List ℕ) where
             l,
           )) full in
           let same : sha256 octets ≡ digest = sym (append_cancel_left (1 ∷ 32 ∷ []) digest (sha256 octets) both.1) in
-          and_from (front_of (sha256 octets) == front_of digest) (is_sought sought octets)
-          (eq-eqb (front_of (sha256 octets)) (front_of digest) (ap front_of same))
+          and_from (fingerprint_of (sha256 octets) == fingerprint_of digest) (is_sought sought octets)
+          (eq-eqb (fingerprint_of (sha256 octets)) (fingerprint_of digest) (ap fingerprint_of same))
           (seeks octets ∙ and_from _ _ (own_digest.1 same) (own_name.1 (sym both.0)))
 
     pub full_found : AreSlots slots held → (r : Option Held)
-        → IsFirstOf held (is_sought_at slots (front_of digest) sought) r → IsFirstOf held (has_full_name slots asked) r
+        → IsFirstOf held (is_sought_at slots (fingerprint_of digest) sought) r
+        → IsFirstOf held (has_full_name slots asked) r
     full_found are r first =
-        first_of_same exact_parts held_part held held (is_sought_at slots (front_of digest) sought)
+        first_of_same exact_parts held_part held held (is_sought_at slots (fingerprint_of digest) sought)
         (has_full_name slots asked) (same_itself held) (λ h i.
         agrees (octets_at slots h.1)
         ∙ ap (is_full_name asked) (sym (octets_of (at slots h.1) (are.kept h i)))) r first

@@ -14,7 +14,7 @@ use Rattle.sorted_lists.proofs.Climbs.{climbs_parts}
 use Rattle.repo_plan.specs.declared.part.Part.{Part}
 use Rattle.repo_plan.specs.Parts.{part_cmp}
 use Rattle.repo_plan.proofs.Orders.{exact_parts}
-use Rattle.repo_store.specs.Kept.{Slots, Held}
+use Rattle.repo_store.specs.PacketTable.{Slots, Held}
 use Rattle.repo_store.specs.Indexes.{name_at, Key, key_cmp, key_in, AreInOrder, IsPlace, first_part, IsFrom}
 
 -- ---- orders
@@ -66,11 +66,11 @@ parts_le a b same h =
 pub from_place : (slots : Slots) (held : List Held) (name : List ℕ) (place : ℕ) → AreInOrder slots held
     → IsPlace slots held (name, first_part) place → IsFrom slots held name (drop place held)
 from_place slots held name place climbs at = record {
-  front = take place held;
+  prefix = take place held;
   whole = take-append-drop place held;
   in_order = (climbs_parts exact_keys (key_in slots) place held climbs).1;
   before =
       λ h i. first_before (slice_cmp nat_cmp (name_at slots h) name) (part_cmp h.0 first_part) (at.before h i)
       (λ less. lt_not_le exact_parts h.0 first_part less (first_part_least h.0));
-  behind = λ h i. names_le (name, first_part) (key_in slots h) (at.behind h i);
+  after = λ h i. names_le (name, first_part) (key_in slots h) (at.after h i);
 }

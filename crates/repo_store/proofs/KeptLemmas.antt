@@ -13,7 +13,7 @@ use Rattle.sorted_lists.proofs.Lookups.{set_same, set_length}
 use Rattle.sorted_lists.proofs.Filled.{filled, length-filled, in_filled, filled_in, filled_differ}
 use Rattle.repo_plan.specs.declared.part.Part.{Part}
 use Rattle.repo_store.specs.StoreList.{different_octets}
-use Rattle.repo_store.specs.Kept.{Slots, at, octets_at, Held, entries_of}
+use Rattle.repo_store.specs.PacketTable.{Slots, at, octets_at, Held, entries_of}
 use Rattle.repo_store.specs.Slots.{IsHeldIn, AreSlots}
 use Rattle.repo_store.proofs.IndexLemmas.{exact_octets}
 use Rattle.repo_store.proofs.SlotLemmas.{octets_of}

@@ -1,7 +1,7 @@
 pub mod IndexLemmas
 pub mod AskedLemmas
 pub mod NameLayerLemmas
-pub mod FrontLemmas
+pub mod FingerprintLemmas
 pub mod SlotLemmas
 pub mod KeptLemmas
 pub mod DropLemmas

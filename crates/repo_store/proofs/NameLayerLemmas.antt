@@ -20,7 +20,7 @@ use Rattle.repo_plan.specs.Plan.{is_in}
 use Rattle.repo_plan.proofs.Orders.{exact_parts}
 use Rattle.repo_store.specs.declared.names.Names.{Names}
 use Rattle.repo_store.specs.StoreList.{is_in_any}
-use Rattle.repo_store.specs.Kept.{Slots, at, Held, KeptState}
+use Rattle.repo_store.specs.PacketTable.{Slots, at, Held, PacketTableState}
 use Rattle.repo_store.specs.Slots.{held_outside_all}
 use Rattle.repo_store.specs.Indexes.{name_of, Key, key_cmp, key_in, AreInOrder, GainsOne}
 use Rattle.repo_store.specs.NameLayers.{all_of, LayersAreInOrder, HasRoom, HasSame, IsMerged, IsIndexOf, is_left}
@@ -293,19 +293,19 @@ module _ (old new : Slots) (held : List Held) (index : Names) (indexed : IsIndex
     }
 
 -- room is made in both, or in the names alone
-pub reserved : {E : Type 0} (old new : KeptState) (names after : Names) (n : ℕ) (r : Result (Unit {0}) E)
+pub reserved : {E : Type 0} (old new : PacketTableState) (names after : Names) (n : ℕ) (r : Result (Unit {0}) E)
     → OnOk r (new ≡ record old { spare = max old.spare n }) → OnErr r (new ≡ old) → old.spare < n
     → HasSame names after → HasRoom after old.spare → HasRoom after n → IsIndexOf old.slots old.held names
     → IsIndexOf new.slots new.held after × HasRoom after new.spare
 reserved old new names after n (Ok x) ok err low same before room index =
-    let more : KeptState = record old { spare = max old.spare n } in (
-      subst (λ (k : KeptState). IsIndexOf k.slots k.held after) (sym ok)
+    let more : PacketTableState = record old { spare = max old.spare n } in (
+      subst (λ (k : PacketTableState). IsIndexOf k.slots k.held after) (sym ok)
           (index_kept old.slots old.held names after same index),
-      subst (λ (k : KeptState). HasRoom after k.spare) (sym ok)
+      subst (λ (k : PacketTableState). HasRoom after k.spare) (sym ok)
           (fewer_room after (max old.spare n) n (omega arith) room),
     )
 reserved old new names after n (Err e) ok err low same before room index = (
-  subst (λ (k : KeptState). IsIndexOf k.slots k.held after) (sym err)
+  subst (λ (k : PacketTableState). IsIndexOf k.slots k.held after) (sym err)
       (index_kept old.slots old.held names after same index),
-  subst (λ (k : KeptState). HasRoom after k.spare) (sym err) before,
+  subst (λ (k : PacketTableState). HasRoom after k.spare) (sym err) before,
 )

@@ -36,13 +36,13 @@ asks_for-Decides name p digest d =
     let full = full_name d.name digest in
     let same = same_name-Decides name d.name in
     let whole = same_name-Decides name full in
-    let front = prefix-Decides name full in (
+    let leading = prefix-Decides name full in (
       λ yes. elim (or_cases (is_same_name name d.name) _ yes) [
         | inl a ↦ inl (same.0 a)
         | inr b ↦
             elim (or_cases (is_same_name name full) (p && is_prefix name full) b) [
               | inl a ↦ inr (inl (whole.0 a))
-              | inr e ↦ let both = and_parts p (is_prefix name full) e in inr (inr (both.0, front.0 both.1))
+              | inr e ↦ let both = and_parts p (is_prefix name full) e in inr (inr (both.0, leading.0 both.1))
             ]
       ],
       λ asked. elim asked [
@@ -50,7 +50,7 @@ asks_for-Decides name p digest d =
         | inr b ↦
             or_right (is_same_name name d.name) _ (elim b [
               | inl a ↦ or_left (is_same_name name full) _ (whole.1 a)
-              | inr e ↦ or_right (is_same_name name full) _ (and_from p (is_prefix name full) e.0 (front.1 e.1))
+              | inr e ↦ or_right (is_same_name name full) _ (and_from p (is_prefix name full) e.0 (leading.1 e.1))
             ])
       ],
     )
@@ -64,8 +64,8 @@ prefix_of_full (c ∷ []) [] digest h = inr (sym h)
 prefix_of_full (c ∷ d ∷ name) [] digest h = absurd cc
 prefix_of_full (c ∷ name) (d ∷ own) digest h =
     let one : d ≡ c = cc in
-    let front : take (length name) (full_name own digest) ≡ name = cc in
-    elim (prefix_of_full name own digest front) [
+    let leading : take (length name) (full_name own digest) ≡ name = cc in
+    elim (prefix_of_full name own digest leading) [
       | inl f ↦ inl (ap (λ (n : List Component). d ∷ n) f ∙ ap (λ (x : Component). x ∷ name) one)
       | inr e ↦ inr (ap (λ (n : List Component). c ∷ n) e ∙ ap (λ (x : Component). x ∷ full_name own digest) (sym one))
     ]
@@ -75,8 +75,8 @@ prefix_more [] own digest h = refl
 prefix_more (c ∷ name) [] digest h = absurd cc
 prefix_more (c ∷ name) (d ∷ own) digest h =
     let one : d ≡ c = cc in
-    let front : take (length name) own ≡ name = cc in
-    ap (λ (n : List Component). d ∷ n) (prefix_more name own digest front) ∙ ap (λ (x : Component). x ∷ name) one
+    let leading : take (length name) own ≡ name = cc in
+    ap (λ (n : List Component). d ∷ n) (prefix_more name own digest leading) ∙ ap (λ (x : Component). x ∷ name) one
 
 -- ---- what the octets of the names say
 

@@ -19,15 +19,16 @@ use Rattle.sorted_lists.proofs.Lookups.{same_keys_with, in_keys_without, keys_wi
 use Rattle.repo_plan.specs.declared.part.Part.{Part}
 use Rattle.repo_plan.specs.Parts.{part_cmp}
 use Rattle.repo_plan.proofs.Orders.{exact_parts}
-use Rattle.repo_store.specs.declared.kept.Fronted.{Fronted}
-use Rattle.repo_store.specs.declared.kept.Sought.{Sought}
-use Rattle.repo_store.specs.declared.kept.Kept.TheInside.{Inside}
+use Rattle.repo_store.specs.declared.packet_table.Fingerprinted.{Fingerprinted}
+use Rattle.repo_store.specs.declared.packet_table.Sought.{Sought}
+use Rattle.repo_store.specs.declared.packet_table.PacketTable.TheInside.{Inside}
 use Rattle.repo_object.specs.Packets.{IsPacket}
-use Rattle.repo_store.specs.Kept.{front_of, Slots, at, octets_at, front_at, Held, KeptState}
-use Rattle.repo_store.specs.Slots.{IsHeldIn, AreSlots, KeepsOne, fronted_cmp, fronted, AreFronts, IsUsed, is_sought}
+use Rattle.repo_store.specs.PacketTable.{fingerprint_of, Slots, at, octets_at, fingerprint_at, Held, PacketTableState}
+use Rattle.repo_store.specs.Slots.{IsHeldIn, AreSlots, KeepsOne, fingerprinted_cmp, fingerprinted, AreFingerprints}
+use Rattle.repo_store.specs.Slots.{IsUsed, is_sought}
 use Rattle.repo_store.specs.Slots.{is_sought_at, IsKeptIn, IsKept, KeptIsSound}
 use Rattle.repo_store.specs.Indexes.{GainsOne, IsFirstOf}
-use Rattle.repo_store.proofs.FrontLemmas.{exact_fronts, front_only}
+use Rattle.repo_store.proofs.FingerprintLemmas.{exact_fingerprints, fingerprint_only}
 
 pub some_or_none : (o : Option (List ℕ)) → IsSome o → o ≡ None → ⊥
 some_or_none None h e = true≢false (sym h)
@@ -47,7 +48,7 @@ octets_of None h = absurd (true≢false (sym h))
 octets_of (Some x) h = refl
 
 -- what is seen of the fields
-abbrev pub seen : Inside → KeptState
+abbrev pub seen : Inside → PacketTableState
 seen k = record { slots = k.packets.slots; held = k.parts.entries; spare = k.spare }
 
 pub sound_seen : (k : Inside) → IsKept k → KeptIsSound (seen k)
@@ -59,11 +60,11 @@ sound_seen k kept = record {
 }
 
 -- slots that keep their packets
-fronts_same : (old new : Slots) (held : List Held) → ((h : Held) → In h held → at new h.1 ≡ at old h.1)
-    → map (fronted old) held ≡ map (fronted new) held
-fronts_same old new held same = map_same (fronted old) (fronted new) held (λ h i.
+fingerprints_same : (old new : Slots) (held : List Held) → ((h : Held) → In h held → at new h.1 ≡ at old h.1)
+    → map (fingerprinted old) held ≡ map (fingerprinted new) held
+fingerprints_same old new held same = map_same (fingerprinted old) (fingerprinted new) held (λ h i.
     ap (λ (x : Option (List ℕ)).
-    let f : Fronted = record { front = front_of (sha256 (unwrap_or x [])); slot = h.1; part = h.0 } in
+    let f : Fingerprinted = record { fingerprint = fingerprint_of (sha256 (unwrap_or x [])); slot = h.1; part = h.0 } in
     f) (sym (same h i)))
 
 -- ---- one more
@@ -93,27 +94,28 @@ keep_new old new held octets slot are none vacant there others = record {
 }
 
 -- the slot of octets that were looked for, or a new one
-pub keeps_one : (held : List Held) (front : ℕ) (sought : Sought) (octets : List ℕ) (found : Option Held)
-    (old new : Slab (List ℕ)) (slot : ℕ) → AreSlots old.slots held → front ≡ front_of (sha256 octets)
+pub keeps_one : (held : List Held) (fingerprint : ℕ) (sought : Sought) (octets : List ℕ) (found : Option Held)
+    (old new : Slab (List ℕ)) (slot : ℕ) → AreSlots old.slots held → fingerprint ≡ fingerprint_of (sha256 octets)
     → ((o : List ℕ) → is_sought sought o ≡ pointwise nat_eq o octets)
-    → IsFirstOf held (is_sought_at old.slots front sought) found → IsKeptIn found octets old new slot
+    → IsFirstOf held (is_sought_at old.slots fingerprint sought) found → IsKeptIn found octets old new slot
     → KeepsOne octets old.slots new.slots slot
-keeps_one held front sought octets None old new slot are is seeks first kept =
+keeps_one held fingerprint sought octets None old new slot are is seeks first kept =
     keep_new old.slots new.slots held octets slot are (λ h i e.
     first h (
       i,
-      and_from (front_at old.slots h.1 == front) (is_sought sought (octets_at old.slots h.1))
-          (eq-eqb (front_at old.slots h.1) front
-          (ap (λ (o : Option (List ℕ)). front_of (sha256 (unwrap_or o []))) e ∙ sym is))
+      and_from (fingerprint_at old.slots h.1 == fingerprint) (is_sought sought (octets_at old.slots h.1))
+          (eq-eqb (fingerprint_at old.slots h.1) fingerprint
+          (ap (λ (o : Option (List ℕ)). fingerprint_of (sha256 (unwrap_or o []))) e ∙ sym is))
           (seeks (octets_at old.slots h.1)
           ∙ (slice_eq-Decides unsigned_Decides (octets_at old.slots h.1) octets _ refl).1
           (ap (λ (o : Option (List ℕ)). unwrap_or o []) e)),
     )) kept.0 kept.1.changed (λ s n. kept.1.others s n)
-keeps_one held front sought octets (Some h) old new slot are is seeks first kept =
+keeps_one held fingerprint sought octets (Some h) old new slot are is seeks first kept =
     let same =
     (slice_eq-Decides unsigned_Decides (octets_at old.slots h.1) octets _ refl).0
     (sym (seeks (octets_at old.slots h.1))
-    ∙ (and_parts (front_at old.slots h.1 == front) (is_sought sought (octets_at old.slots h.1)) first.there.1).1) in
+    ∙ (and_parts (fingerprint_at old.slots h.1 == fingerprint) (is_sought sought (octets_at old.slots h.1))
+    first.there.1).1) in
     let there : at old.slots h.1 ≡ Some octets =
     octets_of (at old.slots h.1) (are.kept h first.there.0) ∙ ap (λ (o : List ℕ). some_octets o) same in
     subst (λ (s : ℕ). KeepsOne octets old.slots new.slots s) (sym kept.0)
@@ -156,25 +158,28 @@ module _ (old new : Slots) (octets : List ℕ) (held more : List Held) (h : Held
     ];
   }
 
-  pub fronts_more : (front : ℕ) (fs : List (Fronted × Unit {0})) → front ≡ front_of (sha256 octets)
-      → AreFronts old held (keys fs)
-      → AreFronts new more (keys (with_value fronted_cmp (record { front = front; slot = h.1; part = h.0 }) tt fs))
-  fronts_more front fs is fronts =
-      same_then (same_keys_with exact_fronts own tt fs)
-      (same_then (same_more own fronts)
-      (same_then (same_is (own ∷ map (fronted old) held) (map (fronted new) (h ∷ held)) all)
-      (same_back (same_map (fronted new) gains)))) where
-        own : Fronted
-        own = record { front = front; slot = h.1; part = h.0 }
+  pub fingerprints_more : (fingerprint : ℕ) (fs : List (Fingerprinted × Unit {0})) → fingerprint
+      ≡ fingerprint_of (sha256 octets)
+      → AreFingerprints old held (keys fs)
+      → AreFingerprints new more (keys (with_value fingerprinted_cmp
+      (record { fingerprint = fingerprint; slot = h.1; part = h.0 }) tt fs))
+  fingerprints_more fingerprint fs is fingerprints =
+      same_then (same_keys_with exact_fingerprints own tt fs)
+      (same_then (same_more own fingerprints)
+      (same_then (same_is (own ∷ map (fingerprinted old) held) (map (fingerprinted new) (h ∷ held)) all)
+      (same_back (same_map (fingerprinted new) gains)))) where
+        own : Fingerprinted
+        own = record { fingerprint = fingerprint; slot = h.1; part = h.0 }
 
-        front_is : front ≡ front_at new h.1
-        front_is = is ∙ sym (ap (λ (x : Option (List ℕ)). front_of (sha256 (unwrap_or x []))) keeps.there)
+        fingerprint_is : fingerprint ≡ fingerprint_at new h.1
+        fingerprint_is = is ∙ sym (ap (λ (x : Option (List ℕ)). fingerprint_of (sha256 (unwrap_or x []))) keeps.there)
 
-        all : own ∷ map (fronted old) held ≡ fronted new h ∷ map (fronted new) held
+        all : own ∷ map (fingerprinted old) held ≡ fingerprinted new h ∷ map (fingerprinted new) held
         all =
-            ap (λ (f : ℕ). record { front = f; slot = h.1; part = h.0 } ∷ map (fronted old) held) front_is
-            ∙ ap (λ (ks : List Fronted). fronted new h ∷ ks)
-            (fronts_same old new held (λ o i. keeps.others o.1 (are.kept o i)))
+            ap (λ (f : ℕ). record { fingerprint = f; slot = h.1; part = h.0 } ∷ map (fingerprinted old) held)
+            fingerprint_is
+            ∙ ap (λ (ks : List Fingerprinted). fingerprinted new h ∷ ks)
+            (fingerprints_same old new held (λ o i. keeps.others o.1 (are.kept o i)))
 
 -- ---- one less
 
@@ -219,24 +224,26 @@ module _ (old new : Slots) (held left : List Held) (h : Held) (are : AreSlots ol
         are.different a b (subst IsSome (only a p) p) (sym (only a p) ∙ e ∙ only b (subst IsSome e p));
   }
 
-  pub fronts_less : (fs : List (Fronted × Unit {0})) → Rises fronted_cmp (keys fs) → AreFronts old held (keys fs)
-      → AreFronts new left (keys (without_key fronted_cmp (fronted old h) fs))
-  fronts_less fs rises fronts =
-      subst (HaveSame (keys (without_key fronted_cmp (fronted old h) fs))) (fronts_same old new left same) (record {
+  pub fingerprints_less : (fs : List (Fingerprinted × Unit {0})) → Rises fingerprinted_cmp (keys fs)
+      → AreFingerprints old held (keys fs)
+      → AreFingerprints new left (keys (without_key fingerprinted_cmp (fingerprinted old h) fs))
+  fingerprints_less fs rises fingerprints =
+      subst (HaveSame (keys (without_key fingerprinted_cmp (fingerprinted old h) fs)))
+      (fingerprints_same old new left same) (record {
         there = λ k i.
-            let was = in_keys_without exact_fronts (fronted old h) fs k rises i in
-            let e = from_map (fronted old) held k (fronts.there k was.0) in
-            subst (λ (x : Fronted). In x (map (fronted old) left)) (sym e.2) (elim (loses.kept e.0 e.1) [
-              | inl own ↦ absurd (was.1 (e.2 ∙ ap (fronted old) own))
-              | inr j ↦ in_map (fronted old) left e.0 j
+            let was = in_keys_without exact_fingerprints (fingerprinted old h) fs k rises i in
+            let e = from_map (fingerprinted old) held k (fingerprints.there k was.0) in
+            subst (λ (x : Fingerprinted). In x (map (fingerprinted old) left)) (sym e.2) (elim (loses.kept e.0 e.1) [
+              | inl own ↦ absurd (was.1 (e.2 ∙ ap (fingerprinted old) own))
+              | inr j ↦ in_map (fingerprinted old) left e.0 j
             ]);
         back = λ k i.
-            let e = from_map (fronted old) left k i in
+            let e = from_map (fingerprinted old) left k i in
             let o = loses.only e.0 e.1 in
-            keys_without_in exact_fronts (fronted old h) fs k
-            (λ own. o.1 (ap (λ (x : Fronted). x.part) (sym e.2 ∙ own)))
-            (fronts.back k (subst (λ (x : Fronted). In x (map (fronted old) held)) (sym e.2)
-            (in_map (fronted old) held e.0 o.0)));
+            keys_without_in exact_fingerprints (fingerprinted old h) fs k
+            (λ own. o.1 (ap (λ (x : Fingerprinted). x.part) (sym e.2 ∙ own)))
+            (fingerprints.back k (subst (λ (x : Fingerprinted). In x (map (fingerprinted old) held)) (sym e.2)
+            (in_map (fingerprinted old) held e.0 o.0)));
       })
 
 -- a removal takes no room
@@ -245,11 +252,11 @@ pub room_kept : (old new : Slab (List ℕ)) → slab_len new + 1 ≡ slab_len ol
 room_kept old new len capacity n h = omega arith
 
 -- what is left where a part goes
-pub record PartGone (old new : Slots) (left : List Held) (after : List (Fronted × Unit {0})) : Type 0 where
+pub record PartGone (old new : Slots) (left : List Held) (after : List (Fingerprinted × Unit {0})) : Type 0 where
   pub in_order : Rises part_cmp (keys left)
-  pub fronts_in_order : Rises fronted_cmp (keys after)
+  pub fingerprints_in_order : Rises fingerprinted_cmp (keys after)
   pub slots : AreSlots new left
-  pub fronts : AreFronts new left (keys after)
+  pub fingerprints : AreFingerprints new left (keys after)
   pub same : (o : Held) → In o left → at new o.1 ≡ at old o.1
 
 module _ (k : Inside) (kept : IsKept k) (h : Held) (there : In h k.parts.entries) where
@@ -259,35 +266,42 @@ module _ (k : Inside) (kept : IsKept k) (h : Held) (there : In h k.parts.entries
   abbrev left : List Held
   left = without_key part_cmp h.0 k.parts.entries
 
-  abbrev fronts_left : List (Fronted × Unit {0})
-  fronts_left = without_key fronted_cmp (fronted old h) k.fronts.entries
+  abbrev fingerprints_left : List (Fingerprinted × Unit {0})
+  fingerprints_left = without_key fingerprinted_cmp (fingerprinted old h) k.fingerprints.entries
 
   part_gone : (new : Slots) → ((o : Held) → In o left → at new o.1 ≡ at old o.1)
       → ((s : ℕ) → IsSome (at new s) → at new s ≡ at old s) → (IsSome (at new h.1) → IsHeldIn left h.1)
-      → PartGone old new left fronts_left
+      → PartGone old new left fingerprints_left
   part_gone new same only still =
       let loses = loses_part k.parts.entries h there kept.in_order in
       record {
         in_order = rises_without exact_parts.total h.0 k.parts.entries kept.in_order;
-        fronts_in_order = rises_without exact_fronts.total (fronted old h) k.fronts.entries kept.fronts_in_order;
+        fingerprints_in_order = rises_without exact_fingerprints.total (fingerprinted old h) k.fingerprints.entries
+            kept.fingerprints_in_order;
         slots = slots_less old new k.parts.entries left h kept.slots loses same only still;
-        fronts =
-            fronts_less old new k.parts.entries left h kept.slots loses same k.fronts.entries kept.fronts_in_order
-            kept.fronts;
+        fingerprints =
+            fingerprints_less old new k.parts.entries left h kept.slots loses same k.fingerprints.entries
+            kept.fingerprints_in_order
+            kept.fingerprints;
         same = same;
       }
 
-  still_fronts : AreFronts old left (keys fronts_left)
-  still_fronts =
-      fronts_less old old k.parts.entries left h kept.slots (loses_part k.parts.entries h there kept.in_order)
-      (λ o i. refl) k.fronts.entries kept.fronts_in_order kept.fronts
+  still_fingerprints : AreFingerprints old left (keys fingerprints_left)
+  still_fingerprints =
+      fingerprints_less old old k.parts.entries left h kept.slots (loses_part k.parts.entries h there kept.in_order)
+      (λ o i. refl) k.fingerprints.entries kept.fingerprints_in_order kept.fingerprints
 
-  part_used : IsUsed (keys fronts_left) (front_at old h.1) h.1 true → PartGone old old left fronts_left
+  part_used : IsUsed (keys fingerprints_left) (fingerprint_at old h.1) h.1 true
+      → PartGone old old left fingerprints_left
   part_used used = part_gone old (λ o i. refl) (λ s j. refl)
-      (λ j. record { by = used.0; there = (front_only old left (keys fronts_left) _ still_fronts used.1).0 })
+      (λ j. record {
+        by = used.0;
+        there = (fingerprint_only old left (keys fingerprints_left) _ still_fingerprints
+            used.1).0;
+      })
 
-  part_unused : (new : Slots) → IsUsed (keys fronts_left) (front_at old h.1) h.1 false → at new h.1 ≡ None
-      → ((s : ℕ) → s ≢ h.1 → at new s ≡ at old s) → PartGone old new left fronts_left
+  part_unused : (new : Slots) → IsUsed (keys fingerprints_left) (fingerprint_at old h.1) h.1 false → at new h.1 ≡ None
+      → ((s : ℕ) → s ≢ h.1 → at new s ≡ at old s) → PartGone old new left fingerprints_left
   part_unused new unused vacant others =
       part_gone new same (λ s j. others s (apart s j)) (λ j. absurd (apart h.1 j refl)) where
         apart : (s : ℕ) → IsSome (at new s) → s ≢ h.1
@@ -296,26 +310,31 @@ module _ (k : Inside) (kept : IsKept k) (h : Held) (there : In h k.parts.entries
         same : (o : Held) → In o left → at new o.1 ≡ at old o.1
         same o i = others o.1 (λ e.
             unused o.0
-            (subst (λ (s : ℕ). In (record { front = front_at old s; slot = s; part = o.0 }) (keys fronts_left)) e
-            (still_fronts.back (fronted old o) (in_map (fronted old) left o i))))
+            (subst (λ (s : ℕ). In (record { fingerprint = fingerprint_at old s; slot = s; part = o.0 })
+            (keys fingerprints_left)) e
+            (still_fingerprints.back (fingerprinted old o) (in_map (fingerprinted old) left o i))))
 
-  -- the same of lists and a front that are these
-  module _ (front : ℕ) (gone : List Held) (after : List (Fronted × Unit {0})) (is : front ≡ front_at old h.1)
+  -- the same of lists and a fingerprint that are these
+  module _ (fingerprint : ℕ) (gone : List Held) (after : List (Fingerprinted × Unit {0}))
+      (is : fingerprint ≡ fingerprint_at old h.1)
       (parts : gone ≡ left) (others : after
-      ≡ without_key fronted_cmp (record { front = front; slot = h.1; part = h.0 }) k.fronts.entries) where
-    these : after ≡ fronts_left
+      ≡ without_key fingerprinted_cmp (record { fingerprint = fingerprint; slot = h.1; part = h.0 })
+      k.fingerprints.entries) where
+    these : after ≡ fingerprints_left
     these =
         others
-        ∙ ap (λ (f : ℕ). without_key fronted_cmp (record { front = f; slot = h.1; part = h.0 }) k.fronts.entries) is
+        ∙ ap (λ (f : ℕ). without_key fingerprinted_cmp (record { fingerprint = f; slot = h.1; part = h.0 })
+        k.fingerprints.entries) is
 
-    as_used : (b : Bool) → IsUsed (keys after) front h.1 b → IsUsed (keys fronts_left) (front_at old h.1) h.1 b
+    as_used : (b : Bool) → IsUsed (keys after) fingerprint h.1 b
+        → IsUsed (keys fingerprints_left) (fingerprint_at old h.1) h.1 b
     as_used b used =
-        subst (λ (f : ℕ). IsUsed (keys fronts_left) f h.1 b) is
-        (subst (λ (es : List (Fronted × Unit {0})). IsUsed (keys es) front h.1 b) these used)
+        subst (λ (f : ℕ). IsUsed (keys fingerprints_left) f h.1 b) is
+        (subst (λ (es : List (Fingerprinted × Unit {0})). IsUsed (keys es) fingerprint h.1 b) these used)
 
-    pub used_gone : IsUsed (keys after) front h.1 true → PartGone old old gone after
+    pub used_gone : IsUsed (keys after) fingerprint h.1 true → PartGone old old gone after
     used_gone used = rw parts (rw these (part_used (as_used true used)))
 
-    pub unused_gone : (new : Slots) → IsUsed (keys after) front h.1 false → at new h.1 ≡ None
+    pub unused_gone : (new : Slots) → IsUsed (keys after) fingerprint h.1 false → at new h.1 ≡ None
         → ((s : ℕ) → s ≢ h.1 → at new s ≡ at old s) → PartGone old new gone after
     unused_gone new unused vacant rest = rw parts (rw these (part_unused new (as_used false unused) vacant rest))

@@ -15,7 +15,7 @@ use Rattle.repo_plan.specs.Parts.{part_cmp}
 use Rattle.repo_store.specs.declared.index.Index.{Index}
 use Rattle.repo_store.specs.Served.{satisfies}
 use Rattle.repo_object.specs.Packets.{packet_name}
-use Rattle.repo_store.specs.Kept.{Slots, at, octets_at, Held}
+use Rattle.repo_store.specs.PacketTable.{Slots, at, octets_at, Held}
 
 -- ---- orders
 
@@ -57,11 +57,11 @@ first_part = record { publisher = 0; seq = 0; part = 0 }
 
 -- What is held from a name on: what stands in front has lesser names.
 pub record IsFrom (slots : Slots) (held : List Held) (name : List ℕ) (rest : List Held) : Type 0 where
-  pub front : List Held
-  pub whole : front ++ rest ≡ held
+  pub prefix : List Held
+  pub whole : prefix ++ rest ≡ held
   pub in_order : AreInOrder slots rest
-  pub before : (h : Held) → In h front → slice_cmp nat_cmp (name_at slots h) name ≡ Less
-  pub behind : (h : Held) → In h rest → is_le (slice_cmp nat_cmp name (name_at slots h)) ≡ true
+  pub before : (h : Held) → In h prefix → slice_cmp nat_cmp (name_at slots h) name ≡ Less
+  pub after : (h : Held) → In h rest → is_le (slice_cmp nat_cmp name (name_at slots h)) ≡ true
 
 -- The part of what is held.
 abbrev pub held_part : Held → Part

@@ -7,7 +7,7 @@ pub use Rattle.repo_object.specs.Packets
 pub mod StoreList
 pub mod Served
 pub mod Answers
-pub mod Kept
+pub mod PacketTable
 pub mod Slots
 pub mod Indexes
 pub mod NameLayers

@@ -8,7 +8,7 @@ use Rattle.repo_plan.specs.declared.part.Part.{Part}
 use Rattle.repo_plan.specs.Parts.{Pair, part_cmp}
 use Rattle.repo_plan.specs.Plan.{is_in}
 use Rattle.repo_store.specs.declared.names.Names.{Names}
-use Rattle.repo_store.specs.Kept.{Slots, Held, KeptState}
+use Rattle.repo_store.specs.PacketTable.{Slots, Held, PacketTableState}
 use Rattle.repo_store.specs.Indexes.{is_asked, AreInOrder}
 
 -- All that the layers have.
@@ -48,7 +48,7 @@ abbrev pub is_kept : List Held → Held → Bool
 is_kept held h = is_slot h.1 (value_of part_cmp held h.0)
 
 -- Whether it is held, and its name is asked for.
-abbrev pub is_kept_and_asked : KeptState → List ℕ → Bool → Held → Bool
+abbrev pub is_kept_and_asked : PacketTableState → List ℕ → Bool → Held → Bool
 is_kept_and_asked k asked can_be_prefix h = is_asked k.slots asked can_be_prefix h && is_kept k.held h
 
 -- What waits and is held waits still.

@@ -21,7 +21,7 @@ abbrev pub is_prefix : List Component → List Component → Bool
 is_prefix a b = is_same_name (take (length a) b) a
 
 -- Whether an Interest of this name asks for the Data packet of this digest: by its name, by its full
--- name, or where the Interest allows that by a front of the full name.
+-- name, or where the Interest allows that by a prefix of the full name.
 abbrev pub asks_for : List Component → Bool → List ℕ → Data → Bool
 asks_for name can_be_prefix digest d =
     is_same_name name d.name

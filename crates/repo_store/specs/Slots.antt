@@ -15,13 +15,13 @@ use Rattle.sorted_lists.specs.SortedList.{Rises, keys, contains, with_value}
 use Rattle.sorted_lists.specs.Members.{In, HaveSame}
 use Rattle.repo_plan.specs.Parts.{Pair, part_cmp}
 use Rattle.repo_plan.specs.Plan.{is_in}
-use Rattle.repo_store.specs.declared.kept.Fronted.{Fronted}
-use Rattle.repo_store.specs.declared.kept.Sought.{Sought}
-use Rattle.repo_store.specs.declared.kept.Sought.TheVariants.{Octets, FullName}
-use Rattle.repo_store.specs.declared.kept.Kept.TheInside.{Inside}
+use Rattle.repo_store.specs.declared.packet_table.Fingerprinted.{Fingerprinted}
+use Rattle.repo_store.specs.declared.packet_table.Sought.{Sought}
+use Rattle.repo_store.specs.declared.packet_table.Sought.TheVariants.{Octets, FullName}
+use Rattle.repo_store.specs.declared.packet_table.PacketTable.TheInside.{Inside}
 use Rattle.repo_store.specs.StoreList.{is_in_any}
 use Rattle.repo_object.specs.Packets.{IsPacket, packet_name}
-use Rattle.repo_store.specs.Kept.{Slots, at, octets_at, front_at, Held, KeptState}
+use Rattle.repo_store.specs.PacketTable.{Slots, at, octets_at, fingerprint_at, Held, PacketTableState}
 
 -- ---- slots
 
@@ -46,32 +46,35 @@ pub record KeepsOne (octets : List ℕ) (old new : Slots) (slot : ℕ) : Type 0 
 
 -- ---- fronts
 
--- By front, then by slot, then by part.
-abbrev pub fronted_cmp : Fronted → Fronted → Ordering
-fronted_cmp a b =
-    ordering_then (nat_cmp a.front b.front) (ordering_then (nat_cmp a.slot b.slot) (part_cmp a.part b.part))
+-- By fingerprint, then by slot, then by part.
+abbrev pub fingerprinted_cmp : Fingerprinted → Fingerprinted → Ordering
+fingerprinted_cmp a b =
+    ordering_then (nat_cmp a.fingerprint b.fingerprint) (ordering_then (nat_cmp a.slot b.slot) (part_cmp a.part b.part))
 
--- What is held, as it is found by the front of its packet's digest.
-abbrev pub fronted : Slots → Held → Fronted
-fronted slots h = record { front = front_at slots h.1; slot = h.1; part = h.0 }
+-- What is held, as it is found by the fingerprint of its packet's digest.
+abbrev pub fingerprinted : Slots → Held → Fingerprinted
+fingerprinted slots h = record { fingerprint = fingerprint_at slots h.1; slot = h.1; part = h.0 }
 
 -- These are what is held.
-abbrev pub AreFronts : Slots → List Held → List Fronted → Type 0
-AreFronts slots held fronts = HaveSame fronts (map (fronted slots) held)
+abbrev pub AreFingerprints : Slots → List Held → List Fingerprinted → Type 0
+AreFingerprints slots held fingerprints = HaveSame fingerprints (map (fingerprinted slots) held)
 
--- Of what is found by this front in the slots from one on, it is in the least slot, and there of the least part; or
--- there is none.
-abbrev pub IsNextOf : List Fronted → ℕ → ℕ → Option Held → Type 0
-IsNextOf fronts front from None = (k : Fronted) → In k fronts → k.front ≡ front → from ≤ k.slot → ⊥
-IsNextOf fronts front from (Some next) =
-    In (record { front = front; slot = next.1; part = next.0 }) fronts × (from ≤ next.1)
-    × ((k : Fronted) → In k fronts → k.front ≡ front → from ≤ k.slot
+-- Of what is found by this fingerprint in the slots from one on, it is in the least slot, and there of the least part;
+-- or there is none.
+abbrev pub IsNextOf : List Fingerprinted → ℕ → ℕ → Option Held → Type 0
+IsNextOf fingerprints fingerprint from None = (k : Fingerprinted) → In k fingerprints → k.fingerprint ≡ fingerprint
+    → from ≤ k.slot → ⊥
+IsNextOf fingerprints fingerprint from (Some next) =
+    In (record { fingerprint = fingerprint; slot = next.1; part = next.0 }) fingerprints × (from ≤ next.1)
+    × ((k : Fingerprinted) → In k fingerprints → k.fingerprint ≡ fingerprint → from ≤ k.slot
     → (next.1 < k.slot) ⊎ ((next.1 ≡ k.slot) × (is_le (part_cmp next.0 k.part) ≡ true)))
 
--- Whether a part is found by this front in this slot.
-abbrev pub IsUsed : List Fronted → ℕ → ℕ → Bool → Type 0
-IsUsed fronts front slot true = (t : Part) × In (record { front = front; slot = slot; part = t }) fronts
-IsUsed fronts front slot false = (t : Part) → In (record { front = front; slot = slot; part = t }) fronts → ⊥
+-- Whether a part is found by this fingerprint in this slot.
+abbrev pub IsUsed : List Fingerprinted → ℕ → ℕ → Bool → Type 0
+IsUsed fingerprints fingerprint slot true = (t : Part)
+    × In (record { fingerprint = fingerprint; slot = slot; part = t }) fingerprints
+IsUsed fingerprints fingerprint slot false = (t : Part)
+    → In (record { fingerprint = fingerprint; slot = slot; part = t }) fingerprints → ⊥
 
 -- ---- what is sought
 
@@ -90,14 +93,15 @@ is_sought (Octets sought) octets = pointwise nat_eq octets sought.now
 is_sought (FullName digest name) octets =
     pointwise nat_eq (sha256 octets) digest.now && pointwise nat_eq (packet_name octets) name.now
 
--- The same of what is held, where the front of its packet's digest is this.
+-- The same of what is held, where the fingerprint of its packet's digest is this.
 abbrev pub is_sought_at : Slots → ℕ → Sought → Held → Bool
-is_sought_at slots front sought h = front_at slots h.1 == front && is_sought sought (octets_at slots h.1)
+is_sought_at slots fingerprint sought h = fingerprint_at slots h.1 == fingerprint
+    && is_sought sought (octets_at slots h.1)
 
 -- ---- what is put
 
 -- What is held is in order of the parts, and has a Data packet each.
-pub record KeptIsSound (k : KeptState) : Type 0 where
+pub record KeptIsSound (k : PacketTableState) : Type 0 where
   pub rises : Rises part_cmp (keys k.held)
   pub kept : (h : Held) → In h k.held → IsSome (at k.slots h.1)
   pub packets : (h : Held) → In h k.held → IsPacket (octets_at k.slots h.1)
@@ -108,7 +112,7 @@ IsKeptIn None octets old new slot = (get old slot ≡ None) × Updates old new s
 IsKeptIn (Some h) octets old new slot = (slot ≡ h.1) × (new ≡ old)
 
 -- The packet is put under its part, of which there was none, into a slot of its own or that of the same octets.
-pub record IsPut (part : Part) (octets : List ℕ) (slot : ℕ) (old new : KeptState) : Type 0 where
+pub record IsPut (part : Part) (octets : List ℕ) (slot : ℕ) (old new : PacketTableState) : Type 0 where
   pub fresh : contains part_cmp (keys old.held) part ≡ false
   pub held : new.held ≡ with_value part_cmp part slot old.held
   pub keeps : KeepsOne octets old.slots new.slots slot
@@ -125,7 +129,7 @@ abbrev pub held_outside_all : List Pair → List Held → List Held
 held_outside_all pairs held = filter (λ (h : Held). not (is_in_any pairs h.0)) held
 
 -- What stays held has the packet that it had.
-abbrev pub AreSame : KeptState → KeptState → Type 0
+abbrev pub AreSame : PacketTableState → PacketTableState → Type 0
 AreSame old new = (h : Held) → In h new.held → at new.slots h.1 ≡ at old.slots h.1
 
 -- ---- what is kept
@@ -133,9 +137,9 @@ AreSame old new = (h : Held) → In h new.held → at new.slots h.1 ≡ at old.s
 -- What is kept true of the fields.
 pub record IsKept (k : Inside) : Type 0 where
   pub in_order : Rises part_cmp (keys k.parts.entries)
-  pub fronts_in_order : Rises fronted_cmp (keys k.fronts.entries)
+  pub fingerprints_in_order : Rises fingerprinted_cmp (keys k.fingerprints.entries)
   pub slots : AreSlots k.packets.slots k.parts.entries
-  pub fronts : AreFronts k.packets.slots k.parts.entries (keys k.fronts.entries)
+  pub fingerprints : AreFingerprints k.packets.slots k.parts.entries (keys k.fingerprints.entries)
   pub room_of_packets : HasRoomFor k.packets k.spare
   pub room_of_parts : k.spare ≤ k.parts.spare
-  pub room_of_fronts : k.spare ≤ k.fronts.spare
+  pub room_of_fingerprints : k.spare ≤ k.fingerprints.spare

@@ -2,7 +2,7 @@ ghost use Rattle.std.specs.Prelude.{◌≡◌, ◌+◌, ◌<◌, ◌≤◌, true
 ghost use Rattle.repo_store.specs.Indexes.{name_at, key_cmp, key_in, is_asked, first_part, AreInOrder};
 ghost use Rattle.repo_store.specs.Indexes.{IndexIsInOrder, IsPlace, IsFrom, AreAsked, IsFirstOf, GainsOne};
 
-use crate::kept::{FIRST, Held, Kept, lesser};
+use crate::packet_table::{FIRST, Held, PacketTable, lesser};
 use repo_plan::Part;
 use std::cmp::Ordering;
 
@@ -10,7 +10,7 @@ use std::cmp::Ordering;
 #[derive(Clone, Copy)]
 pub(crate) struct Index<'i> {
     pub(crate) held: &'i [Held],
-    pub(crate) kept: &'i Kept,
+    pub(crate) kept: &'i PacketTable,
 }
 
 impl Index<'_> {
@@ -54,7 +54,7 @@ impl Index<'_> {
 
     // The same, where it is mostly little. What stands at 0, 1, 3, 7 and so on is compared until something does
     // not come before this; then what stands in front of that is searched.
-    pub(crate) fn place_near_front(&self, held: &Held) -> usize
+    pub(crate) fn place_near_start(&self, held: &Held) -> usize
         requires { IndexIsInOrder self.now }
         ensures { IsPlace self.now.kept.now.slots self.now.held.now
             (key_in self.now.kept.now.slots held.now) result }
@@ -63,9 +63,9 @@ impl Index<'_> {
         let mut end = 0;
         while let Some(next) = self.held.get(end) {
             if !self.cmp(next, name, held.0).is_lt() {
-                let (front, _) = self.held.split_at(end);
+                let (prefix, _) = self.held.split_at(end);
                 return Index {
-                    held: front,
+                    held: prefix,
                     kept: self.kept,
                 }
                 .place(name, held.0);
@@ -124,7 +124,7 @@ fn least_of(held: &[Held]) -> Option<Held>
 }
 
 // Whether its packet's name is this, or begins with it where that is asked for.
-pub(crate) fn is_asked(kept: &Kept, asked: &[u8], can_be_prefix: bool, held: &Held) -> bool
+pub(crate) fn is_asked(kept: &PacketTable, asked: &[u8], can_be_prefix: bool, held: &Held) -> bool
     ensures { result ≡ is_asked kept.now.slots asked.now can_be_prefix held.now }
 {
     let name = kept.name(held.1);
@@ -136,7 +136,7 @@ pub(crate) fn is_asked(kept: &Kept, asked: &[u8], can_be_prefix: bool, held: &He
 }
 
 // What is in order of names gains one more, in its place.
-pub(crate) fn insert(index: &mut Vec<Held>, kept: &Kept, held: Held)
+pub(crate) fn insert(index: &mut Vec<Held>, kept: &PacketTable, held: Held)
     requires in_order { AreInOrder kept.now.slots index.old.items }
     requires room { vec_len index.old < vec_capacity index.old }
     ensures in_order { AreInOrder kept.now.slots index.new.items }

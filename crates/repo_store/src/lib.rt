@@ -5,9 +5,9 @@
 #![tactic(auto)]
 
 mod index;
-mod kept;
 mod laws;
 mod names;
+mod packet_table;
 mod store;
 
 pub use laws::{

@@ -6,7 +6,7 @@ ghost use Rattle.repo_store.specs.NameLayers.{all_of, LayersAreInOrder, HasRoom,
 ghost use Rattle.repo_store.specs.NameLayers.{is_left, left_of, is_kept, is_kept_and_asked, IsIndexOf, WaitsStill};
 
 use crate::index::{Index, insert, is_asked};
-use crate::kept::{Held, Kept, lesser};
+use crate::packet_table::{Held, PacketTable, lesser};
 use repo_plan::Part;
 use std::alloc::{AllocError, Global};
 use std::mem;
@@ -81,7 +81,12 @@ impl Names {
 
     // What is held of this name, or of one that begins with it where that is asked for, of the least part. All that
     // waits is read.
-    pub(crate) fn first(&self, kept: &Kept, asked: &[u8], can_be_prefix: bool) -> Option<Held>
+    pub(crate) fn first(
+        &self,
+        kept: &PacketTable,
+        asked: &[u8],
+        can_be_prefix: bool,
+    ) -> Option<Held>
         requires { IsIndexOf kept.now.slots kept.now.held self.now }
         ensures { IsFirstOf kept.now.held (is_asked kept.now.slots asked.now can_be_prefix) result }
     {
@@ -99,7 +104,7 @@ impl Names {
     }
 
     // What waits and is held is put in its place. There is room for that.
-    pub(crate) fn order(&mut self, kept: &Kept)
+    pub(crate) fn order(&mut self, kept: &PacketTable)
         requires index { IsIndexOf kept.now.slots kept.now.held self.old }
         requires room { HasRoom self.old 0 }
         ensures index { IsIndexOf kept.now.slots kept.now.held self.new }
@@ -110,7 +115,7 @@ impl Names {
     }
 
     // What is held no more waits no more.
-    fn forget_dropped(&mut self, kept: &Kept)
+    fn forget_dropped(&mut self, kept: &PacketTable)
         ensures settled { self.new.settled.items ≡ self.old.settled.items }
         ensures recent { self.new.recent.items ≡ self.old.recent.items }
         ensures waiting { self.new.waiting.items ≡ filter (is_kept kept.now.held) self.old.waiting.items }
@@ -121,7 +126,7 @@ impl Names {
     }
 
     // What waits is put in its place. There is room for that.
-    fn place_waiting(&mut self, kept: &Kept)
+    fn place_waiting(&mut self, kept: &PacketTable)
         requires in_order { LayersAreInOrder kept.now.slots self.old }
         requires room { HasRoom self.old 0 }
         ensures in_order { LayersAreInOrder kept.now.slots self.new }
@@ -145,7 +150,7 @@ impl Names {
     }
 
     // What is recent becomes settled. There is room for that.
-    fn settle(&mut self, kept: &Kept)
+    fn settle(&mut self, kept: &PacketTable)
         requires in_order { LayersAreInOrder kept.now.slots self.old }
         requires room { HasRoom self.old 0 }
         ensures in_order { LayersAreInOrder kept.now.slots self.new }
@@ -160,7 +165,7 @@ impl Names {
 
     // Drops what is held of these publications, so many parts, which are kept no more. They go on waiting until as many
     // were dropped as half of what waits.
-    pub(crate) fn drop_all(&mut self, kept: &Kept, pairs: &[(u32, u16)], parts: usize)
+    pub(crate) fn drop_all(&mut self, kept: &PacketTable, pairs: &[(u32, u16)], parts: usize)
         ensures settled { self.new.settled.items ≡ left_of pairs.now kept.now.held self.old.settled.items }
         ensures recent { self.new.recent.items ≡ left_of pairs.now kept.now.held self.old.recent.items }
         ensures waiting { WaitsStill kept.now.held self.old.waiting.items self.new.waiting.items }
@@ -176,7 +181,7 @@ impl Names {
 }
 
 // What is kept of this name, or of one that begins with it where that is asked for, of the least part. All is read.
-fn first_of(held: &[Held], kept: &Kept, asked: &[u8], can_be_prefix: bool) -> Option<Held>
+fn first_of(held: &[Held], kept: &PacketTable, asked: &[u8], can_be_prefix: bool) -> Option<Held>
     ensures { IsFirstOf held.now (is_kept_and_asked kept.now asked.now can_be_prefix) result }
 {
     let mut least = None;
@@ -189,14 +194,14 @@ fn first_of(held: &[Held], kept: &Kept, asked: &[u8], can_be_prefix: bool) -> Op
 }
 
 // Whether it is kept and asked for.
-fn is_kept_and_asked(kept: &Kept, asked: &[u8], can_be_prefix: bool, held: &Held) -> bool
+fn is_kept_and_asked(kept: &PacketTable, asked: &[u8], can_be_prefix: bool, held: &Held) -> bool
     ensures { result ≡ is_kept_and_asked kept.now asked.now can_be_prefix held.now }
 {
     is_asked(kept, asked, can_be_prefix, held) && is_kept(kept, held)
 }
 
 // Whether it is kept: its part is, in its slot.
-fn is_kept(kept: &Kept, held: &Held) -> bool
+fn is_kept(kept: &PacketTable, held: &Held) -> bool
     ensures { result ≡ is_kept kept.now.held held.now }
 {
     match kept.slot_of(held.0) {
@@ -206,7 +211,7 @@ fn is_kept(kept: &Kept, held: &Held) -> bool
 }
 
 // What is in order gains all of these, for which there is room. Where they come in order too, little is moved.
-fn insert_all(index: &mut Vec<Held>, kept: &Kept, held: &[Held])
+fn insert_all(index: &mut Vec<Held>, kept: &PacketTable, held: &[Held])
     requires in_order { AreInOrder kept.now.slots index.old.items }
     requires room { vec_len index.old + length held.now ≤ vec_capacity index.old }
     ensures in_order { AreInOrder kept.now.slots index.new.items }
@@ -220,8 +225,8 @@ fn insert_all(index: &mut Vec<Held>, kept: &Kept, held: &[Held])
 }
 
 // Two that are in order are merged into one, for which there is room. Names that come one after the other mostly stand
-// close together, so most places are near the front of the rest.
-fn merge(merged: &mut Vec<Held>, settled: &[Held], recent: &[Held], kept: &Kept)
+// close together, so most places are near the start of the rest.
+fn merge(merged: &mut Vec<Held>, settled: &[Held], recent: &[Held], kept: &PacketTable)
     requires empty { merged.old.items ≡ [] }
     requires settled { AreInOrder kept.now.slots settled.now }
     requires recent { AreInOrder kept.now.slots recent.now }
@@ -233,16 +238,16 @@ fn merge(merged: &mut Vec<Held>, settled: &[Held], recent: &[Held], kept: &Kept)
     let mut rest = settled;
     for held in recent {
         let index = Index { held: rest, kept };
-        let (before, behind) = rest.split_at(index.place_near_front(held));
+        let (before, after) = rest.split_at(index.place_near_start(held));
         merged.extend_from_slice(before).unwrap();
         merged.push(*held).unwrap();
-        rest = behind;
+        rest = after;
     }
     merged.extend_from_slice(rest).unwrap();
 }
 
 // Drops what is held of these publications, whose parts are kept no more.
-fn retain(held: &mut Vec<Held>, kept: &Kept, pairs: &[(u32, u16)])
+fn retain(held: &mut Vec<Held>, kept: &PacketTable, pairs: &[(u32, u16)])
     ensures left { held.new.items ≡ left_of pairs.now kept.now.held held.old.items }
     ensures len { vec_len held.new ≤ vec_len held.old }
     ensures capacity { vec_capacity held.new ≡ vec_capacity held.old }
@@ -251,7 +256,7 @@ fn retain(held: &mut Vec<Held>, kept: &Kept, pairs: &[(u32, u16)])
 }
 
 // Whether a part that was kept still is, where those of these publications were dropped.
-fn is_left(kept: &Kept, pairs: &[(u32, u16)], part: Part) -> bool
+fn is_left(kept: &PacketTable, pairs: &[(u32, u16)], part: Part) -> bool
     ensures { result ≡ is_left pairs.now kept.now.held part }
 {
     match pairs {

@@ -10,8 +10,8 @@ ghost use Rattle.repo_store.specs.Indexes.{satisfies_held, IsFirstOf};
 ghost use Rattle.repo_store.specs.NameLayers.{IsIndexOf};
 ghost use Rattle.repo_store.specs.Served.{served};
 
-use crate::kept::{Held, Kept, lesser};
 use crate::names::Names;
+use crate::packet_table::{Held, PacketTable, lesser};
 use ndn_interest::InterestView;
 use ndn_name::{NameView, PacketFault};
 use repo_object::Packet;
@@ -22,10 +22,10 @@ use std::marker::Model;
 /// The packets of parts, each part once, and room for more. Packets of the same octets are kept once.
 ///
 /// A part, and a packet that is asked for by its full name, is found at once. What is put waits for
-/// `order_names` before it is found by its name, or by a front of that, without a walk over all
+/// `order_names` before it is found by its name, or by a prefix of that, without a walk over all
 /// that waits.
 pub struct Store {
-    kept: Kept,
+    kept: PacketTable,
     names: Names,
 }
 
@@ -43,7 +43,7 @@ impl Model for Store {
 
     ghost Value = { StoreList };
 
-    ghost use Rattle.repo_store.specs.Kept.{entries_of};
+    ghost use Rattle.repo_store.specs.PacketTable.{entries_of};
     ghost use Rattle.repo_store.specs.StoreFields.{IsStored};
 
     ghost view = { λ s. record { packets = entries_of s.kept.slots s.kept.held; spare = s.kept.spare } };
@@ -56,7 +56,7 @@ impl Store {
         ensures { result ≡ record { packets = []; spare = 0 } }
     {
         Store {
-            kept: Kept::new(alloc),
+            kept: PacketTable::new(alloc),
             names: Names::new(alloc),
         }
     }
@@ -227,7 +227,12 @@ impl Store {
 }
 
 // What is held of the least part whose packet satisfies an Interest of this name.
-fn first_for(kept: &Kept, names: &Names, name: &NameView<'_>, can_be_prefix: bool) -> Option<Held>
+fn first_for(
+    kept: &PacketTable,
+    names: &Names,
+    name: &NameView<'_>,
+    can_be_prefix: bool,
+) -> Option<Held>
     requires { IsIndexOf kept.now.slots kept.now.held names.now }
     ensures found { IsFirstOf kept.now.held (satisfies_held kept.now.slots name.now can_be_prefix) result }
     ensures sound { KeptIsSound kept.now }

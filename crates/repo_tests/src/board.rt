@@ -120,7 +120,7 @@ fn a_board_may_have_no_items(rt: HostRuntime) {
 }
 
 #[test]
-fn a_look_tells_the_word(rt: HostRuntime) {
+fn a_look_reports_the_word(rt: HostRuntime) {
     let made = Board::<u32>::new(rt.alloc(), 1, 2, 1);
     let (board, mut seats) = made.expect(&rt, "memory");
     let mut seat = seats.pop().expect(&rt, "a seat");

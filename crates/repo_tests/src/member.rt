@@ -1,5 +1,5 @@
 ghost use Rattle.std.specs.Prelude.{◌≡◌, ◌<◌, length};
-ghost use Rattle.repo_member.specs.Alone.{IsOfGroup};
+ghost use Rattle.repo_member.specs.MemberState.{IsOfGroup};
 ghost use Rattle.repo_member.specs.Groups.{HaveKeys, IsKey, IsPlainNodeName};
 
 mod commands;
@@ -23,7 +23,7 @@ const BOB: u32 = 1;
 
 const CAROL: u32 = 2;
 
-// The draw that each call is given. Each is made at moment 0.
+// The draw that each call is given. Each is made at time 0.
 const DRAW: u32 = 100;
 
 // The name of a group or a node.
@@ -95,7 +95,7 @@ fn ready(rt: &impl Abort, g: &Group, member: &Member)
 }
 
 #[test]
-fn nobody_tells_of_more_than_was_published(rt: HostRuntime) {
+fn nobody_reports_of_more_than_was_published(rt: HostRuntime) {
     let g = three_members(&rt);
     let mut bob = member(&rt, &g, BOB);
     refuses_five_of_its_own(&rt, &g, &mut bob);

@@ -62,14 +62,18 @@ fn packet(part: Part) -> &'static [u8] {
     &SEGMENT
 }
 
-// A mirror of the group that was told of two publications of alice.
-fn told_mirror(rt: &(impl Abort + AllocGlobal), publisher: Option<u32>, prefix: &str) -> Mirror {
+// A mirror of the group that was reported of two publications of alice.
+fn reported_mirror(
+    rt: &(impl Abort + AllocGlobal),
+    publisher: Option<u32>,
+    prefix: &str,
+) -> Mirror {
     let prefix = Name::from_uri(rt.alloc(), prefix).expect(rt, "a name");
     let mut mirror = Mirror::new(rt.alloc(), 2, Pattern { publisher, prefix }).expect(rt, "memory");
-    let mut told = Vector::new(rt.alloc(), 2).expect(rt, "memory");
-    told.raise(ALICE, 2);
-    assert!(rt; told.members() == mirror.vector().members());
-    mirror.learn(&told);
+    let mut reported = Vector::new(rt.alloc(), 2).expect(rt, "memory");
+    reported.raise(ALICE, 2);
+    assert!(rt; reported.members() == mirror.vector().members());
+    mirror.learn(&reported);
     assert!(rt; mirror.vector().members() == 2);
     let numbers = (mirror.vector().get(ALICE), mirror.vector().get(BOB));
     same(rt, numbers, (2, 0), "numbers");
@@ -178,13 +182,13 @@ fn compare_parts(rt: &(impl Abort + AllocGlobal), mirror: &mut Mirror, parts: &[
 #[test]
 fn mirrors_fetch_what_their_pattern_is_for(rt: HostRuntime) {
     let object = [(part(1, 0), 0), (part(1, 1), 1), (part(2, 0), 0)];
-    compare_parts(&rt, &mut told_mirror(&rt, Some(ALICE), "/doc"), &object);
-    compare_parts(&rt, &mut told_mirror(&rt, None, "/"), &object);
+    compare_parts(&rt, &mut reported_mirror(&rt, Some(ALICE), "/doc"), &object);
+    compare_parts(&rt, &mut reported_mirror(&rt, None, "/"), &object);
 }
 
 #[test]
 fn mirrors_pass_over_other_objects(rt: HostRuntime) {
     let records = [(part(1, 0), 0), (part(2, 0), 0)];
-    compare_parts(&rt, &mut told_mirror(&rt, None, "/x"), &records);
-    compare_parts(&rt, &mut told_mirror(&rt, Some(BOB), "/doc"), &[]);
+    compare_parts(&rt, &mut reported_mirror(&rt, None, "/x"), &records);
+    compare_parts(&rt, &mut reported_mirror(&rt, Some(BOB), "/doc"), &[]);
 }

@@ -107,8 +107,8 @@ fn checks(rt: &(impl Abort + AllocGlobal), want: &Want, ring: &KeyRing, row: &st
     let (digits, answer) = row.split_once(" => ").expect(rt, "an answer");
     let octets = octets_of(rt, digits);
     let refusal = check_part(want, &octets, ring).err();
-    let told = format!(in rt.alloc(); "{refusal:?}").expect(rt, "memory");
-    same(rt, told.as_str(), answer, row);
+    let reported = format!(in rt.alloc(); "{refusal:?}").expect(rt, "memory");
+    same(rt, reported.as_str(), answer, row);
     if DataView::read(&octets).is_ok() {
         is_checked_as_packet(rt, want, ring, octets, refusal);
     }
@@ -242,8 +242,8 @@ fn contents_are_read_as_records(rt: HostRuntime) {
 fn is_read(rt: &(impl Abort + AllocGlobal), row: &str) {
     let (digits, answer) = row.split_once(" => ").expect(rt, "an answer");
     let segments = segments_in(rt, &octets_of(rt, digits));
-    let told = format!(in rt.alloc(); "{segments:?}").expect(rt, "memory");
-    same(rt, told.as_str(), answer, row);
+    let reported = format!(in rt.alloc(); "{segments:?}").expect(rt, "memory");
+    same(rt, reported.as_str(), answer, row);
 }
 
 // How many segments a content lists where it is a record's.

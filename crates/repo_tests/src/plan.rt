@@ -137,7 +137,7 @@ fn every_second_number(rt: HostRuntime) {
 
 // The record of 201 segments lists two index packets, and these list 200 segments and one.
 #[test]
-fn segments_behind_index_packets(rt: HostRuntime) {
+fn segments_after_index_packets(rt: HostRuntime) {
     let mut plan = Plan::new(rt.alloc(), 1).expect(&rt, "memory");
     plan.raise(0, 1);
     claim_record(&rt, &mut plan, 201);

@@ -38,7 +38,7 @@ const SERVED: [(&[u8], Option<&[u8]>); 12] = [
     (&RECORD_ASKED, Some(&RECORD)),
     (&FRESH_ASKED, None),
     (&PREFIX_ASKED, Some(&RECORD)),
-    (&FRONT_ASKED, None),
+    (&SHORTER_ASKED, None),
     (&SEGMENT_ASKED, Some(&SEGMENT)),
     (&DOC_ASKED, Some(&SEGMENT)),
     (&FULL_ASKED, Some(&SEGMENT)),

@@ -65,7 +65,7 @@ fn compare_add(
     same(rt, added, Ok(number), uri);
 }
 
-// The watcher is told these publications. There is no third one.
+// The watcher is given these publications. There is no third one.
 fn compare_take(
     rt: &(impl Abort + AllocGlobal),
     watchers: &mut Watchers,
@@ -76,10 +76,10 @@ fn compare_take(
     let filter = Filter::new(|pattern: &Pattern, publisher: u32, name: &Name| {
         is_for(pattern, publisher, name)
     });
-    let told = watchers
+    let reported = watchers
         .take(rt.alloc(), number, &filter, catalogue)
         .expect(rt, "a watcher");
-    same(rt, told.as_slice(), pairs, "publications");
+    same(rt, reported.as_slice(), pairs, "publications");
     let missing = watchers.take(rt.alloc(), 3, &filter, catalogue);
     is(
         rt,
@@ -88,7 +88,7 @@ fn compare_take(
     );
 }
 
-fn compare_told(
+fn compare_reported(
     rt: &(impl Abort + AllocGlobal),
     watchers: &mut Watchers,
     catalogue: &mut Catalogue,
@@ -109,8 +109,8 @@ fn compare_told(
 }
 
 #[test]
-fn watchers_are_told_once(rt: HostRuntime) {
+fn news_is_reported_once(rt: HostRuntime) {
     let mut catalogue = Catalogue::new(rt.alloc());
     let mut watchers = Watchers::new(rt.alloc());
-    compare_told(&rt, &mut watchers, &mut catalogue);
+    compare_reported(&rt, &mut watchers, &mut catalogue);
 }

@@ -313,7 +313,7 @@ const NOTHING: [u8; 32] = [
     0x27, 0xae, 0x41, 0xe4, 0x64, 0x9b, 0x93, 0x4c, 0xa4, 0x95, 0x99, 0x1b, 0x78, 0x52, 0xb8, 0x55,
 ];
 
-// "ab" and "c" under number 1, then four times nothing under each of the 40 numbers behind it.
+// "ab" and "c" under number 1, then four times nothing under each of the 40 numbers after it.
 fn contents(rt: &(impl Abort + AllocGlobal)) -> Vec<Whole<'static>> {
     let mut whole = Vec::new(rt.alloc());
     for seq in 1..42_u16 {
@@ -334,13 +334,13 @@ fn contents(rt: &(impl Abort + AllocGlobal)) -> Vec<Whole<'static>> {
 
 // Whether these are their digests, in order.
 fn are_their_digests(digests: &[ContentsDigest]) -> bool {
-    digests.iter().enumerate().all(|(place, told)| {
+    digests.iter().enumerate().all(|(place, reported)| {
         let (octets, digest) = if place == 0 { (3, ABC) } else { (0, NOTHING) };
         let seq = place as u64 + 1;
-        told.publisher == 3
-            && u64::from(told.seq) == seq
-            && told.octets == octets
-            && told.digest == digest
+        reported.publisher == 3
+            && u64::from(reported.seq) == seq
+            && reported.octets == octets
+            && reported.digest == digest
     })
 }
 
@@ -349,8 +349,8 @@ fn contents_have_their_digests_for_any_number_of_workers(rt: HostRuntime) {
     let whole = contents(&rt);
     for workers in &WORKERS {
         assert!(rt; 1 <= *workers && *workers <= 16);
-        let told = digests(&rt, rt.alloc(), &whole, *workers).expect(&rt, "memory");
-        same(&rt, told.len(), 41, "digests");
-        is(&rt, are_their_digests(&told), "digests");
+        let reported = digests(&rt, rt.alloc(), &whole, *workers).expect(&rt, "memory");
+        same(&rt, reported.len(), 41, "digests");
+        is(&rt, are_their_digests(&reported), "digests");
     }
 }

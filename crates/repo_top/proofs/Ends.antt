@@ -13,7 +13,7 @@ use Rattle.repo_top.specs.Forms.{asked_story}
 use Rattle.repo_top.specs.Inspection.{decoded_story, inspect_story, lines_story, without_spaces}
 use Rattle.repo_io.specs.declared.status.Status.{Status}
 use Rattle.script_story.specs.Mirrors.{mirror_as}
-use Rattle.script_story.specs.Judging.{Given}
+use Rattle.script_story.specs.Judging.{RunEnvironment}
 use Rattle.repo_top.specs.Outcomes.{LeavesLast}
 use Rattle.script_story.specs.Story.{Story, refused}
 
@@ -40,11 +40,11 @@ none_inspected : (before : Option (List ℕ)) (left : Option GroupState) → lef
 none_inspected None left e = tt
 none_inspected (Some input) left e = ap (λ (w : Option GroupState). option_map world_of w) e ∙ sym (no_world input)
 
-inspected_world : (given : Given) (asked : Option Asked) (before : Option (List ℕ)) (left : Option GroupState)
-    → asked ≡ Some Inspect → left ≡ None → IfSome (asked_story given asked before)
+inspected_world : (env : RunEnvironment) (asked : Option Asked) (before : Option (List ℕ)) (left : Option GroupState)
+    → asked ≡ Some Inspect → left ≡ None → IfSome (asked_story env asked before)
     (λ story. option_map world_of left ≡ story.world)
-inspected_world given asked before left e none =
-    let P : Option Asked → Type 0 = λ k. IfSome (asked_story given k before)
+inspected_world env asked before left e none =
+    let P : Option Asked → Type 0 = λ k. IfSome (asked_story env k before)
     (λ story. option_map world_of left ≡ story.world) in
     subst P (sym e) (none_inspected before left none)
 
@@ -54,14 +54,14 @@ nothing_left P None left none = tt
 nothing_left P (Some s) None none = tt
 nothing_left P (Some s) (Some world) none = absurd cc
 
-pub inspected_left : (given : Given) (asked : Option Asked) (before : Option (List ℕ)) (status : Status)
+pub inspected_left : (env : RunEnvironment) (asked : Option Asked) (before : Option (List ℕ)) (status : Status)
     (left : Option GroupState) → asked ≡ Some Inspect → left ≡ None
-    → LeavesLast asked (asked_story given asked before) status left
-inspected_left given asked before status left e none = record {
-  world = λ done. inspected_world given asked before left e none;
+    → LeavesLast asked (asked_story env asked before) status left
+inspected_left env asked before status left e none = record {
+  world = λ done. inspected_world env asked before left e none;
   keys = λ done. nothing_left (λ (s : Story) (world : GroupState). world.keys ≡ s.keys)
-      (asked_story given asked before) left none;
+      (asked_story env asked before) left none;
   mirrors = λ done. nothing_left (λ (s : Story) (world : GroupState). map mirror_as world.mirrors ≡ s.mirrors)
-      (asked_story given asked before) left none;
+      (asked_story env asked before) left none;
   no_world = λ other. none;
 }

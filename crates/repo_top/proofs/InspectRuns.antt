@@ -9,7 +9,7 @@ use Rattle.script_story.specs.declared.ending.Ending.{Ending}
 use Rattle.script_story.specs.declared.ending.Ending.TheVariants as ending
 use Rattle.repo_io.specs.declared.status.Status.{Status}
 use Rattle.repo_io.specs.declared.status.Status.TheVariants.{Done, NoMemory, WriteFault}
-use Rattle.repo_io.specs.Statuses.{IsTold}
+use Rattle.repo_io.specs.Statuses.{IsReported}
 use Rattle.script_story.specs.Answers.{status_of}
 use Rattle.script_story.specs.Story.{Story}
 use Rattle.repo_top.specs.Inspection.{inspect_story}
@@ -41,10 +41,10 @@ by_story Q (Some input) (Some rest) read e whole q =
 abbrev pub EndsSo : Status → Ending → Type 0
 EndsSo status e = (status ≡ status_of e) ⊎ ((status ≡ NoMemory) ⊎ (status ≡ WriteFault))
 
-pub told_ends : (status : Status) (e : Ending) → EndsSo status e → IsTold status → status ≡ status_of e
-told_ends status e (inl same) told = same
-told_ends status e (inr (inl same)) told = absurd (subst IsTold same told)
-told_ends status e (inr (inr same)) told = absurd (subst IsTold same told)
+pub reported_ends : (status : Status) (e : Ending) → EndsSo status e → IsReported status → status ≡ status_of e
+reported_ends status e (inl same) reported = same
+reported_ends status e (inr (inl same)) reported = absurd (subst IsReported same reported)
+reported_ends status e (inr (inr same)) reported = absurd (subst IsReported same reported)
 
 pub unfailing_ends : (status : Status) (e : Ending) → EndsSo status e → status ≢ WriteFault
     → (status ≡ status_of e) ⊎ (status ≡ NoMemory)

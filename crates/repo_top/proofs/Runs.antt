@@ -15,36 +15,36 @@ use Rattle.script_story.specs.declared.ending.Ending.TheVariants as ending
 use Rattle.repo_io.specs.declared.status.Status.{Status}
 use Rattle.repo_io.specs.declared.status.Status.TheVariants.{Done, ReadFault, WriteFault}
 use Rattle.script_report.specs.declared.refusal.Refusal.TheVariants.{Limit}
-use Rattle.repo_io.specs.Outside.{GainsText, GainsFront}
+use Rattle.repo_io.specs.Outside.{GainsText, GainsPrefix}
 use Rattle.repo_io.specs.Lines.{IsWhole, has_feed, lines}
 use Rattle.bench_world.specs.Worlds.{GroupState}
-use Rattle.script_story.specs.Judging.{Given, Verdict, foreign, refused, says, unjudged}
+use Rattle.script_story.specs.Judging.{RunEnvironment, Verdict, foreign, refused, says, unjudged}
 use Rattle.script_lines.specs.Reading.{HasLine, LineIsBegun, IsTooLong}
-use Rattle.script_story.specs.Story.{Reached, Story, reached_behind, behind_text, ended, judged_next, nothing_reached}
+use Rattle.script_story.specs.Story.{Reached, Story, reached_after, after_text, ended, judged_next, nothing_reached}
 use Rattle.script_story.specs.Story.{story_from, story_of}
 use Rattle.repo_top.specs.Taken.{FallsShortNear, IsTakenNear, LacksText, can_be_judged, end_of_line, lines_so_far}
 use Rattle.repo_top.specs.Taken.{lines_taken, report_of, report_through, taken}
-use Rattle.repo_top.specs.Carrying.{Carried, Finishes, IsStopping, LeavesWorld, Ran, Stops, StatusTells, Took}
+use Rattle.repo_top.specs.Carrying.{Carried, Finishes, IsStopping, LeavesWorld, Ran, Stops, StatusReports, Took}
 use Rattle.repo_io.proofs.LineLaws.{open_line, whole_first}
-use Rattle.repo_io.proofs.Outputs.{front_behind, front_so_far, front_whole, nothing_gained}
-use Rattle.repo_top.proofs.Stories.{behind_behind, first_line_story, goes_on, long_refused, no_lines, refused_story}
+use Rattle.repo_io.proofs.Outputs.{prefix_after, prefix_so_far, prefix_whole, nothing_gained}
+use Rattle.repo_top.proofs.Stories.{after_after, first_line_story, goes_on, long_refused, no_lines, refused_story}
 
 -- ---- what a status says of a story
 
-pub tells_behind : (s : Story) (a b d : Option (List ℕ)) (text : List ℕ) (status : Status) → GainsText a b text
-    → StatusTells s b d status → StatusTells (behind_text text s) a d status
-tells_behind s a b d text status p t = record {
+pub reports_after : (s : Story) (a b d : Option (List ℕ)) (text : List ℕ) (status : Status) → GainsText a b text
+    → StatusReports s b d status → StatusReports (after_text text s) a d status
+reports_after s a b d text status p t = record {
   ending = t.ending;
-  text = λ told. Appends-trans a b d text s.text p (t.text told);
-  front = front_behind a b d text s.text p t.front;
+  text = λ reported. Appends-trans a b d text s.text p (t.text reported);
+  prefix = prefix_after a b d text s.text p t.prefix;
 }
 
 -- ---- lines that were carried out
 
-module _ (given : Given) (held : List ℕ) (r : Reached) (a b : Option (List ℕ)) (input rest : List ℕ)
-    (so_far : Carried given held r a b input rest) where
+module _ (env : RunEnvironment) (held : List ℕ) (r : Reached) (a b : Option (List ℕ)) (input rest : List ℕ)
+    (so_far : Carried env held r a b input rest) where
   -- octets were read
-  pub carried_read : (held' rest' : List ℕ) → held' ++ rest' ≡ held ++ rest → Carried given held' r a b input rest'
+  pub carried_read : (held' rest' : List ℕ) → held' ++ rest' ≡ held ++ rest → Carried env held' r a b input rest'
   carried_read held' rest' e = record {
     done = so_far.done;
     octets = so_far.octets;
@@ -58,16 +58,17 @@ module _ (given : Given) (held : List ℕ) (r : Reached) (a b : Option (List ℕ
     gained = so_far.gained;
   }
 
-  story_is : story_of given input ≡ behind_text so_far.text (story_from given r (lines (held ++ rest)))
-  story_is = ap (story_of given) so_far.parts ∙ ap (story_from given nothing_reached) (so_far.cut (held ++ rest))
+  story_is : story_of env input ≡ after_text so_far.text (story_from env r (lines (held ++ rest)))
+  story_is = ap (story_of env) so_far.parts ∙ ap (story_from env nothing_reached) (so_far.cut (held ++ rest))
       ∙ so_far.goes (lines (held ++ rest))
 
   taken_is : taken input rest ≡ so_far.octets ++ held
   taken_is =
-      let front = so_far.octets ++ held in
-      let whole : input ≡ front ++ rest = so_far.parts ∙ sym (append_assoc so_far.octets held rest) in
-      let size : length input - length rest ≡ length front = omega (arith, ap length whole, length-append front rest) in
-      rw (size, whole) (take-append_seam front rest)
+      let prefix = so_far.octets ++ held in
+      let whole : input ≡ prefix ++ rest = so_far.parts ∙ sym (append_assoc so_far.octets held rest) in
+      let size : length input - length rest ≡ length prefix = omega
+      (arith, ap length whole, length-append prefix rest) in
+      rw (size, whole) (take-append_seam prefix rest)
 
   so_far_is : lines_so_far (taken input rest) ≡ so_far.done ++ filter can_be_judged (lines held)
   so_far_is = rw taken_is (ap (filter can_be_judged) (so_far.cut held)
@@ -78,12 +79,13 @@ module _ (given : Given) (held : List ℕ) (r : Reached) (a b : Option (List ℕ
 
 judged_whole : (line : List ℕ) → IsWhole line → can_be_judged line ≡ true
 judged_whole line w = or_left (has_feed line) (ltb 32768 (length line))
-    (ap has_feed w.is ∙ list_any-append (λ octet. eqb octet 10) w.front (10 ∷ [])
-    ∙ or_right (has_feed w.front) true refl)
+    (ap has_feed w.is ∙ list_any-append (λ octet. eqb octet 10) w.prefix (10 ∷ [])
+    ∙ or_right (has_feed w.prefix) true refl)
 
-module _ (given : Given) (held : List ℕ) (r next : Reached) (a b d : Option (List ℕ)) (input rest : List ℕ) (count : ℕ)
-    (so_far : Carried given held r a b input rest) (took : Took given r (take count held) next b d) where
-  with_line : IsWhole (take count held) → Carried given (drop count held) next a d input rest
+module _ (env : RunEnvironment) (held : List ℕ) (r next : Reached) (a b d : Option (List ℕ)) (input rest : List ℕ)
+    (count : ℕ)
+    (so_far : Carried env held r a b input rest) (took : Took env r (take count held) next b d) where
+  with_line : IsWhole (take count held) → Carried env (drop count held) next a d input rest
   with_line whole =
       let line = take count held in
       record {
@@ -104,58 +106,58 @@ module _ (given : Given) (held : List ℕ) (r next : Reached) (a b d : Option (L
           length-append so_far.done (line ∷ []),
         );
         judged = filter-append can_be_judged so_far.done (line ∷ []) ∙ rw (so_far.judged, judged_whole line whole) refl;
-        goes = λ others. ap (story_from given nothing_reached) (append_assoc so_far.done (line ∷ []) others)
-            ∙ so_far.goes (line ∷ others) ∙ ap (behind_text so_far.text) (goes_on given r line next b d took others)
-            ∙ behind_behind so_far.text took.report (story_from given next others);
+        goes = λ others. ap (story_from env nothing_reached) (append_assoc so_far.done (line ∷ []) others)
+            ∙ so_far.goes (line ∷ others) ∙ ap (after_text so_far.text) (goes_on env r line next b d took others)
+            ∙ after_after so_far.text took.report (story_from env next others);
         gained = Appends-trans a b d so_far.text took.report so_far.gained took.gained;
       }
 
-  pub carried_line : HasLine count held → Carried given (drop count held) next a d input rest
+  pub carried_line : HasLine count held → Carried env (drop count held) next a d input rest
   carried_line h = by_line h.line where
     by_line : IsWhole (take count held) ⊎ (IsTooLong held × (count ≡ length held))
-        → Carried given (drop count held) next a d input rest
+        → Carried env (drop count held) next a d input rest
     by_line (inl whole) = with_line whole
     by_line (inr long) =
         let all : take count held ≡ held ++ [] = take_all count held (omega (arith, long.1)) ∙ sym (append-nil held) in
-        let why : says took.report next.state ≡ refused Limit = sym took.verdict ∙ ap (judged_next given r) all
-        ∙ long_refused given r held [] long.0 in
+        let why : says took.report next.state ≡ refused Limit = sym took.verdict ∙ ap (judged_next env r) all
+        ∙ long_refused env r held [] long.0 in
         absurd cc
 
 -- ---- fronts of lines
 
 -- fewer lines have no longer report
-fewer_lines : (given : Given) (r : Reached) (front others : List (List ℕ))
-    → length (story_from given r front).text ≤ length (story_from given r (front ++ others)).text
-fewer_lines given r [] others = let none = ap (λ (s : Story). length s.text) (no_lines given r) in omega (arith, none)
-fewer_lines given r (line ∷ front) others =
-    by_verdict (λ next. fewer_lines given next front others) (judged_next given r line) refl where
+fewer_lines : (env : RunEnvironment) (r : Reached) (prefix others : List (List ℕ))
+    → length (story_from env r prefix).text ≤ length (story_from env r (prefix ++ others)).text
+fewer_lines env r [] others = let none = ap (λ (s : Story). length s.text) (no_lines env r) in omega (arith, none)
+fewer_lines env r (line ∷ prefix) others =
+    by_verdict (λ next. fewer_lines env next prefix others) (judged_next env r line) refl where
       by_verdict : ((next : Reached)
-          → length (story_from given next front).text ≤ length (story_from given next (front ++ others)).text)
-          → (v : Verdict) → judged_next given r line ≡ v
-          → length (story_from given r (line ∷ front)).text
-          ≤ length (story_from given r (line ∷ (front ++ others))).text
+          → length (story_from env next prefix).text ≤ length (story_from env next (prefix ++ others)).text)
+          → (v : Verdict) → judged_next env r line ≡ v
+          → length (story_from env r (line ∷ prefix)).text
+          ≤ length (story_from env r (line ∷ (prefix ++ others))).text
       by_verdict fewer (says report next) e =
-          let after_line = reached_behind r line report next in
+          let after_line = reached_after r line report next in
           rw (
-            refused_story given r line (says report next) front e,
-            refused_story given r line (says report next) (front ++ others) e,
+            refused_story env r line (says report next) prefix e,
+            refused_story env r line (says report next) (prefix ++ others) e,
           )
           (omega (
             arith,
             fewer after_line,
-            length-append report (story_from given after_line front).text,
-            length-append report (story_from given after_line (front ++ others)).text,
+            length-append report (story_from env after_line prefix).text,
+            length-append report (story_from env after_line (prefix ++ others)).text,
           ))
       by_verdict fewer (refused why) e =
           rw (
-            refused_story given r line (refused why) front e,
-            refused_story given r line (refused why) (front ++ others) e,
+            refused_story env r line (refused why) prefix e,
+            refused_story env r line (refused why) (prefix ++ others) e,
           ) (omega arith)
       by_verdict fewer foreign e =
-          rw (refused_story given r line foreign front e, refused_story given r line foreign (front ++ others) e)
+          rw (refused_story env r line foreign prefix e, refused_story env r line foreign (prefix ++ others) e)
           (omega arith)
       by_verdict fewer unjudged e =
-          rw (refused_story given r line unjudged front e, refused_story given r line unjudged (front ++ others) e)
+          rw (refused_story env r line unjudged prefix e, refused_story env r line unjudged (prefix ++ others) e)
           (omega arith)
 
 -- ---- how a run ends
@@ -169,7 +171,7 @@ begun_judged (o ∷ os) h =
     (le-ltb 32768 (length (o ∷ os)) h.short) in
     ap (filter can_be_judged) one ∙ rw not_yet refl
 
--- the first line that can be judged, and those behind it
+-- the first line that can be judged, and those after it
 pub record Judged (line : List ℕ) (ls : List (List ℕ)) : Type 0 where
   pub others : List (List ℕ)
   pub are : ls ≡ line ∷ others
@@ -197,7 +199,7 @@ first_judged held count h = by_line h.line where
       }
 
 longer : {Short : Type 0} (a b d : Option (List ℕ)) (text report more : List ℕ) → GainsText a b text
-    → GainsFront b d more Short → length report ≤ length text → LacksText a d report → ⊥
+    → GainsPrefix b d more Short → length report ≤ length text → LacksText a d report → ⊥
 longer None b d text report more p f le h = h
 longer (Some x) None d text report more p f le h = p
 longer (Some x) (Some y) None text report more p f le h = h
@@ -205,7 +207,7 @@ longer (Some x) (Some y) (Some z) text report more p f le h =
     omega (arith, h, le, ap length p, ap length f.gained, length-append x text, length-append y f.written)
 
 -- a text that was cut short is lacking
-short_lacks : {Short : Type 0} (a d : Option (List ℕ)) (text : List ℕ) → GainsFront a d text Short → Short
+short_lacks : {Short : Type 0} (a d : Option (List ℕ)) (text : List ℕ) → GainsPrefix a d text Short → Short
     → IfSome a (λ _. LacksText a d text)
 short_lacks None d text f short = tt
 short_lacks (Some x) None text f short = absurd f.gained
@@ -226,40 +228,40 @@ short_lacks (Some x) (Some y) text f short =
 -- ---- the line of the first octet that is lacking
 
 -- so many lines lack nothing, and one more does
-record FirstLack (given : Given) (x y input : List ℕ) : Type 0 where
+record FirstLack (env : RunEnvironment) (x y input : List ℕ) : Type 0 where
   pub before : ℕ
-  pub there : LacksText (Some x) (Some y) (report_through given before input) → ⊥
-  pub lacks : LacksText (Some x) (Some y) (report_through given (before + 1) input)
+  pub there : LacksText (Some x) (Some y) (report_through env before input) → ⊥
+  pub lacks : LacksText (Some x) (Some y) (report_through env (before + 1) input)
 
-first_lack : (given : Given) (x y input : List ℕ) (n : ℕ) → length x ≤ length y
-    → LacksText (Some x) (Some y) (report_through given n input) → FirstLack given x y input
-first_lack given x y input zero le h =
-    let none : length (report_through given 0 input) ≡ 0 =
-    ap (λ (s : Story). length s.text) (no_lines given nothing_reached) in
+first_lack : (env : RunEnvironment) (x y input : List ℕ) (n : ℕ) → length x ≤ length y
+    → LacksText (Some x) (Some y) (report_through env n input) → FirstLack env x y input
+first_lack env x y input zero le h =
+    let none : length (report_through env 0 input) ≡ 0 =
+    ap (λ (s : Story). length s.text) (no_lines env nothing_reached) in
     absurd (omega (arith, le, h, none))
-first_lack given x y input (suc n) le h =
-    elim (leb_tells (length x + length (report_through given n input)) (length y)) [
+first_lack env x y input (suc n) le h =
+    elim (leb_tells (length x + length (report_through env n input)) (length y)) [
       | inl there ↦ record {
         before = n;
         there = λ l. omega (arith, l, there.1);
-        lacks = subst (λ (i : ℕ). LacksText (Some x) (Some y) (report_through given i input)) (suc-eq-add-one n) h;
+        lacks = subst (λ (i : ℕ). LacksText (Some x) (Some y) (report_through env i input)) (suc-eq-add-one n) h;
       }
-      | inr lacks ↦ first_lack given x y input n le (omega (arith, lacks.1))
+      | inr lacks ↦ first_lack env x y input n le (omega (arith, lacks.1))
     ]
 
-falls_short : {Short : Type 0} (given : Given) (a d : Option (List ℕ)) (input rest : List ℕ)
-    → ((n : ℕ) → LacksText a d (report_through given n input) → IsTakenNear n input rest)
-    → GainsFront a d (story_of given input).text Short → Short
-    → IfSome a (λ _. FallsShortNear given a d input rest)
-falls_short given None d input rest near f short = tt
-falls_short given (Some x) None input rest near f short = absurd f.gained
-falls_short given (Some x) (Some y) input rest near f short =
+falls_short : {Short : Type 0} (env : RunEnvironment) (a d : Option (List ℕ)) (input rest : List ℕ)
+    → ((n : ℕ) → LacksText a d (report_through env n input) → IsTakenNear n input rest)
+    → GainsPrefix a d (story_of env input).text Short → Short
+    → IfSome a (λ _. FallsShortNear env a d input rest)
+falls_short env None d input rest near f short = tt
+falls_short env (Some x) None input rest near f short = absurd f.gained
+falls_short env (Some x) (Some y) input rest near f short =
     let all = length (lines input) in
-    let whole : report_through given all input ≡ (story_of given input).text =
-    ap (report_of given) (take_all all (lines input) (omega arith)) in
+    let whole : report_through env all input ≡ (story_of env input).text =
+    ap (report_of env) (take_all all (lines input) (omega arith)) in
     let lacks = subst (LacksText (Some x) (Some y)) (sym whole)
-    (short_lacks (Some x) (Some y) (story_of given input).text f short) in
-    let first = first_lack given x y input all (omega (arith, ap length f.gained, length-append x f.written)) lacks in
+    (short_lacks (Some x) (Some y) (story_of env input).text f short) in
+    let first = first_lack env x y input all (omega (arith, ap length f.gained, length-append x f.written)) lacks in
     record {
       before = first.before;
       there = first.there;
@@ -267,8 +269,8 @@ falls_short given (Some x) (Some y) input rest near f short =
       near = near (first.before + 1) first.lacks;
     }
 
-module _ (given : Given) (held : List ℕ) (r : Reached) (a b d : Option (List ℕ)) (input rest : List ℕ)
-    (so_far : Carried given held r a b input rest) where
+module _ (env : RunEnvironment) (held : List ℕ) (r : Reached) (a b d : Option (List ℕ)) (input rest : List ℕ)
+    (so_far : Carried env held r a b input rest) where
   lines_are : lines input ≡ so_far.done ++ lines (held ++ rest)
   lines_are = ap lines so_far.parts ∙ so_far.cut (held ++ rest)
 
@@ -295,72 +297,72 @@ module _ (given : Given) (held : List ℕ) (r : Reached) (a b d : Option (List �
         length-append held rest,
       )
 
-  few_reported : (n : ℕ) → n ≤ r.lines → length (report_through given n input) ≤ length so_far.text
+  few_reported : (n : ℕ) → n ≤ r.lines → length (report_through env n input) ≤ length so_far.text
   few_reported n le =
       let count : n ≤ length so_far.done = omega (arith, le, so_far.count) in
       let first : take n (lines input) ≡ take n so_far.done = ap (take n) lines_are
       ∙ take-append-le n so_far.done (lines (held ++ rest)) count in
-      let fewer = fewer_lines given nothing_reached (take n so_far.done) (drop n so_far.done) in
-      let all : report_of given (take n so_far.done ++ drop n so_far.done) ≡ so_far.text ++ [] =
-      ap (report_of given) (take-append-drop n so_far.done ∙ sym (append-nil so_far.done))
-      ∙ ap (λ (s : Story). s.text) (so_far.goes [] ∙ ap (behind_text so_far.text) (no_lines given r)) in
+      let fewer = fewer_lines env nothing_reached (take n so_far.done) (drop n so_far.done) in
+      let all : report_of env (take n so_far.done ++ drop n so_far.done) ≡ so_far.text ++ [] =
+      ap (report_of env) (take-append-drop n so_far.done ∙ sym (append-nil so_far.done))
+      ∙ ap (λ (s : Story). s.text) (so_far.goes [] ∙ ap (after_text so_far.text) (no_lines env r)) in
       omega (
         arith,
         fewer,
         ap length all,
         length-append {A = ℕ} so_far.text [],
-        ap (λ (t : List (List ℕ)). length (report_of given t)) first,
+        ap (λ (t : List (List ℕ)). length (report_of env t)) first,
       )
 
-  near_fault : {Short : Type 0} (more : List ℕ) → GainsFront b d more Short → length held ≤ 65536 → (n : ℕ)
-      → LacksText a d (report_through given n input) → IsTakenNear n input rest
+  near_fault : {Short : Type 0} (more : List ℕ) → GainsPrefix b d more Short → length held ≤ 65536 → (n : ℕ)
+      → LacksText a d (report_through env n input) → IsTakenNear n input rest
   near_fault more f few n lacks = elim (leb_tells r.lines n) [
     | inl le ↦ near n le.1 few
-    | inr lt ↦ absurd (longer a b d so_far.text (report_through given n input) more so_far.gained f
+    | inr lt ↦ absurd (longer a b d so_far.text (report_through env n input) more so_far.gained f
         (few_reported n (omega (arith, lt.1))) lacks)
   ]
 
-  front_so_far_is : {Short : Type 0} (others : List (List ℕ)) → filter can_be_judged (lines held) ≡ others
-      → GainsFront b d (story_from given r others).text Short
-      → GainsFront a d (report_of given (lines_so_far (taken input rest))) Short
-  front_so_far_is {Short} others e f =
-      let text : report_of given (lines_so_far (taken input rest)) ≡ so_far.text ++ (story_from given r others).text =
-      ap (report_of given) (so_far_is given held r a b input rest so_far
+  prefix_so_far_is : {Short : Type 0} (others : List (List ℕ)) → filter can_be_judged (lines held) ≡ others
+      → GainsPrefix b d (story_from env r others).text Short
+      → GainsPrefix a d (report_of env (lines_so_far (taken input rest))) Short
+  prefix_so_far_is {Short} others e f =
+      let text : report_of env (lines_so_far (taken input rest)) ≡ so_far.text ++ (story_from env r others).text =
+      ap (report_of env) (so_far_is env held r a b input rest so_far
       ∙ ap (λ (t : List (List ℕ)). so_far.done ++ t) e) ∙ ap (λ (s : Story). s.text) (so_far.goes others) in
-      let P : List ℕ → Type 0 = λ t. GainsFront a d t Short in
-      subst P (sym text) (front_behind a b d so_far.text (story_from given r others).text so_far.gained f)
+      let P : List ℕ → Type 0 = λ t. GainsPrefix a d t Short in
+      subst P (sym text) (prefix_after a b d so_far.text (story_from env r others).text so_far.gained f)
 
--- what was written is a front of what is reported of the lines that were taken
-front_taken : {Short : Type 0} (given : Given) (a d : Option (List ℕ)) (input rest : List ℕ)
-    → GainsFront a d (story_of given input).text Short
-    → GainsFront a d (report_of given (lines_so_far (taken input rest))) Short
-    → GainsFront a d (report_of given (lines_taken input rest)) Short
-front_taken given a d input [] whole part = whole
-front_taken given a d input (o ∷ os) whole part = part
+-- what was written is a prefix of what is reported of the lines that were taken
+prefix_taken : {Short : Type 0} (env : RunEnvironment) (a d : Option (List ℕ)) (input rest : List ℕ)
+    → GainsPrefix a d (story_of env input).text Short
+    → GainsPrefix a d (report_of env (lines_so_far (taken input rest))) Short
+    → GainsPrefix a d (report_of env (lines_taken input rest)) Short
+prefix_taken env a d input [] whole part = whole
+prefix_taken env a d input (o ∷ os) whole part = part
 
 -- the source failed
-pub ran_unread : (end : Option GroupState) (given : Given) (held : List ℕ) (r : Reached) (a b : Option (List ℕ))
-    (input rest : List ℕ) → Carried given held r a b input rest → LineIsBegun held
-    → Ran given a b ReadFault end input rest
-ran_unread end given held r a b input rest so_far begun =
-    let story = story_is given held r a b input rest so_far in
-    let front : GainsFront a b (story_of given input).text (ReadFault ≡ WriteFault) =
-    front_so_far a b so_far.text (story_from given r (lines (held ++ rest))).text (story_of given input).text
+pub ran_unread : (end : Option GroupState) (env : RunEnvironment) (held : List ℕ) (r : Reached) (a b : Option (List ℕ))
+    (input rest : List ℕ) → Carried env held r a b input rest → LineIsBegun held
+    → Ran env a b ReadFault end input rest
+ran_unread end env held r a b input rest so_far begun =
+    let story = story_is env held r a b input rest so_far in
+    let prefix : GainsPrefix a b (story_of env input).text (ReadFault ≡ WriteFault) =
+    prefix_so_far a b so_far.text (story_from env r (lines (held ++ rest))).text (story_of env input).text
     (ap (λ (s : Story). s.text) story) (λ e. absurd cc) so_far.gained in
     let lines_are_done : lines_so_far (taken input rest) ≡ so_far.done ++ [] =
-    so_far_is given held r a b input rest so_far ∙ ap (λ (t : List (List ℕ)). so_far.done ++ t)
+    so_far_is env held r a b input rest so_far ∙ ap (λ (t : List (List ℕ)). so_far.done ++ t)
     (begun_judged held begun) in
-    let text : report_of given (lines_so_far (taken input rest)) ≡ so_far.text =
-    ap (report_of given) lines_are_done ∙ ap (λ (s : Story). s.text)
-    (so_far.goes [] ∙ ap (behind_text so_far.text) (no_lines given r)) ∙ append-nil so_far.text in
+    let text : report_of env (lines_so_far (taken input rest)) ≡ so_far.text =
+    ap (report_of env) lines_are_done ∙ ap (λ (s : Story). s.text)
+    (so_far.goes [] ∙ ap (after_text so_far.text) (no_lines env r)) ∙ append-nil so_far.text in
     let P : List ℕ → Type 0 = λ t. GainsText a b t in
-    let exact : GainsText a b (report_of given (lines_so_far (taken input rest))) = subst P (sym text) so_far.gained in
+    let exact : GainsText a b (report_of env (lines_so_far (taken input rest))) = subst P (sym text) so_far.gained in
     record {
-      tells = record { ending = λ told. absurd told; text = λ told. absurd told; front = front };
+      tells = record { ending = λ reported. absurd reported; text = λ reported. absurd reported; prefix = prefix };
       read_to_end = λ e. absurd cc;
       lines = record {
-        front_of_taken = front_taken given a b input rest front
-            (front_whole a b (report_of given (lines_so_far (taken input rest))) (λ e. cc) exact);
+        prefix_of_taken = prefix_taken env a b input rest prefix
+            (prefix_whole a b (report_of env (lines_so_far (taken input rest))) (λ e. cc) exact);
         exact_after_read_fault = λ e. exact;
         bounded_after_refusal = λ line at. absurd at;
         bounded_after_write_fault = λ e. absurd cc;
@@ -369,61 +371,62 @@ ran_unread end given held r a b input rest so_far begun =
     }
 
 -- the run stopped at a line
-module _ (given : Given) (held : List ℕ) (r : Reached) (a b d : Option (List ℕ)) (input rest : List ℕ) (count : ℕ)
-    (status : Status) (so_far : Carried given held r a b input rest) (h : HasLine count held)
-    (few : length held ≤ 65536) (stops : Stops given r (take count held) b d status) where
+module _ (env : RunEnvironment) (held : List ℕ) (r : Reached) (a b d : Option (List ℕ)) (input rest : List ℕ)
+    (count : ℕ)
+    (status : Status) (so_far : Carried env held r a b input rest) (h : HasLine count held)
+    (few : length held ≤ 65536) (stops : Stops env r (take count held) b d status) where
   never : (other : Status) → (IsStopping other → ⊥) → status ≡ other → ⊥
   never other not_so e = not_so (subst IsStopping e stops.stops)
 
-  pub ran_stopped : (end : Option GroupState) → Ran given a d status end input rest
+  pub ran_stopped : (end : Option GroupState) → Ran env a d status end input rest
   ran_stopped end =
       let line = take count held in
-      let behind_line = lines (drop count held ++ rest) in
-      let story : story_of given input ≡ behind_text so_far.text (story_from given r (line ∷ behind_line)) =
-      story_is given held r a b input rest so_far ∙ ap (behind_text so_far.text)
-      (first_line_story given r held rest count h) in
-      let Q : Story → Type 0 = λ s. StatusTells s a d status in
-      let tells = subst Q (sym story) (tells_behind (story_from given r (line ∷ behind_line)) a b d so_far.text status
-      so_far.gained (stops.tells behind_line)) in
+      let after_line = lines (drop count held ++ rest) in
+      let story : story_of env input ≡ after_text so_far.text (story_from env r (line ∷ after_line)) =
+      story_is env held r a b input rest so_far ∙ ap (after_text so_far.text)
+      (first_line_story env r held rest count h) in
+      let Q : Story → Type 0 = λ s. StatusReports s a d status in
+      let tells = subst Q (sym story) (reports_after (story_from env r (line ∷ after_line)) a b d so_far.text status
+      so_far.gained (stops.tells after_line)) in
       let first = first_judged held count h in
-      let fronts = stops.tells first.others in
+      let prefixes = stops.tells first.others in
       record {
         tells = tells;
         read_to_end = λ e. absurd (never Done (λ x. x) e);
         lines = record {
-          front_of_taken = front_taken given a d input rest tells.front
-              (front_so_far_is given held r a b d input rest so_far (line ∷ first.others) first.are fronts.front);
+          prefix_of_taken = prefix_taken env a d input rest tells.prefix
+              (prefix_so_far_is env held r a b d input rest so_far (line ∷ first.others) first.are prefixes.prefix);
           exact_after_read_fault = λ e. absurd (never ReadFault (λ x. x) e);
-          bounded_after_refusal = λ n at. near given held r a b d input rest so_far n
+          bounded_after_refusal = λ n at. near env held r a b d input rest so_far n
               (omega (arith, stops.at n at)) few;
-          bounded_after_write_fault = falls_short given a d input rest (near_fault given held r a b d input rest so_far
-              (story_from given r (line ∷ behind_line)).text (stops.tells behind_line).front few) tells.front;
+          bounded_after_write_fault = falls_short env a d input rest (near_fault env held r a b d input rest so_far
+              (story_from env r (line ∷ after_line)).text (stops.tells after_line).prefix few) tells.prefix;
         };
         last = λ e. absurd (never Done (λ x. x) e);
       }
 
 -- the run came to the end of its input
-pub ran_finished : (given : Given) (held : List ℕ) (r : Reached) (a b d : Option (List ℕ)) (input rest : List ℕ)
-    (end : Option GroupState) (status : Status) → Carried given held r a b input rest → rest ≡ []
-    → length held ≤ 65536 → Finishes given r (lines held) end b d status → Ran given a d status end input rest
-ran_finished given held r a b d input rest end status so_far none few f =
-    let story : story_of given input ≡ behind_text so_far.text (story_from given r (lines held)) =
-    story_is given held r a b input rest so_far ∙ ap (λ (t : List ℕ).
-    behind_text so_far.text (story_from given r (lines t)))
+pub ran_finished : (env : RunEnvironment) (held : List ℕ) (r : Reached) (a b d : Option (List ℕ)) (input rest : List ℕ)
+    (end : Option GroupState) (status : Status) → Carried env held r a b input rest → rest ≡ []
+    → length held ≤ 65536 → Finishes env r (lines held) end b d status → Ran env a d status end input rest
+ran_finished env held r a b d input rest end status so_far none few f =
+    let story : story_of env input ≡ after_text so_far.text (story_from env r (lines held)) =
+    story_is env held r a b input rest so_far ∙ ap (λ (t : List ℕ).
+    after_text so_far.text (story_from env r (lines t)))
     (ap (λ (t : List ℕ). held ++ t) none ∙ append-nil held) in
-    let Q : Story → Type 0 = λ s. StatusTells s a d status in
-    let tells = subst Q (sym story) (tells_behind (story_from given r (lines held)) a b d so_far.text status
+    let Q : Story → Type 0 = λ s. StatusReports s a d status in
+    let tells = subst Q (sym story) (reports_after (story_from env r (lines held)) a b d so_far.text status
     so_far.gained f.tells) in
     record {
       tells = tells;
       read_to_end = λ e. none;
       lines = record {
-        front_of_taken = subst (λ (t : List ℕ). GainsFront a d (report_of given (lines_taken input t))
-            (status ≡ WriteFault)) (sym none) tells.front;
+        prefix_of_taken = subst (λ (t : List ℕ). GainsPrefix a d (report_of env (lines_taken input t))
+            (status ≡ WriteFault)) (sym none) tells.prefix;
         exact_after_read_fault = λ e. absurd (f.read e);
-        bounded_after_refusal = λ n at. near given held r a b d input rest so_far n (omega (arith, f.at n at)) few;
-        bounded_after_write_fault = falls_short given a d input rest (near_fault given held r a b d input rest so_far
-            (story_from given r (lines held)).text f.tells.front few) tells.front;
+        bounded_after_refusal = λ n at. near env held r a b d input rest so_far n (omega (arith, f.at n at)) few;
+        bounded_after_write_fault = falls_short env a d input rest (near_fault env held r a b d input rest so_far
+            (story_from env r (lines held)).text f.tells.prefix few) tells.prefix;
       };
       last = λ e. let ends = f.last e in
           subst (LeavesWorld end) (sym story)
@@ -432,43 +435,43 @@ ran_finished given held r a b d input rest end status so_far none few f =
 
 -- ---- the last line
 
-pub finishes_none : (given : Given) (r : Reached) (a : Option (List ℕ)) (last : List ℕ) (end : Option GroupState)
-    → last ≡ [] → LeavesWorld end (ended r.state [] ending.Done) → Finishes given r (lines last) end a a Done
+pub finishes_none : (env : RunEnvironment) (r : Reached) (a : Option (List ℕ)) (last : List ℕ) (end : Option GroupState)
+    → last ≡ [] → LeavesWorld end (ended r.state [] ending.Done) → Finishes env r (lines last) end a a Done
 unfolding lines
-finishes_none given r a last end none leaves =
-    let F : List ℕ → Type 0 = λ t. Finishes given r (lines t) end a a Done in
-    let ends = no_lines given r in
-    let T : Story → Type 0 = λ s. StatusTells s a a Done in
+finishes_none env r a last end none leaves =
+    let F : List ℕ → Type 0 = λ t. Finishes env r (lines t) end a a Done in
+    let ends = no_lines env r in
+    let T : Story → Type 0 = λ s. StatusReports s a a Done in
     subst F (sym none) (record {
       tells = subst T (sym ends) (record {
-        ending = λ told. refl;
-        text = λ told. nothing_gained a;
-        front = front_whole a a [] (λ e. cc) (nothing_gained a);
+        ending = λ reported. refl;
+        text = λ reported. nothing_gained a;
+        prefix = prefix_whole a a [] (λ e. cc) (nothing_gained a);
       });
       at = λ number at. absurd at;
       read = λ e. cc;
       last = λ e. subst (LeavesWorld end) (sym ends) leaves;
     })
 
-module _ (given : Given) (r : Reached) (a b : Option (List ℕ)) (last : List ℕ) (end : Option GroupState)
+module _ (env : RunEnvironment) (r : Reached) (a b : Option (List ℕ)) (last : List ℕ) (end : Option GroupState)
     (some : last ≢ []) (begun : LineIsBegun last) where
   one_line : lines last ≡ last ∷ []
   one_line = open_line last some begun.free
 
-  pub finishes_line : (next : Reached) → Took given r last next a b → LeavesWorld end (ended next.state [] ending.Done)
-      → Finishes given r (lines last) end a b Done
+  pub finishes_line : (next : Reached) → Took env r last next a b → LeavesWorld end (ended next.state [] ending.Done)
+      → Finishes env r (lines last) end a b Done
   finishes_line next took leaves =
-      let story : story_from given r (lines last) ≡ behind_text took.report (ended next.state [] ending.Done) =
-      ap (story_from given r) one_line ∙ goes_on given r last next a b took []
-      ∙ ap (behind_text took.report) (no_lines given next) in
+      let story : story_from env r (lines last) ≡ after_text took.report (ended next.state [] ending.Done) =
+      ap (story_from env r) one_line ∙ goes_on env r last next a b took []
+      ∙ ap (after_text took.report) (no_lines env next) in
       let all : took.report ≡ took.report ++ [] = sym (append-nil took.report) in
       let gained = subst (GainsText a b) all took.gained in
-      let T : Story → Type 0 = λ s. StatusTells s a b Done in
+      let T : Story → Type 0 = λ s. StatusReports s a b Done in
       record {
         tells = subst T (sym story) (record {
-          ending = λ told. refl;
-          text = λ told. gained;
-          front = front_whole a b (took.report ++ []) (λ e. cc) gained;
+          ending = λ reported. refl;
+          text = λ reported. gained;
+          prefix = prefix_whole a b (took.report ++ []) (λ e. cc) gained;
         });
         at = λ number at. absurd at;
         read = λ e. cc;
@@ -476,12 +479,12 @@ module _ (given : Given) (r : Reached) (a b : Option (List ℕ)) (last : List �
             (record { world = leaves.world; keys = leaves.keys; mirrors = leaves.mirrors });
       }
 
-  pub finishes_stopped : (status : Status) → Stops given r last a b status
-      → Finishes given r (lines last) end a b status
+  pub finishes_stopped : (status : Status) → Stops env r last a b status
+      → Finishes env r (lines last) end a b status
   finishes_stopped status stops =
       let never : (other : Status) → (IsStopping other → ⊥) → status ≡ other
       → ⊥ = λ other not_so e. not_so (subst IsStopping e stops.stops) in
-      let T : List (List ℕ) → Type 0 = λ ls. StatusTells (story_from given r ls) a b status in
+      let T : List (List ℕ) → Type 0 = λ ls. StatusReports (story_from env r ls) a b status in
       record {
         tells = subst T (sym one_line) (stops.tells []);
         at = stops.at;

@@ -3,112 +3,114 @@ use Rattle.std.proofs.Common.{◌≡◌, ℕ, ◌+◌, ◌<◌, List, [], ◌∷
 use Rattle.repo_io.specs.declared.status.Status.{Status}
 use Rattle.repo_io.specs.declared.status.Status.TheVariants.{Done, Usage, Refused, ReadFault, WriteFault, NoMemory}
 use Rattle.repo_io.specs.declared.status.Status.TheVariants.{Foreign}
-use Rattle.script_lines.specs.declared.stop.Stop.{Stop}
-use Rattle.script_lines.specs.declared.stop.Stop.TheVariants as stop
-use Rattle.repo_io.specs.Outside.{GainsText, GainsFront}
-use Rattle.script_story.specs.Judging.{Given, State, says}
-use Rattle.script_lines.specs.Progressing.{IsStop}
-use Rattle.script_story.specs.Story.{Reached, Story, reached_behind, judged_next, story_from}
-use Rattle.repo_io.specs.Statuses.{IsTold}
+use Rattle.script_lines.specs.declared.error.LineError.{LineError}
+use Rattle.script_lines.specs.declared.error.LineError.TheVariants as error
+use Rattle.repo_io.specs.Outside.{GainsText, GainsPrefix}
+use Rattle.script_story.specs.Judging.{RunEnvironment, State, says}
+use Rattle.script_lines.specs.RunStates.{IsLineError}
+use Rattle.script_story.specs.Story.{Reached, Story, reached_after, judged_next, story_from}
+use Rattle.repo_io.specs.Statuses.{IsReported}
 use Rattle.script_story.specs.Answers.{status_of}
 use Rattle.repo_top.specs.Taken.{IsStoppedAt}
-use Rattle.script_lines.specs.Stopping.{stop_status, stop_text}
-use Rattle.repo_top.specs.Carrying.{Halts, Stops, StatusTells}
-use Rattle.repo_io.proofs.Outputs.{front_longer, front_taken}
-use Rattle.repo_top.proofs.Stories.{refused_story, stop_tells}
+use Rattle.script_lines.specs.LineErrors.{line_error_status, line_error_text}
+use Rattle.repo_top.specs.Carrying.{Halts, Stops, StatusReports}
+use Rattle.repo_io.proofs.Outputs.{prefix_longer, prefix_taken}
+use Rattle.repo_top.proofs.Stories.{refused_story, stop_reports}
 
 -- ---- a text that was not written whole
 
-pub halts_unwritten : (line : ℕ) (why : Stop) (a b : Option (List ℕ)) (n : ℕ)
-    → GainsText a b (take n (stop_text line why))
-    → n < length (stop_text line why) → Halts line why a b WriteFault
+pub halts_unwritten : (line : ℕ) (why : LineError) (a b : Option (List ℕ)) (n : ℕ)
+    → GainsText a b (take n (line_error_text line why))
+    → n < length (line_error_text line why) → Halts line why a b WriteFault
 halts_unwritten line why a b n p lt = record {
   stops = tt;
-  same = λ told. absurd told;
-  text = λ told. absurd told;
-  front = front_taken a b n (stop_text line why) lt p;
+  same = λ reported. absurd reported;
+  text = λ reported. absurd reported;
+  prefix = prefix_taken a b n (line_error_text line why) lt p;
 }
 
 -- ---- at a line
 
-module _ (given : Given) (r : Reached) (line : List ℕ) (a b : Option (List ℕ)) where
+module _ (env : RunEnvironment) (r : Reached) (line : List ℕ) (a b : Option (List ℕ)) where
   -- its report was not written whole
-  pub stops_unwritten : (report : List ℕ) (next : State) (n : ℕ) → judged_next given r line ≡ says report next
-      → GainsText a b (take n report) → n < length report → Stops given r line a b WriteFault
+  pub stops_unwritten : (report : List ℕ) (next : State) (n : ℕ) → judged_next env r line ≡ says report next
+      → GainsText a b (take n report) → n < length report → Stops env r line a b WriteFault
   stops_unwritten report next n verdict p lt = record {
     stops = tt;
     tells = λ others.
-        let more = (story_from given (reached_behind r line report next) others).text in
-        let text : (story_from given r (line ∷ others)).text ≡ report ++ more =
-        ap (λ (s : Story). s.text) (refused_story given r line (says report next) others verdict) in
-        let F : List ℕ → Type 0 = λ t. GainsFront a b t (WriteFault ≡ WriteFault) in
+        let more = (story_from env (reached_after r line report next) others).text in
+        let text : (story_from env r (line ∷ others)).text ≡ report ++ more =
+        ap (λ (s : Story). s.text) (refused_story env r line (says report next) others verdict) in
+        let F : List ℕ → Type 0 = λ t. GainsPrefix a b t (WriteFault ≡ WriteFault) in
         record {
-          ending = λ told. absurd told;
-          text = λ told. absurd told;
-          front = subst F (sym text) (front_longer a b report more (front_taken a b n report lt p));
+          ending = λ reported. absurd reported;
+          text = λ reported. absurd reported;
+          prefix = subst F (sym text) (prefix_longer a b report more (prefix_taken a b n report lt p));
         };
     at = λ number at. absurd at;
   }
 
-  told_where : (status : Status) (number : ℕ) → IsStoppedAt status number → IsTold status
-  told_where Done number at = absurd at
-  told_where Usage number at = absurd at
-  told_where (Refused l n) number at = tt
-  told_where ReadFault number at = absurd at
-  told_where WriteFault number at = absurd at
-  told_where NoMemory number at = absurd at
-  told_where (Foreign l) number at = tt
+  reported_where : (status : Status) (number : ℕ) → IsStoppedAt status number → IsReported status
+  reported_where Done number at = absurd at
+  reported_where Usage number at = absurd at
+  reported_where (Refused l n) number at = tt
+  reported_where ReadFault number at = absurd at
+  reported_where WriteFault number at = absurd at
+  reported_where NoMemory number at = absurd at
+  reported_where (Foreign l) number at = tt
 
-  stopped_there : (why : Stop) (number : ℕ) → IsStoppedAt (stop_status (r.lines + 1) why) number → number ≡ r.lines + 1
-  stopped_there (stop.Refused why) number at = sym at
-  stopped_there stop.Foreign number at = sym at
-  stopped_there stop.NoMemory number at = absurd at
+  stopped_there : (why : LineError) (number : ℕ) → IsStoppedAt (line_error_status (r.lines + 1) why) number → number
+      ≡ r.lines + 1
+  stopped_there (error.Refused why) number at = sym at
+  stopped_there error.Foreign number at = sym at
+  stopped_there error.NoMemory number at = absurd at
 
-  halted_there : (why : Stop) (status : Status) → Halts (r.lines + 1) why a b status → (number : ℕ)
+  halted_there : (why : LineError) (status : Status) → Halts (r.lines + 1) why a b status → (number : ℕ)
       → IsStoppedAt status number → number ≡ r.lines + 1
   halted_there why status h number at =
       let P : Status → Type 0 = λ s. IsStoppedAt s number in
-      stopped_there why number (subst P (h.same (told_where status number at)) at)
+      stopped_there why number (subst P (h.same (reported_where status number at)) at)
 
-  by_texts : (why : Stop) (status : Status) (s : Story) → Halts (r.lines + 1) why a b status
-      → s.text ≡ stop_text (r.lines + 1) why → status_of s.ending ≡ stop_status (r.lines + 1) why
-      → StatusTells s a b status
+  by_texts : (why : LineError) (status : Status) (s : Story) → Halts (r.lines + 1) why a b status
+      → s.text ≡ line_error_text (r.lines + 1) why → status_of s.ending ≡ line_error_status (r.lines + 1) why
+      → StatusReports s a b status
   by_texts why status s h text ending =
       let G : List ℕ → Type 0 = λ t. GainsText a b t in
-      let F : List ℕ → Type 0 = λ t. GainsFront a b t (status ≡ WriteFault) in
+      let F : List ℕ → Type 0 = λ t. GainsPrefix a b t (status ≡ WriteFault) in
       record {
-        ending = λ told. h.same told ∙ sym ending;
-        text = λ told. subst G (sym text) (h.text told);
-        front = subst F (sym text) h.front;
+        ending = λ reported. h.same reported ∙ sym ending;
+        text = λ reported. subst G (sym text) (h.text reported);
+        prefix = subst F (sym text) h.prefix;
       }
 
   -- nothing was written
-  by_nothing : (status : Status) (s : Story) → Halts (r.lines + 1) stop.NoMemory a b status → StatusTells s a b status
+  by_nothing : (status : Status) (s : Story) → Halts (r.lines + 1) error.NoMemory a b status
+      → StatusReports s a b status
   by_nothing status s h =
-      let none : IsTold status → ⊥ = λ told. subst IsTold (h.same told) told in
+      let none : IsReported status → ⊥ = λ reported. subst IsReported (h.same reported) reported in
       record {
-        ending = λ told. absurd (none told);
-        text = λ told. absurd (none told);
-        front = front_longer a b [] s.text h.front;
+        ending = λ reported. absurd (none reported);
+        text = λ reported. absurd (none reported);
+        prefix = prefix_longer a b [] s.text h.prefix;
       }
 
   -- it is refused or foreign, or memory was wanting
-  pub stops_halted : (why : Stop) (status : Status) → IsStop (judged_next given r line) why
-      → Halts (r.lines + 1) why a b status → Stops given r line a b status
-  stops_halted (stop.Refused why) status is h = record {
+  pub stops_halted : (why : LineError) (status : Status) → IsLineError (judged_next env r line) why
+      → Halts (r.lines + 1) why a b status → Stops env r line a b status
+  stops_halted (error.Refused why) status is h = record {
     stops = h.stops;
-    tells = λ others. let t = stop_tells given r line (stop.Refused why) is (λ e. cc) others in
-        by_texts (stop.Refused why) status (story_from given r (line ∷ others)) h t.0 t.1;
-    at = halted_there (stop.Refused why) status h;
+    tells = λ others. let t = stop_reports env r line (error.Refused why) is (λ e. cc) others in
+        by_texts (error.Refused why) status (story_from env r (line ∷ others)) h t.0 t.1;
+    at = halted_there (error.Refused why) status h;
   }
-  stops_halted stop.Foreign status is h = record {
+  stops_halted error.Foreign status is h = record {
     stops = h.stops;
-    tells = λ others. let t = stop_tells given r line stop.Foreign is (λ e. cc) others in
-        by_texts stop.Foreign status (story_from given r (line ∷ others)) h t.0 t.1;
-    at = halted_there stop.Foreign status h;
+    tells = λ others. let t = stop_reports env r line error.Foreign is (λ e. cc) others in
+        by_texts error.Foreign status (story_from env r (line ∷ others)) h t.0 t.1;
+    at = halted_there error.Foreign status h;
   }
-  stops_halted stop.NoMemory status is h = record {
+  stops_halted error.NoMemory status is h = record {
     stops = h.stops;
-    tells = λ others. by_nothing status (story_from given r (line ∷ others)) h;
-    at = halted_there stop.NoMemory status h;
+    tells = λ others. by_nothing status (story_from env r (line ∷ others)) h;
+    at = halted_there error.NoMemory status h;
   }

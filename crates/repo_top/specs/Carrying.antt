@@ -5,16 +5,16 @@ use Rattle.std.specs.Option.{option_map}
 use Rattle.repo_io.specs.declared.status.Status.{Status}
 use Rattle.repo_io.specs.declared.status.Status.TheVariants.{Done, Usage, Refused, ReadFault, WriteFault, NoMemory}
 use Rattle.repo_io.specs.declared.status.Status.TheVariants.{Foreign}
-use Rattle.script_lines.specs.declared.stop.Stop.{Stop}
-use Rattle.script_lines.specs.Stopping.{stop_status, stop_text}
-use Rattle.repo_io.specs.Outside.{GainsText, GainsFront}
+use Rattle.script_lines.specs.declared.error.LineError.{LineError}
+use Rattle.script_lines.specs.LineErrors.{line_error_status, line_error_text}
+use Rattle.repo_io.specs.Outside.{GainsText, GainsPrefix}
 use Rattle.repo_io.specs.Lines.{lines}
 use Rattle.bench_world.specs.Worlds.{GroupState, world_of}
 use Rattle.script_story.specs.Mirrors.{mirror_as}
-use Rattle.script_story.specs.Judging.{Given, says}
-use Rattle.script_story.specs.Story.{Reached, Story, reached_behind, behind_text, judged_next, nothing_reached}
+use Rattle.script_story.specs.Judging.{RunEnvironment, says}
+use Rattle.script_story.specs.Story.{Reached, Story, reached_after, after_text, judged_next, nothing_reached}
 use Rattle.script_story.specs.Story.{story_from, story_of}
-use Rattle.repo_io.specs.Statuses.{IsTold}
+use Rattle.repo_io.specs.Statuses.{IsReported}
 use Rattle.script_story.specs.Answers.{status_of}
 use Rattle.repo_top.specs.Taken.{IsStoppedAt, IsTakenNear, FallsShortNear, can_be_judged, lines_so_far, lines_taken}
 use Rattle.repo_top.specs.Taken.{report_of, taken}
@@ -22,18 +22,18 @@ use Rattle.repo_top.specs.Taken.{report_of, taken}
 -- ---- one line
 
 -- A line was carried out, and its report written.
-pub record Took (given : Given) (r : Reached) (line : List ℕ) (next : Reached) (old new : Option
+pub record Took (env : RunEnvironment) (r : Reached) (line : List ℕ) (next : Reached) (old new : Option
     (List ℕ)) : Type 0 where
   pub report : List ℕ
-  pub verdict : judged_next given r line ≡ says report next.state
-  pub then : next ≡ reached_behind r line report next.state
+  pub verdict : judged_next env r line ≡ says report next.state
+  pub then : next ≡ reached_after r line report next.state
   pub gained : GainsText old new report
 
 -- What a status says of a story whose text an output was to gain.
-pub record StatusTells (s : Story) (old new : Option (List ℕ)) (status : Status) : Type 0 where
-  pub ending : IsTold status → status ≡ status_of s.ending
-  pub text : IsTold status → GainsText old new s.text
-  pub front : GainsFront old new s.text (status ≡ WriteFault)
+pub record StatusReports (s : Story) (old new : Option (List ℕ)) (status : Status) : Type 0 where
+  pub ending : IsReported status → status ≡ status_of s.ending
+  pub text : IsReported status → GainsText old new s.text
+  pub prefix : GainsPrefix old new s.text (status ≡ WriteFault)
 
 -- The statuses with which a run stops at a line.
 abbrev pub IsStopping : Status → Type 0
@@ -46,17 +46,17 @@ IsStopping NoMemory = ⊤
 IsStopping (Foreign line) = ⊤
 
 -- A run stopped so at the line of this number.
-pub record Halts (line : ℕ) (why : Stop) (old new : Option (List ℕ)) (status : Status) : Type 0 where
+pub record Halts (line : ℕ) (why : LineError) (old new : Option (List ℕ)) (status : Status) : Type 0 where
   pub stops : IsStopping status
-  pub same : IsTold status → status ≡ stop_status line why
-  pub text : IsTold status → GainsText old new (stop_text line why)
-  pub front : GainsFront old new (stop_text line why) (status ≡ WriteFault)
+  pub same : IsReported status → status ≡ line_error_status line why
+  pub text : IsReported status → GainsText old new (line_error_text line why)
+  pub prefix : GainsPrefix old new (line_error_text line why) (status ≡ WriteFault)
 
 -- A run stopped at a line, whatever lines follow it.
-pub record Stops (given : Given) (r : Reached) (line : List ℕ) (old new : Option (List ℕ))
+pub record Stops (env : RunEnvironment) (r : Reached) (line : List ℕ) (old new : Option (List ℕ))
     (status : Status) : Type 0 where
   pub stops : IsStopping status
-  pub tells : (others : List (List ℕ)) → StatusTells (story_from given r (line ∷ others)) old new status
+  pub tells : (others : List (List ℕ)) → StatusReports (story_from env r (line ∷ others)) old new status
   pub at : (number : ℕ) → IsStoppedAt status number → number ≡ r.lines + 1
 
 -- The world that is left is that of the story, with its mirrors.
@@ -66,12 +66,12 @@ pub record LeavesWorld (end : Option GroupState) (s : Story) : Type 0 where
   pub mirrors : IfSome end (λ world. map mirror_as world.mirrors ≡ s.mirrors)
 
 -- A run ended with the last line, or before it where there is none, and left this world where it is done.
-pub record Finishes (given : Given) (r : Reached) (lines_left : List (List ℕ)) (end : Option GroupState)
+pub record Finishes (env : RunEnvironment) (r : Reached) (lines_left : List (List ℕ)) (end : Option GroupState)
     (old new : Option (List ℕ)) (status : Status) : Type 0 where
-  pub tells : StatusTells (story_from given r lines_left) old new status
+  pub tells : StatusReports (story_from env r lines_left) old new status
   pub at : (number : ℕ) → IsStoppedAt status number → number ≡ r.lines + 1
   pub read : (status ≡ ReadFault) → ⊥
-  pub last : status ≡ Done → LeavesWorld end (story_from given r lines_left)
+  pub last : status ≡ Done → LeavesWorld end (story_from env r lines_left)
 
 -- ---- a run
 
@@ -82,7 +82,7 @@ Known (Some input) None P = ⊥
 Known (Some input) (Some rest) P = P input rest
 
 -- Lines were carried out, and then these octets are held.
-pub record Carried (given : Given) (held : List ℕ) (r : Reached) (old new : Option (List ℕ))
+pub record Carried (env : RunEnvironment) (held : List ℕ) (r : Reached) (old new : Option (List ℕ))
     (input rest : List ℕ) : Type 0 where
   pub done : List (List ℕ)
   pub octets : List ℕ
@@ -93,28 +93,28 @@ pub record Carried (given : Given) (held : List ℕ) (r : Reached) (old new : Op
   pub count : r.lines ≡ length done
   pub judged : filter can_be_judged done ≡ done
   pub goes : (others : List (List ℕ))
-      → story_from given nothing_reached (done ++ others) ≡ behind_text text (story_from given r others)
+      → story_from env nothing_reached (done ++ others) ≡ after_text text (story_from env r others)
   pub gained : GainsText old new text
 
 -- A script is carried out line by line.
-pub record WritesLines (given : Given) (old new : Option (List ℕ)) (status : Status) (input rest : List ℕ)
+pub record WritesLines (env : RunEnvironment) (old new : Option (List ℕ)) (status : Status) (input rest : List ℕ)
     : Type 0 where
   -- Whatever comes, what was written is a prefix of what is reported of the lines that were taken whole, and after
   -- `WriteFault` not the whole of it.
-  pub front_of_taken : GainsFront old new (report_of given (lines_taken input rest)) (status ≡ WriteFault)
+  pub prefix_of_taken : GainsPrefix old new (report_of env (lines_taken input rest)) (status ≡ WriteFault)
   -- After `ReadFault` it is all of that.
   pub exact_after_read_fault : status ≡ ReadFault
-      → GainsText old new (report_of given (lines_so_far (taken input rest)))
+      → GainsText old new (report_of env (lines_so_far (taken input rest)))
   -- At most 65,536 octets are taken past the end of the line that is refused or foreign.
   pub bounded_after_refusal : (line : ℕ) → IsStoppedAt status line → IsTakenNear line input rest
   -- After `WriteFault` at most so many are taken past the end of the line of whose report the first octet is that was
   -- not written.
-  pub bounded_after_write_fault : status ≡ WriteFault → IfSome old (λ _. FallsShortNear given old new input rest)
+  pub bounded_after_write_fault : status ≡ WriteFault → IfSome old (λ _. FallsShortNear env old new input rest)
 
 -- What a run over a known input comes to, which left this world where it is done.
-pub record Ran (given : Given) (old new : Option (List ℕ)) (status : Status) (end : Option GroupState)
+pub record Ran (env : RunEnvironment) (old new : Option (List ℕ)) (status : Status) (end : Option GroupState)
     (input rest : List ℕ) : Type 0 where
-  pub tells : StatusTells (story_of given input) old new status
+  pub tells : StatusReports (story_of env input) old new status
   pub read_to_end : status ≡ Done → rest ≡ []
-  pub lines : WritesLines given old new status input rest
-  pub last : status ≡ Done → LeavesWorld end (story_of given input)
+  pub lines : WritesLines env old new status input rest
+  pub last : status ≡ Done → LeavesWorld end (story_of env input)

@@ -2,23 +2,23 @@
 use Rattle.std.specs.Prelude.{ℕ, ⊤, List, [], ◌∷◌, Option, Some, None, codes, if◌then◌else◌}
 use Rattle.std.specs.Option.{option_map}
 use Rattle.std.specs.Str.{bytes_eq}
-use Rattle.script_story.specs.Judging.{Given}
+use Rattle.script_story.specs.Judging.{RunEnvironment}
 use Rattle.script_story.specs.Story.{Story, story_of}
 use Rattle.repo_top.specs.Inspection.{inspect_story}
 use Rattle.repo_top.specs.Words.{number_within}
-use Rattle.repo_top.specs.declared.generator.Measures.{Measures}
+use Rattle.repo_top.specs.declared.generator.GeneratorInputs.{GeneratorInputs}
 use Rattle.repo_top.specs.Generator.{gen_story}
 use Rattle.repo_top.specs.declared.asked.Asked.{Asked}
 use Rattle.repo_top.specs.declared.asked.Asked.TheVariants.{Run, Inspect, Gen}
 
 -- 1 to 16 members, 1 to 2,000 objects and a seed of at most 18 digits
-abbrev pub measures_of : Option ℕ → Option ℕ → Option ℕ → Option Measures
+abbrev pub measures_of : Option ℕ → Option ℕ → Option ℕ → Option GeneratorInputs
 measures_of (Some members) (Some objects) (Some seed) =
     Some (record { members = members; objects = objects; seed = seed })
 measures_of _ _ _ = None
 
 -- `gen MEMBERS OBJECTS SEED`
-abbrev pub gen_of : List (List ℕ) → Option Measures
+abbrev pub gen_of : List (List ℕ) → Option GeneratorInputs
 gen_of (word ∷ members ∷ objects ∷ seed ∷ []) =
     if bytes_eq word (codes "gen")
     then measures_of (number_within 1 16 members) (number_within 1 2000 objects)
@@ -33,7 +33,7 @@ reading_of (word ∷ []) =
     else None
 reading_of _ = None
 
-abbrev pub either : Option Asked → Option Measures → Option Asked
+abbrev pub either : Option Asked → Option GeneratorInputs → Option Asked
 either (Some asked) measures = Some asked
 either None measures = option_map Gen measures
 
@@ -67,8 +67,8 @@ InputIsRead (Some Inspect) = ⊤
 InputIsRead (Some (Gen measures)) = ⊥
 
 -- What comes of the words over an input, where it is known or not needed.
-abbrev pub asked_story : Given → Option Asked → Option (List ℕ) → Option Story
-asked_story given None input = None
-asked_story given (Some Run) input = option_map (story_of given) input
-asked_story given (Some Inspect) input = option_map inspect_story input
-asked_story given (Some (Gen measures)) input = Some (gen_story measures)
+abbrev pub asked_story : RunEnvironment → Option Asked → Option (List ℕ) → Option Story
+asked_story env None input = None
+asked_story env (Some Run) input = option_map (story_of env) input
+asked_story env (Some Inspect) input = option_map inspect_story input
+asked_story env (Some (Gen measures)) input = Some (gen_story measures)

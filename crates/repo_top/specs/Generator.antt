@@ -2,7 +2,7 @@
 use Rattle.std.specs.Prelude.{ℕ, zero, suc, ◌+◌, ◌*◌, ◌/◌, ◌%◌, false, List, [], ◌++◌, codes, decimal, nat_lt, ◌==◌}
 use Rattle.std.specs.Prelude.{if◌then◌else◌}
 use Rattle.std.specs.Fmt.{digits}
-use Rattle.repo_top.specs.declared.generator.Measures.{Measures}
+use Rattle.repo_top.specs.declared.generator.GeneratorInputs.{GeneratorInputs}
 use Rattle.script_story.specs.declared.ending.Ending.TheVariants.{Done}
 use Rattle.script_story.specs.Story.{Story, plain_story}
 
@@ -10,7 +10,7 @@ use Rattle.script_story.specs.Story.{Story, plain_story}
 abbrev pub next_state : ℕ → ℕ
 next_state state = (state * 6364136223846793005 + 1442695040888963407) % 18446744073709551616
 
--- The state behind so many others; the seed is the first.
+-- The state after so many others; the seed is the first.
 unfoldable pub generator_state : ℕ → ℕ → ℕ
 generator_state seed zero = seed
 generator_state seed (suc n) = next_state (generator_state seed n)
@@ -62,10 +62,10 @@ object_text members seed object =
 
 -- The script of so many members and objects: the group and its members, the objects, and a settle at
 -- the end.
-unfoldable pub gen_text : Measures → List ℕ
+unfoldable pub gen_text : GeneratorInputs → List ℕ
 gen_text m =
     codes "group /g\n" ++ texts member_text m.members
     ++ texts (object_text m.members m.seed) m.objects ++ codes "settle 4\n" ++ codes "summary\n"
 
-abbrev pub gen_story : Measures → Story
+abbrev pub gen_story : GeneratorInputs → Story
 gen_story m = plain_story (gen_text m) Done

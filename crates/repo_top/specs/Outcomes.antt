@@ -3,8 +3,8 @@ use Rattle.std.specs.Prelude.{◌≡◌, ◌≢◌, ◌↔◌, ◌⊎◌, ℕ, L
 use Rattle.std.specs.Option.{option_map}
 use Rattle.repo_io.specs.declared.status.Status.{Status}
 use Rattle.repo_io.specs.declared.status.Status.TheVariants.{Done, Usage, ReadFault, WriteFault, NoMemory, Foreign}
-use Rattle.repo_io.specs.Outside.{GainsText, GainsFront}
-use Rattle.repo_io.specs.Statuses.{IsTold}
+use Rattle.repo_io.specs.Outside.{GainsText, GainsPrefix}
+use Rattle.repo_io.specs.Statuses.{IsReported}
 use Rattle.bench_world.specs.Worlds.{GroupState, world_of}
 use Rattle.script_story.specs.Answers.{status_of}
 use Rattle.script_story.specs.Mirrors.{mirror_as}
@@ -22,11 +22,11 @@ pub record UsageIsOfWords (asked : Option Asked) (status : Status) (SameSource S
 -- What was written is of the story that the words ask for, where source and sink know their octets.
 pub record ReportsStory (story : Option Story) (old new : Option (List ℕ)) (status : Status) : Type 0 where
   -- On `Done`, `Refused` and `Foreign` the status is the story's end,
-  pub end : IsTold status → IfSome story (λ s. status ≡ status_of s.ending)
+  pub end : IsReported status → IfSome story (λ s. status ≡ status_of s.ending)
   -- and what was written is its text.
-  pub text : IsTold status → IfSome story (λ s. GainsText old new s.text)
+  pub text : IsReported status → IfSome story (λ s. GainsText old new s.text)
   -- Whatever comes, what was written is a prefix of that text, and after `WriteFault` not the whole of it.
-  pub front : IfSome story (λ s. GainsFront old new s.text (status ≡ WriteFault))
+  pub prefix : IfSome story (λ s. GainsPrefix old new s.text (status ≡ WriteFault))
 
 -- What the form reads, and what it has written when the source fails.
 pub record ReadsInput (asked : Option Asked) (left rest : Option (List ℕ)) (status : Status)

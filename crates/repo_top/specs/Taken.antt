@@ -6,7 +6,7 @@ use Rattle.script_lang.specs.Limits.{line_octets}
 use Rattle.repo_io.specs.declared.status.Status.{Status}
 use Rattle.repo_io.specs.declared.status.Status.TheVariants.{Done, Usage, Refused, ReadFault, WriteFault, NoMemory}
 use Rattle.repo_io.specs.declared.status.Status.TheVariants.{Foreign}
-use Rattle.script_story.specs.Judging.{Given}
+use Rattle.script_story.specs.Judging.{RunEnvironment}
 use Rattle.repo_io.specs.Lines.{has_feed, lines}
 use Rattle.script_story.specs.Story.{nothing_reached, story_from}
 
@@ -32,11 +32,11 @@ lines_taken input (octet ∷ rest) = lines_so_far (taken input (octet ∷ rest))
 -- ---- texts
 
 -- What is reported of the first lines of a script.
-abbrev pub report_of : Given → List (List ℕ) → List ℕ
-report_of given front = (story_from given nothing_reached front).text
+abbrev pub report_of : RunEnvironment → List (List ℕ) → List ℕ
+report_of env prefix = (story_from env nothing_reached prefix).text
 
-abbrev pub report_through : Given → ℕ → List ℕ → List ℕ
-report_through given line input = report_of given (take line (lines input))
+abbrev pub report_through : RunEnvironment → ℕ → List ℕ → List ℕ
+report_through env line input = report_of env (take line (lines input))
 
 -- An output lacks octets of a text that it was to gain.
 abbrev pub LacksText : Option (List ℕ) → Option (List ℕ) → List ℕ → Type 0
@@ -54,12 +54,12 @@ end_of_line line input = length (concat (take line (lines input)))
 abbrev pub IsTakenNear : ℕ → List ℕ → List ℕ → Type 0
 IsTakenNear line input rest = length input ≤ length rest + (end_of_line line input + 65536)
 
--- A report has a first octet that an output lacks. It is of the line behind so many, whose own reports are all there,
+-- A report has a first octet that an output lacks. It is of the line after so many, whose own reports are all there,
 -- and at most 65,536 octets past the end of that line were taken.
-pub record FallsShortNear (given : Given) (old new : Option (List ℕ)) (input rest : List ℕ) : Type 0 where
+pub record FallsShortNear (env : RunEnvironment) (old new : Option (List ℕ)) (input rest : List ℕ) : Type 0 where
   pub before : ℕ
-  pub there : LacksText old new (report_through given before input) → ⊥
-  pub lacks : LacksText old new (report_through given (before + 1) input)
+  pub there : LacksText old new (report_through env before input) → ⊥
+  pub lacks : LacksText old new (report_through env (before + 1) input)
   pub near : IsTakenNear (before + 1) input rest
 
 -- The line is refused or foreign.

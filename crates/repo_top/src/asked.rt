@@ -1,10 +1,10 @@
 ghost use Rattle.std.specs.Prelude.{◌≡◌, ◌≢◌, ◌<◌, map, string_bytes, Some, IfSome};
 ghost use Rattle.repo_top.specs.declared.asked.Asked.TheVariants.{Gen};
-ghost use Rattle.repo_top.specs.declared.generator.Measures.{Measures};
+ghost use Rattle.repo_top.specs.declared.generator.GeneratorInputs.{GeneratorInputs};
 ghost use Rattle.repo_top.specs.Forms.{asked_of, gen_of, measures_of, reading_of};
 ghost use Rattle.repo_top.specs.Words.{number_within};
 
-use crate::generator::Measures;
+use crate::generator::GeneratorInputs;
 use crate::words::number_within;
 
 // What the words of the command line ask for.
@@ -15,13 +15,13 @@ pub(crate) enum Asked {
     // The lines of the elements whose digits the source gives.
     Inspect,
     // A script of so many members and objects.
-    Gen(Measures),
+    Gen(GeneratorInputs),
 }
 
 // What the words ask for.
 pub(crate) fn asked_of(words: &[String]) -> Option<Asked>
     ensures value { result ≡ asked_of (map string_bytes words.now) }
-    ensures some { (measures : Measures) → result ≡ Some (Gen measures) → 0 < measures.members }
+    ensures some { (measures : GeneratorInputs) → result ≡ Some (Gen measures) → 0 < measures.members }
 {
     match reading_of(words) {
         Some(asked) => Some(asked),
@@ -31,7 +31,7 @@ pub(crate) fn asked_of(words: &[String]) -> Option<Asked>
 
 fn reading_of(words: &[String]) -> Option<Asked>
     ensures value { result ≡ reading_of (map string_bytes words.now) }
-    ensures some { (measures : Measures) → result ≢ Some (Gen measures) }
+    ensures some { (measures : GeneratorInputs) → result ≢ Some (Gen measures) }
 {
     match words {
         [word] if word.as_str() == "run" => Some(Asked::Run),
@@ -40,7 +40,7 @@ fn reading_of(words: &[String]) -> Option<Asked>
     }
 }
 
-fn gen_of(words: &[String]) -> Option<Measures>
+fn gen_of(words: &[String]) -> Option<GeneratorInputs>
     ensures value { result ≡ gen_of (map string_bytes words.now) }
     ensures some { IfSome result (λ measures. 0 < measures.members) }
 {
@@ -52,12 +52,12 @@ fn gen_of(words: &[String]) -> Option<Measures>
     }
 }
 
-fn measures_of(members: &str, objects: &str, seed: &str) -> Option<Measures>
+fn measures_of(members: &str, objects: &str, seed: &str) -> Option<GeneratorInputs>
     ensures value { result ≡ measures_of (number_within 1 16 members.now) (number_within 1 2000 objects.now)
         (number_within 0 999999999999999999 seed.now) }
     ensures some { IfSome result (λ measures. 0 < measures.members) }
 {
-    Some(Measures {
+    Some(GeneratorInputs {
         members: number_within(1, 16, members.as_bytes())?,
         objects: number_within(1, 2_000, objects.as_bytes())?,
         seed: number_within(0, 999_999_999_999_999_999, seed.as_bytes())?,

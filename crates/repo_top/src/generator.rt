@@ -1,15 +1,15 @@
 ghost use Rattle.std.specs.Prelude.{◌≡◌, ◌<◌, ◌≤◌, ◌++◌, Err, OnOk, string_bytes};
-ghost use Rattle.repo_top.specs.declared.generator.Unwritten.TheVariants.{Failed, NoMemory};
+ghost use Rattle.repo_top.specs.declared.generator.GenerateError.TheVariants.{Failed, NoMemory};
 ghost use Rattle.repo_top.specs.Generator.{deliver_text, drawn, fetch_line, gen_text, member_text, next_state};
 ghost use Rattle.repo_top.specs.Generator.{object_text, octet_text, publish_line, texts, turn_text, turns_text};
-ghost use Rattle.repo_io.specs.Outside.{GainsText, GainsFront, HasRisen};
+ghost use Rattle.repo_io.specs.Outside.{GainsText, GainsPrefix, HasRisen};
 
 use repo_io::{Sink, WriteFault, write_whole};
 use std::alloc::{AllocError, Global};
 
 // How many members and objects a generated script has, and where its draws begin.
 #[derive(Clone, Copy, Debug, PartialEq, Eq)]
-pub(crate) struct Measures {
+pub(crate) struct GeneratorInputs {
     pub(crate) members: u64,
     pub(crate) objects: u64,
     pub(crate) seed: u64,
@@ -17,38 +17,38 @@ pub(crate) struct Measures {
 
 // Why a script was not written whole.
 #[derive(Clone, Copy, Debug, PartialEq, Eq)]
-pub(crate) enum Unwritten {
+pub(crate) enum GenerateError {
     Failed,
     NoMemory,
 }
 
-impl From<WriteFault> for Unwritten {
+impl From<WriteFault> for GenerateError {
     ghost from_gives = { λ _ fault. fault ≡ Failed };
 
-    fn from(_fault: WriteFault) -> Unwritten {
-        Unwritten::Failed
+    fn from(_fault: WriteFault) -> GenerateError {
+        GenerateError::Failed
     }
 }
 
-impl From<AllocError> for Unwritten {
+impl From<AllocError> for GenerateError {
     ghost from_gives = { λ _ fault. fault ≡ NoMemory };
 
-    fn from(_error: AllocError) -> Unwritten {
-        Unwritten::NoMemory
+    fn from(_error: AllocError) -> GenerateError {
+        GenerateError::NoMemory
     }
 }
 
-// Each call writes its text, or a front of it. `line` is the room of one line.
+// Each call writes its text, or a prefix of it. `line` is the room of one line.
 
 // Writes the script line by line.
 pub(crate) fn write_script<K: Sink>(
     alloc: Global,
     sink: &mut K,
-    measures: Measures,
-) -> Result<(), Unwritten>
+    measures: GeneratorInputs,
+) -> Result<(), GenerateError>
     requires { 0 < measures.members }
     ensures whole { OnOk result (GainsText (K.out sink.old) (K.out sink.new) (gen_text measures)) }
-    ensures front { GainsFront (K.out sink.old) (K.out sink.new) (gen_text measures)
+    ensures prefix { GainsPrefix (K.out sink.old) (K.out sink.new) (gen_text measures)
         (result ≡ Err Failed) }
     ensures risen { result ≡ Err Failed → HasRisen (K.faults sink.old) (K.faults sink.new) }
 {
@@ -61,9 +61,13 @@ pub(crate) fn write_script<K: Sink>(
     Ok(())
 }
 
-fn write_members<K: Sink>(sink: &mut K, line: &mut String, members: u64) -> Result<(), Unwritten>
+fn write_members<K: Sink>(
+    sink: &mut K,
+    line: &mut String,
+    members: u64,
+) -> Result<(), GenerateError>
     ensures whole { OnOk result (GainsText (K.out sink.old) (K.out sink.new) (texts member_text members)) }
-    ensures front { GainsFront (K.out sink.old) (K.out sink.new) (texts member_text members)
+    ensures prefix { GainsPrefix (K.out sink.old) (K.out sink.new) (texts member_text members)
         (result ≡ Err Failed) }
     ensures risen { result ≡ Err Failed → HasRisen (K.faults sink.old) (K.faults sink.new) }
     ensures faults { K.faults sink.old ≤ K.faults sink.new }
@@ -78,12 +82,12 @@ fn write_members<K: Sink>(sink: &mut K, line: &mut String, members: u64) -> Resu
 fn write_objects<K: Sink>(
     sink: &mut K,
     line: &mut String,
-    measures: Measures,
-) -> Result<(), Unwritten>
+    measures: GeneratorInputs,
+) -> Result<(), GenerateError>
     requires { 0 < measures.members }
     ensures whole { OnOk result (GainsText (K.out sink.old) (K.out sink.new)
         (texts (object_text measures.members measures.seed) measures.objects)) }
-    ensures front { GainsFront (K.out sink.old) (K.out sink.new)
+    ensures prefix { GainsPrefix (K.out sink.old) (K.out sink.new)
         (texts (object_text measures.members measures.seed) measures.objects) (result ≡ Err Failed) }
     ensures risen { result ≡ Err Failed → HasRisen (K.faults sink.old) (K.faults sink.new) }
     ensures faults { K.faults sink.old ≤ K.faults sink.new }
@@ -110,11 +114,11 @@ fn write_object<K: Sink>(
     members: u64,
     object: u64,
     draw: u64,
-) -> Result<(), Unwritten>
+) -> Result<(), GenerateError>
     requires { 0 < members }
     ensures whole { OnOk result (GainsText (K.out sink.old) (K.out sink.new)
         (publish_line members object draw ++ turns_text members object)) }
-    ensures front { GainsFront (K.out sink.old) (K.out sink.new)
+    ensures prefix { GainsPrefix (K.out sink.old) (K.out sink.new)
         (publish_line members object draw ++ turns_text members object) (result ≡ Err Failed) }
     ensures risen { result ≡ Err Failed → HasRisen (K.faults sink.old) (K.faults sink.new) }
     ensures faults { K.faults sink.old ≤ K.faults sink.new }
@@ -129,9 +133,9 @@ fn write_turns<K: Sink>(
     line: &mut String,
     members: u64,
     object: u64,
-) -> Result<(), Unwritten>
+) -> Result<(), GenerateError>
     ensures whole { OnOk result (GainsText (K.out sink.old) (K.out sink.new) (turns_text members object)) }
-    ensures front { GainsFront (K.out sink.old) (K.out sink.new) (turns_text members object)
+    ensures prefix { GainsPrefix (K.out sink.old) (K.out sink.new) (turns_text members object)
         (result ≡ Err Failed) }
     ensures risen { result ≡ Err Failed → HasRisen (K.faults sink.old) (K.faults sink.new) }
     ensures faults { K.faults sink.old ≤ K.faults sink.new }
@@ -150,9 +154,9 @@ fn write_turn<K: Sink>(
     line: &mut String,
     object: u64,
     member: u64,
-) -> Result<(), Unwritten>
+) -> Result<(), GenerateError>
     ensures whole { OnOk result (GainsText (K.out sink.old) (K.out sink.new) (turn_text object member)) }
-    ensures front { GainsFront (K.out sink.old) (K.out sink.new) (turn_text object member)
+    ensures prefix { GainsPrefix (K.out sink.old) (K.out sink.new) (turn_text object member)
         (result ≡ Err Failed) }
     ensures risen { result ≡ Err Failed → HasRisen (K.faults sink.old) (K.faults sink.new) }
     ensures faults { K.faults sink.old ≤ K.faults sink.new }
@@ -163,9 +167,9 @@ fn write_turn<K: Sink>(
     write_line(sink, line)
 }
 
-fn write_line<K: Sink>(sink: &mut K, line: &str) -> Result<(), Unwritten>
+fn write_line<K: Sink>(sink: &mut K, line: &str) -> Result<(), GenerateError>
     ensures whole { OnOk result (GainsText (K.out sink.old) (K.out sink.new) line.now) }
-    ensures front { GainsFront (K.out sink.old) (K.out sink.new) line.now
+    ensures prefix { GainsPrefix (K.out sink.old) (K.out sink.new) line.now
         (result ≡ Err Failed) }
     ensures risen { result ≡ Err Failed → HasRisen (K.faults sink.old) (K.faults sink.new) }
     ensures faults { K.faults sink.old ≤ K.faults sink.new }

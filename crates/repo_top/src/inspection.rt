@@ -23,8 +23,8 @@ pub(crate) struct Inspected {
 // Inspects the octets whose digits the input gives.
 #[tactic(auto, unfolding(crate::specs::Inspection::inspect_story))]
 pub(crate) fn tell_inspection(alloc: Global, input: Vec<u8>) -> Result<Inspected, AllocError>
-    ensures text { IfOk result (λ told. told.text.items ≡ (inspect_story input.items).text) }
-    ensures ending { IfOk result (λ told. told.ending ≡ (inspect_story input.items).ending) }
+    ensures text { IfOk result (λ reported. reported.text.items ≡ (inspect_story input.items).text) }
+    ensures ending { IfOk result (λ reported. reported.ending ≡ (inspect_story input.items).ending) }
 {
     if input.len() > MOST_OCTETS {
         return refuse(alloc, Refusal::Limit);
@@ -39,8 +39,8 @@ pub(crate) fn tell_inspection(alloc: Global, input: Vec<u8>) -> Result<Inspected
 
 // Inspects the octets, where a packet may have so many.
 fn tell_octets(alloc: Global, octets: &[u8]) -> Result<Inspected, AllocError>
-    ensures text { IfOk result (λ told. told.text.items ≡ (octets_story octets.now).text) }
-    ensures ending { IfOk result (λ told. told.ending ≡ (octets_story octets.now).ending) }
+    ensures text { IfOk result (λ reported. reported.text.items ≡ (octets_story octets.now).text) }
+    ensures ending { IfOk result (λ reported. reported.ending ≡ (octets_story octets.now).ending) }
 {
     if octets.len() > MOST_OF_PACKET {
         return refuse(alloc, Refusal::Limit);
@@ -61,8 +61,8 @@ fn tell_octets(alloc: Global, octets: &[u8]) -> Result<Inspected, AllocError>
 
 // The input as its first line is refused.
 fn refuse(alloc: Global, refusal: Refusal) -> Result<Inspected, AllocError>
-    ensures text { IfOk result (λ told. told.text.items ≡ (refused refusal).text) }
-    ensures ending { IfOk result (λ told. told.ending ≡ (refused refusal).ending) }
+    ensures text { IfOk result (λ reported. reported.text.items ≡ (refused refusal).text) }
+    ensures ending { IfOk result (λ reported. reported.ending ≡ (refused refusal).ending) }
 {
     let mut text = Vec::new(alloc);
     let number = refusal.number();

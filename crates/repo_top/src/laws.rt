@@ -1,6 +1,6 @@
 ghost use Rattle.std.specs.Prelude.{◌≡◌, [], ◌∷◌, ◌++◌, None, Some, codes};
 ghost use Rattle.script_story.specs.declared.ending.Ending.TheVariants.{Done, Refused};
-ghost use Rattle.script_story.specs.Judging.{Given};
+ghost use Rattle.script_story.specs.Judging.{RunEnvironment};
 ghost use Rattle.script_story.specs.Story.{plain_story};
 ghost use Rattle.repo_top.specs.Forms.{asked_of, asked_story};
 ghost use Rattle.repo_top.specs.Inspection.{inspect_story};
@@ -19,12 +19,12 @@ pub fn small_inspections()
 
 /// The scripts that few words ask for, worked out.
 pub fn small_scripts()
-    ensures two_members { (given : Given)
-        → asked_story given (asked_of (codes "gen" ∷ codes "2" ∷ codes "1" ∷ codes "1" ∷ [])) None
+    ensures two_members { (env : RunEnvironment)
+        → asked_story env (asked_of (codes "gen" ∷ codes "2" ∷ codes "1" ∷ codes "1" ∷ [])) None
         ≡ Some (plain_story (codes "group /g\nmember m1 /n/1 6b01\nmember m2 /n/2 6b02\n"
         ++ codes "publish m1 /o/1 100 fill:400:111\nsettle 4\nsummary\n") Done) }
-    ensures ten_objects { (given : Given)
-        → asked_story given (asked_of (codes "gen" ∷ codes "1" ∷ codes "10" ∷ codes "0" ∷ [])) None
+    ensures ten_objects { (env : RunEnvironment)
+        → asked_story env (asked_of (codes "gen" ∷ codes "1" ∷ codes "10" ∷ codes "0" ∷ [])) None
         ≡ Some (plain_story (codes "group /g\nmember m1 /n/1 6b01\npublish m1 /o/1 100 fill:300:123\n"
         ++ codes "publish m1 /o/2 100 fill:200:238\npublish m1 /o/3 100 fill:200:120\n"
         ++ codes "publish m1 /o/4 100 fill:300:26\npublish m1 /o/5 100 fill:300:76\n"

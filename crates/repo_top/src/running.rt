@@ -1,7 +1,7 @@
 ghost use Rattle.std.specs.Prelude.{◌≡◌, ◌≢◌, ◌≤◌, [], None, Err, IfErr, IfOk};
 ghost use Rattle.repo_io.specs.Outside.{HasRisen};
 ghost use Rattle.repo_io.specs.Lines.{lines};
-ghost use Rattle.script_story.specs.Judging.{given_by};
+ghost use Rattle.script_story.specs.Judging.{env_by};
 ghost use Rattle.script_lines.specs.Reading.{LineIsBegun};
 ghost use Rattle.script_lines.specs.Scripts.{IsScript, reached};
 ghost use Rattle.repo_top.specs.Carrying.{Finishes, Halts, Known, Ran, Stops, Took};
@@ -9,7 +9,7 @@ ghost use Rattle.repo_top.specs.Carrying.{Finishes, Halts, Known, Ran, Stops, To
 use bench_net::{Draws, Net};
 use bench_world::World;
 use repo_io::{Sink, Source, Status, write_whole};
-use script_lines::{LineReader, Next, Script, Stop, put_stop};
+use script_lines::{LineError, LineReader, Next, Script, put_line_error};
 use std::alloc::Global;
 use std::thread::Threads;
 
@@ -25,7 +25,7 @@ pub(crate) fn run_script<R: Threads + Sync, S: Source, K: Sink, N: Net + Sync, D
 ) -> Status
     requires { end.old ≡ None }
     ensures ran { Known (S.left source.old) (S.left source.new)
-        (Ran (given_by (D.draw draws.now) (N.passes net.now)) (K.out sink.old) (K.out sink.new) result end.new) }
+        (Ran (env_by (D.draw draws.now) (N.passes net.now)) (K.out sink.old) (K.out sink.new) result end.new) }
     ensures no_world { result ≢ Status.Done → end.new ≡ None }
     ensures read_fault { result ≡ Status.ReadFault
         → HasRisen (S.faults source.old) (S.faults source.new) }
@@ -53,7 +53,7 @@ fn run_lines<R: Threads + Sync, S: Source, K: Sink, N: Net + Sync, D: Draws>(
     requires empty { reader.old ≡ [] }
     requires none { end.old ≡ None }
     ensures ran { Known (S.left source.old) (S.left source.new)
-        (Ran (given_by (D.draw draws.now) (N.passes net.now)) (K.out sink.old) (K.out sink.new) result end.new) }
+        (Ran (env_by (D.draw draws.now) (N.passes net.now)) (K.out sink.old) (K.out sink.new) result end.new) }
     ensures no_world { result ≢ Status.Done → end.new ≡ None }
     ensures read_fault { result ≡ Status.ReadFault
         → HasRisen (S.faults source.old) (S.faults source.new) }
@@ -66,7 +66,7 @@ fn run_lines<R: Threads + Sync, S: Source, K: Sink, N: Net + Sync, D: Draws>(
     loop {
         match reader.next(source) {
             Ok(Next::Line(count)) => {
-                let line = reader.front(count);
+                let line = reader.prefix(count);
                 script = match carry_out(rt, script, line, &mut report, sink, net, draws) {
                     Ok(next) => next,
                     Err(status) => return status,
@@ -95,7 +95,7 @@ fn run_last<R: Threads + Sync, K: Sink, N: Net + Sync, D: Draws>(
 ) -> Status
     requires is { IsScript script }
     requires last { LineIsBegun line.now }
-    ensures finishes { Finishes (given_by (D.draw draws.now) (N.passes net.now)) (reached script) (lines line.now)
+    ensures finishes { Finishes (env_by (D.draw draws.now) (N.passes net.now)) (reached script) (lines line.now)
         end.new (K.out sink.old) (K.out sink.new) result }
     ensures no_world { result ≢ Status.Done → end.new ≡ end.old }
     ensures write_fault { result ≡ Status.WriteFault
@@ -127,10 +127,10 @@ fn carry_out<R: Threads + Sync, K: Sink, N: Net + Sync, D: Draws>(
     draws: &D,
 ) -> Result<Script, Status>
     requires { IsScript script }
-    ensures took { IfOk result (λ next. Took (given_by (D.draw draws.now) (N.passes net.now)) (reached script)
+    ensures took { IfOk result (λ next. Took (env_by (D.draw draws.now) (N.passes net.now)) (reached script)
         line.now (reached next) (K.out sink.old) (K.out sink.new)) }
     ensures is { IfOk result IsScript }
-    ensures stops { IfErr result (Stops (given_by (D.draw draws.now) (N.passes net.now)) (reached script) line.now
+    ensures stops { IfErr result (Stops (env_by (D.draw draws.now) (N.passes net.now)) (reached script) line.now
         (K.out sink.old) (K.out sink.new)) }
     ensures risen { result ≡ Err Status.WriteFault
         → HasRisen (K.faults sink.old) (K.faults sink.new) }
@@ -142,17 +142,17 @@ fn carry_out<R: Threads + Sync, K: Sink, N: Net + Sync, D: Draws>(
             Ok(()) => Ok(next),
             Err(_) => Err(Status::WriteFault),
         },
-        Err(stop) => Err(write_stop(report, number, stop, sink)),
+        Err(error) => Err(write_stop(report, number, error, sink)),
     }
 }
 
 // Writes why the run stops at the line of this number.
-fn write_stop<K: Sink>(report: &mut Vec<u8>, line: u32, stop: Stop, sink: &mut K) -> Status
-    ensures halts { Halts line stop (K.out sink.old) (K.out sink.new) result }
+fn write_stop<K: Sink>(report: &mut Vec<u8>, line: u32, error: LineError, sink: &mut K) -> Status
+    ensures halts { Halts line error (K.out sink.old) (K.out sink.new) result }
     ensures risen { result ≡ Status.WriteFault → HasRisen (K.faults sink.old) (K.faults sink.new) }
     ensures faults { K.faults sink.old ≤ K.faults sink.new }
 {
-    let Ok(status) = put_stop(report, line, stop) else {
+    let Ok(status) = put_line_error(report, line, error) else {
         return Status::NoMemory;
     };
     match write_whole(sink, report) {

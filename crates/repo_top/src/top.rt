@@ -1,9 +1,9 @@
 ghost use Rattle.std.specs.Prelude.{◌≡◌, ◌≢◌, ◌⊎◌, ◌<◌, ℕ, [], None, Some, IfSome, map, string_bytes};
 ghost use Rattle.std.specs.Option.{option_map};
-ghost use Rattle.repo_io.specs.Outside.{GainsText, GainsFront, HasRisen};
-ghost use Rattle.repo_io.specs.Statuses.{IsTold};
+ghost use Rattle.repo_io.specs.Outside.{GainsText, GainsPrefix, HasRisen};
+ghost use Rattle.repo_io.specs.Statuses.{IsReported};
 ghost use Rattle.script_story.specs.Answers.{status_of};
-ghost use Rattle.script_story.specs.Judging.{given_by};
+ghost use Rattle.script_story.specs.Judging.{env_by};
 ghost use Rattle.repo_top.specs.Carrying.{Known, WritesLines};
 ghost use Rattle.repo_top.specs.Forms.{IsRun, asked_of, asked_story};
 ghost use Rattle.repo_top.specs.Generator.{gen_text};
@@ -11,7 +11,7 @@ ghost use Rattle.repo_top.specs.Inspection.{inspect_story};
 ghost use Rattle.repo_top.specs.Outcomes.{HasCause, LeavesLast, ReadsInput, ReportsStory, UsageIsOfWords};
 
 use crate::asked::{Asked, asked_of};
-use crate::generator::{Measures, Unwritten, write_script};
+use crate::generator::{GenerateError, GeneratorInputs, write_script};
 use crate::inspection::{MOST_OCTETS, tell_inspection};
 use crate::running::run_script;
 use bench_net::{Draws, Net};
@@ -44,7 +44,7 @@ pub fn run<R: Threads + Sync, S: Source, K: Sink, N: Net + Sync, D: Draws>(
 
     // On `Done`, `Refused` and `Foreign` the status is the end of the story that the words ask for, and what was
     // written is its text. Whatever comes, it is a prefix of that text.
-    ensures story { ReportsStory (asked_story (given_by (D.draw draws.now) (N.passes net.now))
+    ensures story { ReportsStory (asked_story (env_by (D.draw draws.now) (N.passes net.now))
         (asked_of (map string_bytes words.now)) (S.left source.old)) (K.out sink.old) (K.out sink.new) result }
 
     // A form that reads and is done has read its input to the end. `gen` reads nothing.
@@ -53,19 +53,19 @@ pub fn run<R: Threads + Sync, S: Source, K: Sink, N: Net + Sync, D: Draws>(
 
     // On `Done` the world that is left is the story's, with its mirrors, and there is none in any other case.
     ensures world { LeavesLast (asked_of (map string_bytes words.now))
-        (asked_story (given_by (D.draw draws.now) (N.passes net.now)) (asked_of (map string_bytes words.now))
+        (asked_story (env_by (D.draw draws.now) (N.passes net.now)) (asked_of (map string_bytes words.now))
         (S.left source.old)) result end.new }
 
     // The other answers have their causes. Memory may run out at any time.
     ensures causes { HasCause (asked_of (map string_bytes words.now))
-        (asked_story (given_by (D.draw draws.now) (N.passes net.now)) (asked_of (map string_bytes words.now))
+        (asked_story (env_by (D.draw draws.now) (N.passes net.now)) (asked_of (map string_bytes words.now))
         (S.left source.old)) result (HasRisen (S.faults source.old) (S.faults source.new))
         (HasRisen (K.faults sink.old) (K.faults sink.new)) }
 
     // A script is carried out line by line: each report is written before the next line is carried out, and little is
     // read past the line at which the run stops.
     ensures lines { IsRun (asked_of (map string_bytes words.now)) → Known (S.left source.old) (S.left source.new)
-        (WritesLines (given_by (D.draw draws.now) (N.passes net.now)) (K.out sink.old) (K.out sink.new) result) }
+        (WritesLines (env_by (D.draw draws.now) (N.passes net.now)) (K.out sink.old) (K.out sink.new) result) }
 {
     match asked_of(words) {
         Some(Asked::Run) => run_script(rt, alloc, source, sink, net, draws, end),
@@ -76,27 +76,27 @@ pub fn run<R: Threads + Sync, S: Source, K: Sink, N: Net + Sync, D: Draws>(
 }
 
 // Writes the script of so many members and objects.
-fn generate<K: Sink>(measures: Measures, alloc: Global, sink: &mut K) -> Status
+fn generate<K: Sink>(measures: GeneratorInputs, alloc: Global, sink: &mut K) -> Status
     requires { 0 < measures.members }
     ensures ends { (result ≡ Status.Done) ⊎ ((result ≡ Status.NoMemory) ⊎ (result ≡ Status.WriteFault)) }
     ensures text { result ≡ Status.Done → GainsText (K.out sink.old) (K.out sink.new) (gen_text measures) }
     ensures write_fault { result ≡ Status.WriteFault
         → HasRisen (K.faults sink.old) (K.faults sink.new) }
-    ensures front { GainsFront (K.out sink.old) (K.out sink.new) (gen_text measures)
+    ensures prefix { GainsPrefix (K.out sink.old) (K.out sink.new) (gen_text measures)
         (result ≡ Status.WriteFault) }
 {
     match write_script(alloc, sink, measures) {
         Ok(()) => Status::Done,
-        Err(Unwritten::Failed) => Status::WriteFault,
-        Err(Unwritten::NoMemory) => Status::NoMemory,
+        Err(GenerateError::Failed) => Status::WriteFault,
+        Err(GenerateError::NoMemory) => Status::NoMemory,
     }
 }
 
 // Reads the digits, and writes the lines of the elements that they are.
 fn inspect<S: Source, K: Sink>(alloc: Global, source: &mut S, sink: &mut K) -> Status
-    ensures end { IsTold result
+    ensures end { IsReported result
         → IfSome (option_map inspect_story (S.left source.old)) (λ story. result ≡ status_of story.ending) }
-    ensures text { IsTold result → IfSome (option_map inspect_story (S.left source.old))
+    ensures text { IsReported result → IfSome (option_map inspect_story (S.left source.old))
         (λ story. GainsText (K.out sink.old) (K.out sink.new) story.text) }
     ensures read_to_end { result ≡ Status.Done
         → IfSome (S.left source.old) (λ input. S.left source.new ≡ Some []) }
@@ -105,8 +105,8 @@ fn inspect<S: Source, K: Sink>(alloc: Global, source: &mut S, sink: &mut K) -> S
     ensures write_fault { result ≡ Status.WriteFault
         → HasRisen (K.faults sink.old) (K.faults sink.new) }
     ensures never { ((line : ℕ) → result ≢ Status.Foreign line) × (result ≢ Status.Usage) }
-    ensures front { IfSome (option_map inspect_story (S.left source.old))
-        (λ story. GainsFront (K.out sink.old) (K.out sink.new) story.text (result ≡ Status.WriteFault)) }
+    ensures prefix { IfSome (option_map inspect_story (S.left source.old))
+        (λ story. GainsPrefix (K.out sink.old) (K.out sink.new) story.text (result ≡ Status.WriteFault)) }
     ensures complete { ¬ HasRisen (S.faults source.old) (S.faults source.new)
         → ¬ HasRisen (K.faults sink.old) (K.faults sink.new)
         → IfSome (option_map inspect_story (S.left source.old))
@@ -125,19 +125,19 @@ fn inspect<S: Source, K: Sink>(alloc: Global, source: &mut S, sink: &mut K) -> S
 fn write_inspection<K: Sink>(alloc: Global, input: Vec<u8>, sink: &mut K) -> Status
     ensures ends { (result ≡ status_of (inspect_story input.items).ending)
         ⊎ ((result ≡ Status.NoMemory) ⊎ (result ≡ Status.WriteFault)) }
-    ensures text { IsTold result
+    ensures text { IsReported result
         → GainsText (K.out sink.old) (K.out sink.new) (inspect_story input.items).text }
     ensures write_fault { result ≡ Status.WriteFault
         → HasRisen (K.faults sink.old) (K.faults sink.new) }
     ensures never_foreign { (line : ℕ) → result ≢ Status.Foreign line }
-    ensures front { GainsFront (K.out sink.old) (K.out sink.new) (inspect_story input.items).text
+    ensures prefix { GainsPrefix (K.out sink.old) (K.out sink.new) (inspect_story input.items).text
         (result ≡ Status.WriteFault) }
 {
-    let Ok(told) = tell_inspection(alloc, input) else {
+    let Ok(reported) = tell_inspection(alloc, input) else {
         return Status::NoMemory;
     };
-    match write_whole(sink, &told.text) {
-        Ok(()) => Status::from(told.ending),
+    match write_whole(sink, &reported.text) {
+        Ok(()) => Status::from(reported.ending),
         Err(_) => Status::WriteFault,
     }
 }

@@ -28,24 +28,25 @@ after_watch_calls (call ∷ calls) ws = after_watch_calls calls (after_watch_cal
 abbrev pub tells : ℕ → List Entry → List Watching → List Pair
 tells n entries ws = news_of (watch_of n ws) entries
 
--- The watcher was told the publication, or counts it as told.
-abbrev pub was_told : Option Watching → Pair → Bool
-was_told None pair = false
-was_told (Some w) pair = contains pair_cmp w.told pair
+-- The watcher was given the publication, or counts it as reported.
+abbrev pub was_reported : Option Watching → Pair → Bool
+was_reported None pair = false
+was_reported (Some w) pair = contains pair_cmp w.reported pair
 
--- A publication that a take told is told by no later take of that watcher.
-abbrev pub IsToldOnce : Type 0
-IsToldOnce = (ws : List Watching) (n : ℕ) (first : List Entry) (between : List WatchCall) (later : List Entry)
+-- A publication that a take reported is reported by no later take of that watcher.
+abbrev pub IsReportedOnce : Type 0
+IsReportedOnce = (ws : List Watching) (n : ℕ) (first : List Entry) (between : List WatchCall) (later : List Entry)
     (pair : Pair)
     → contains pair_cmp (tells n first ws) pair ≡ true
     → contains pair_cmp (tells n later (after_watch_calls between (after_take n first ws))) pair ≡ false
 
--- After a take, and any calls behind it, each entry of its catalogue that the pattern is for is told.
-abbrev pub AllIsTold : Type 0
-AllIsTold = (ws : List Watching) (n : ℕ) (entries : List Entry) (calls : List WatchCall) (w : Watching) (pair : Pair)
+-- After a take, and any calls after it, each entry of its catalogue that the pattern is for is reported.
+abbrev pub AllIsReported : Type 0
+AllIsReported = (ws : List Watching) (n : ℕ) (entries : List Entry) (calls : List WatchCall) (w : Watching)
+    (pair : Pair)
     → watch_of n ws ≡ Some w
     → contains pair_cmp (map publication_of (filter (is_for w.pattern) entries)) pair ≡ true
-    → was_told (watch_of n (after_watch_calls calls (after_take n entries ws))) pair ≡ true
+    → was_reported (watch_of n (after_watch_calls calls (after_take n entries ws))) pair ≡ true
 
 -- The test is the fact.
 abbrev pub AcceptsByPrefix : Type 0

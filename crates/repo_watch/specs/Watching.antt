@@ -1,4 +1,4 @@
--- Watchers: what each asks for and was told, and what a call makes of them.
+-- Watchers: what each asks for and was reported, and what a call makes of them.
 use Rattle.std.specs.Prelude.{ℕ, zero, suc, Bool, not, ◌&&◌, List, [], ◌∷◌, ◌++◌, map, filter, Option, Some, None}
 use Rattle.std.specs.Ordering.{is_lt}
 use Rattle.repo_plan.specs.Parts.{Pair, pair_cmp}
@@ -12,34 +12,34 @@ use Rattle.repo_watch.specs.Patterns.{accepts}
 abbrev pub most_watchers : ℕ
 most_watchers = 16
 
--- What a watcher asks for, and the publications that it was told, in order.
+-- What a watcher asks for, and the publications that it was reported, in order.
 pub record Watching : Type 0 where
   pub pattern : Pattern
-  pub told : List Pair
+  pub reported : List Pair
 
--- A new watcher counts as told what is catalogued already.
+-- A new watcher counts as reported what is catalogued already.
 abbrev pub watching : Pattern → List Entry → Watching
-watching pattern entries = record { pattern = pattern; told = map publication_of entries }
+watching pattern entries = record { pattern = pattern; reported = map publication_of entries }
 
 -- The pattern is for the entry.
 abbrev pub is_for : Pattern → Entry → Bool
 is_for pattern e = accepts pattern e.publisher e.name
 
--- The watcher asks for the entry, and was not told it.
+-- The watcher asks for the entry, and was not reported it.
 abbrev pub is_news : Watching → Entry → Bool
-is_news w e = is_for w.pattern e && not (contains pair_cmp w.told (publication_of e))
+is_news w e = is_for w.pattern e && not (contains pair_cmp w.reported (publication_of e))
 
 -- What there is to tell a watcher of a catalogue, in order.
 abbrev pub news : Watching → List Entry → List Pair
 news w entries = map publication_of (filter (is_news w) entries)
 
--- The watcher once it was told that.
-abbrev pub told_news : Watching → List Entry → Watching
-told_news w entries = record w { told = insert_keys pair_cmp (news w entries) w.told }
+-- The watcher once it was given that.
+abbrev pub reported_news : Watching → List Entry → Watching
+reported_news w entries = record w { reported = insert_keys pair_cmp (news w entries) w.reported }
 
--- Those of the publications in order that stand behind this one.
-abbrev pub told_behind : Pair → List Pair → List Pair
-told_behind pair told = filter (λ other. is_lt (pair_cmp pair other)) told
+-- Those of the publications in order that stand after this one.
+abbrev pub reported_after : Pair → List Pair → List Pair
+reported_after pair reported = filter (λ other. is_lt (pair_cmp pair other)) reported
 
 -- ---- by number, from 1 on
 
@@ -55,11 +55,11 @@ abbrev pub news_of : Option Watching → List Entry → List Pair
 news_of None entries = []
 news_of (Some w) entries = news w entries
 
--- The watchers once the one of a number was told the news.
+-- The watchers once the one of a number was reported the news.
 abbrev pub after_take : ℕ → List Entry → List Watching → List Watching
 after_take n entries [] = []
 after_take zero entries (w ∷ ws) = w ∷ ws
-after_take (suc zero) entries (w ∷ ws) = told_news w entries ∷ ws
+after_take (suc zero) entries (w ∷ ws) = reported_news w entries ∷ ws
 after_take (suc (suc n)) entries (w ∷ ws) = w ∷ after_take (suc n) entries ws
 
 -- The watchers with one more.

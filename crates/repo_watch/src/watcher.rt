@@ -1,10 +1,10 @@
 ghost use Rattle.std.specs.Prelude.{◌≡◌, map, IfOk, OnOk, OnErr};
 ghost use Rattle.repo_catalog.specs.Entries.{publication_of, IsCatalogue};
-ghost use Rattle.repo_watch.specs.Watching.{watching, news, told_news};
+ghost use Rattle.repo_watch.specs.Watching.{watching, news, reported_news};
 
 use crate::filter::Filter;
 use crate::pattern::Pattern;
-use crate::told::{add, pass};
+use crate::reported::{add, pass};
 use repo_catalog::{Catalogue, Entry};
 use std::alloc::{AllocError, Global};
 use std::marker::Model;
@@ -13,7 +13,7 @@ use std::marker::Model;
 #[derive(Debug, Drop)]
 pub(crate) struct Watcher {
     pattern: Pattern,
-    told: Vec<(u32, u16)>,
+    reported: Vec<(u32, u16)>,
 }
 
 impl Model for Watcher {
@@ -23,13 +23,13 @@ impl Model for Watcher {
 
     ghost Value = { Watching };
 
-    ghost view = { λ w. record { pattern = w.pattern; told = w.told.items } };
+    ghost view = { λ w. record { pattern = w.pattern; reported = w.reported.items } };
 
-    ghost invariant = { λ w. Rises pair_cmp w.told.items };
+    ghost invariant = { λ w. Rises pair_cmp w.reported.items };
 }
 
 impl Watcher {
-    // A watcher that counts as told what is catalogued already.
+    // A watcher that counts as reported what is catalogued already.
     pub(crate) fn new(
         alloc: Global,
         pattern: Pattern,
@@ -37,8 +37,8 @@ impl Watcher {
     ) -> Result<Watcher, AllocError>
         ensures { IfOk result (λ w. w ≡ watching pattern catalogue.now.entries) }
     {
-        let told = publications(alloc, catalogue.entries())?;
-        Ok(Watcher { pattern, told })
+        let reported = publications(alloc, catalogue.entries())?;
+        Ok(Watcher { pattern, reported })
     }
 
     // Tells the news of a catalogue.
@@ -49,16 +49,16 @@ impl Watcher {
         catalogue: &Catalogue,
     ) -> Result<Vec<(u32, u16)>, AllocError>
         ensures news { IfOk result (λ pairs. pairs.items ≡ news self.old catalogue.now.entries) }
-        ensures ok { OnOk result (self.new ≡ told_news self.old catalogue.now.entries) }
+        ensures ok { OnOk result (self.new ≡ reported_news self.old catalogue.now.entries) }
         ensures err { OnErr result (self.new ≡ self.old) }
     {
         let pairs = self.news(alloc, filter, catalogue.entries())?;
-        add(alloc, &mut self.told, &pairs)?;
+        add(alloc, &mut self.reported, &pairs)?;
         Ok(pairs)
     }
 
-    // The publications of these entries that the pattern is for and that were not told, in one pass over both. The rule
-    // is asked of those alone that were not told.
+    // The publications of these entries that the pattern is for and that were not reported, in one pass over both. The
+    // rule is asked of those alone that were not reported.
     fn news(
         &self,
         alloc: Global,
@@ -69,14 +69,14 @@ impl Watcher {
         ensures { IfOk result (λ pairs. pairs.items ≡ news self.now entries.now) }
     {
         let mut pairs = Vec::new(alloc);
-        let mut told = self.told.as_slice();
+        let mut reported = self.reported.as_slice();
         for entry in entries {
             let pair = (entry.publisher, entry.seq);
-            let (was_told, behind) = pass(told, pair);
-            if !was_told && filter.wants(&self.pattern, entry.publisher, &entry.name) {
+            let (was_reported, after) = pass(reported, pair);
+            if !was_reported && filter.wants(&self.pattern, entry.publisher, &entry.name) {
                 pairs.push(pair)?;
             }
-            told = behind;
+            reported = after;
         }
         Ok(pairs)
     }

@@ -5,8 +5,8 @@ use Rattle.std.proofs.lemmas.Bool.Decides.{eqb_tells}
 use Rattle.std.specs.Option.{option_copied, option_map}
 use Rattle.std.specs.Str.Pattern.{FindsTextPrefix, StripsPrefix}
 use Rattle.std.proofs.lemmas.Str.Pattern.{split_parts, IsSplitOnceResult}
-use Rattle.ndn_name.specs.UriText.{behind_word, cut_at}
-use Rattle.ndn_name.proofs.ComputedNames.{behind-append, is_behind}
+use Rattle.ndn_name.specs.UriText.{after_word, cut_at}
+use Rattle.ndn_name.proofs.ComputedNames.{rest-append, is_after}
 use Rattle.script_lang.proofs.Conditions.{other_test}
 
 pub cut_found : (c : ℕ) (xs ys : List ℕ) → ((i : ℕ) → i < length xs → get_or xs i 0 ≢ c)
@@ -30,14 +30,14 @@ cut_none c (x ∷ xs) lacks = rw (
 ) refl
 
 -- `strip_prefix` and `split_once`
-pub stripped : (front text : List ℕ) (r : Option (Bor (List ℕ)))
-    → MatchOption r (FindsTextPrefix front text None) (λ x. StripsPrefix (FindsTextPrefix front) text x.now)
-    → option_copied r ≡ behind_word front text
-stripped front text None lacks = go (behind_word front text) refl where
-  go : (o : Option (List ℕ)) → behind_word front text ≡ o → None ≡ behind_word front text
+pub stripped : (prefix text : List ℕ) (r : Option (Bor (List ℕ)))
+    → MatchOption r (FindsTextPrefix prefix text None) (λ x. StripsPrefix (FindsTextPrefix prefix) text x.now)
+    → option_copied r ≡ after_word prefix text
+stripped prefix text None lacks = go (after_word prefix text) refl where
+  go : (o : Option (List ℕ)) → after_word prefix text ≡ o → None ≡ after_word prefix text
   go None e = sym e
-  go (Some rest) e = absurd (lacks rest (is_behind front text rest e))
-stripped front text (Some x) h = rw h.2 (sym (ap (behind_word front) h.1.1 ∙ behind-append front (drop h.0 text)))
+  go (Some rest) e = absurd (lacks rest (is_after prefix text rest e))
+stripped prefix text (Some x) h = rw h.2 (sym (ap (after_word prefix) h.1.1 ∙ rest-append prefix (drop h.0 text)))
 
 pub cut_once : (c : ℕ) (bs : List ℕ) (r : Option (Bor (List ℕ) × Bor (List ℕ))) → IsSplitOnceResult c bs
     r → c < 128
@@ -54,15 +54,15 @@ Parts = List ℕ × List ℕ
 same_parts : (x y : Parts) → Some x ≡ Some y → x ≡ y
 same_parts x y h = cc
 
-cut_behind : (c d : ℕ) (text : List ℕ) (parts : Parts) (o : Option Parts)
+cut_after : (c d : ℕ) (text : List ℕ) (parts : Parts) (o : Option Parts)
     → ((x : Parts) → o ≡ Some x → text ≡ x.0 ++ c ∷ x.1)
     → option_map (λ (x : Parts). let y : Parts = (d ∷ x.0, x.1) in y) o ≡ Some parts
     → d ∷ text ≡ parts.0 ++ c ∷ parts.1
-cut_behind c d text parts None behind k = cc
-cut_behind c d text parts (Some x) behind k =
+cut_after c d text parts None after k = cc
+cut_after c d text parts (Some x) after k =
     let y : Parts = (d ∷ x.0, x.1) in
     subst (λ (q : Parts). d ∷ text ≡ q.0 ++ c ∷ q.1) (same_parts y parts k)
-    (ap (λ (t : List ℕ). d ∷ t) (behind x refl))
+    (ap (λ (t : List ℕ). d ∷ t) (after x refl))
 
 pub cut_is : (c : ℕ) (text : List ℕ) (parts : Parts) → cut_at c text ≡ Some parts → text ≡ parts.0 ++ c
     ∷ parts.1
@@ -73,5 +73,5 @@ cut_is c (d ∷ text) parts h =
     elim (eqb_tells d c) [
       | inl p ↦ subst (λ (q : Parts). d ∷ text ≡ q.0 ++ c ∷ q.1) (same_parts first parts (rw p.0 at h))
           (ap (λ (x : ℕ). x ∷ text) p.1)
-      | inr p ↦ cut_behind c d text parts (cut_at c text) (cut_is c text) (rw p.0 at h)
+      | inr p ↦ cut_after c d text parts (cut_at c text) (cut_is c text) (rw p.0 at h)
     ]

@@ -12,7 +12,7 @@ use Rattle.script_lang.specs.declared.line_fault.LineFault.TheVariants.{Syntax, 
 use Rattle.script_lang.specs.declared.verb.Verb.{Verb}
 use Rattle.script_lang.specs.Limits.{line_octets}
 use Rattle.script_lang.specs.Kinds.{Kind, Value, word_of}
-use Rattle.script_lang.specs.Forms.{Stated, form, said}
+use Rattle.script_lang.specs.Forms.{Stated, form, statement}
 use Rattle.script_lang.specs.Lines.{word_then, values_of, are_within, stated_of, verb_of_word, line_by, line_in_words}
 use Rattle.script_lang.specs.Lines.{spaced_words, says_nothing, is_printable, mapped_line, line_in, line_within}
 use Rattle.script_lang.specs.Lines.{ends_with, without_last_octet, without_return, line_of}
@@ -37,15 +37,15 @@ values_ok (kind ∷ kinds) (word ∷ words) values h = go (word_of kind word) re
           → values_of kinds words ≡ others → word_then r others ≡ Ok values
           → ((vs : List Value) → values_of kinds words ≡ Ok vs → AreOf kinds vs × AreWordTexts kinds vs words)
           → AreOf (kind ∷ kinds) values × AreWordTexts (kind ∷ kinds) values (word ∷ words)
-      go (Ok value) e (Ok vs) f k behind =
+      go (Ok value) e (Ok vs) f k after =
           let v = word_is_text kind value word e in
-          let b = behind vs f in
+          let b = after vs f in
           rw (sym (same_ok (value ∷ vs) values k)) ((v.0, b.0), (v.1, b.1))
-      go (Ok value) e (Err fault) f k behind = never fault values k
-      go (Err Limit) e (Ok vs) f k behind = never Limit values k
-      go (Err Limit) e (Err fault) f k behind = never fault values k
-      go (Err Syntax) e others f k behind = never Syntax values k
-      go (Err NoMemory) e others f k behind = never NoMemory values k
+      go (Ok value) e (Err fault) f k after = never fault values k
+      go (Err Limit) e (Ok vs) f k after = never Limit values k
+      go (Err Limit) e (Err fault) f k after = never fault values k
+      go (Err Syntax) e others f k after = never Syntax values k
+      go (Err NoMemory) e others f k after = never NoMemory values k
 
 values_back : (kinds : List Kind) (values : List Value) (words : List (List ℕ)) → AreOf kinds values
     → AreWordTexts kinds values words → values_of kinds words ≡ Ok values
@@ -71,10 +71,10 @@ words_ok (word ∷ words) s h = by_verb (verb_of_word word) refl h where
   by_values : (verb : Verb) → verb_of_word word ≡ Some verb → (r : Result (List Value) LineFault)
       → values_of (form verb).kinds words ≡ r → stated_of verb r ≡ Ok s → AreWordsOf s (word ∷ words)
   by_values verb e (Err fault) f k = never fault s k
-  by_values verb e (Ok values) f k = chosen (are_within verb values) (Ok (said verb values)) (Err Limit) s k
+  by_values verb e (Ok values) f k = chosen (are_within verb values) (Ok (statement verb values)) (Err Limit) s k
       (λ w q. (let v = values_ok (form verb).kinds words values f in
-      let same : said verb values ≡ s = same_ok (said verb values) s q in
-      let here : AreWordsOf (said verb values) (word ∷ words) = record {
+      let same : statement verb values ≡ s = same_ok (statement verb values) s q in
+      let here : AreWordsOf (statement verb values) (word ∷ words) = record {
         others = words;
         are = ap (λ (x : List ℕ). x ∷ words)
             (verb_word word verb e);
@@ -184,18 +184,18 @@ line_is_text s octets h =
 
 -- ---- and back
 
-one_shorter : (c : ℕ) (front : List ℕ) → length (front ++ c ∷ []) - 1 ≡ length front
-one_shorter c front = omega (arith, length-append front (c ∷ []))
+one_shorter : (c : ℕ) (prefix : List ℕ) → length (prefix ++ c ∷ []) - 1 ≡ length prefix
+one_shorter c prefix = omega (arith, length-append prefix (c ∷ []))
 
-at_end : (c : ℕ) (front : List ℕ) → ends_with c (front ++ c ∷ []) ≡ true
-at_end c front =
-    let more : 0 < length (front ++ c ∷ []) = omega (arith, length-append front (c ∷ [])) in
-    and_from _ _ (some_test (length (front ++ c ∷ [])) more)
-    (eq-eqb (slice_index (front ++ c ∷ []) (length (front ++ c ∷ []) - 1)) c
-    (ap (slice_index (front ++ c ∷ [])) (one_shorter c front) ∙ get_or-append_seam front c [] 0))
+at_end : (c : ℕ) (prefix : List ℕ) → ends_with c (prefix ++ c ∷ []) ≡ true
+at_end c prefix =
+    let more : 0 < length (prefix ++ c ∷ []) = omega (arith, length-append prefix (c ∷ [])) in
+    and_from _ _ (some_test (length (prefix ++ c ∷ [])) more)
+    (eq-eqb (slice_index (prefix ++ c ∷ []) (length (prefix ++ c ∷ []) - 1)) c
+    (ap (slice_index (prefix ++ c ∷ [])) (one_shorter c prefix) ∙ get_or-append_seam prefix c [] 0))
 
-gone : (c : ℕ) (front : List ℕ) → without_last_octet (front ++ c ∷ []) ≡ front
-gone c front = ap (λ n. take n (front ++ c ∷ [])) (one_shorter c front) ∙ take-append_seam front (c ∷ [])
+gone : (c : ℕ) (prefix : List ℕ) → without_last_octet (prefix ++ c ∷ []) ≡ prefix
+gone c prefix = ap (λ n. take n (prefix ++ c ∷ [])) (one_shorter c prefix) ∙ take-append_seam prefix (c ∷ [])
 
 -- each element passes what the whole list passes
 pub element_at : (p : ℕ → Bool) (xs : List ℕ) (i : ℕ) → list_all p xs ≡ true → i < length xs

@@ -4,7 +4,7 @@ use Rattle.script_lang.specs.declared.line_fault.LineFault.{LineFault}
 use Rattle.script_lang.specs.declared.line_fault.LineFault.TheVariants.{Syntax, Limit, NoMemory}
 use Rattle.script_lang.specs.Kinds.{Kind, Value, word_of}
 use Rattle.script_lang.specs.Lines.{with_value, without_value, values_of, stated_of}
-use Rattle.script_lang.specs.Reading.{Gives, FaultTells, Unread, left_of, KeepsValue, ReadsWord, with_all}
+use Rattle.script_lang.specs.Reading.{Gives, FaultReports, Unread, left_of, KeepsValue, ReadsWord, with_all}
 use Rattle.script_lang.specs.declared.verb.Verb.{Verb}
 
 -- words as they are left
@@ -48,28 +48,28 @@ took_none false kind kinds = refl
 
 -- a word is read, and kept as it is or something in its place
 pub reads : {X : Type 0} (view : X → Value) (kind : Kind) (word : List ℕ)
-    (before between behind : Unread) (instead : X)
+    (before between after : Unread) (instead : X)
     (read result : Result X LineFault) → before ≡ at between.over
-    (word ∷ between.words) → Gives view read (word_of kind word) → KeepsValue instead read between behind
-    result → ReadsWord view kind before behind result
-reads view kind word before between behind instead (Ok x) result at_word gives keeps =
+    (word ∷ between.words) → Gives view read (word_of kind word) → KeepsValue instead read between after
+    result → ReadsWord view kind before after result
+reads view kind word before between after instead (Ok x) result at_word gives keeps =
     rw (keeps.0, keeps.1, at_word) (λ kinds. took_value between.over kind kinds word between.words (view x) gives)
-reads view kind word before between behind instead (Err Limit) result at_word gives keeps =
+reads view kind word before between after instead (Err Limit) result at_word gives keeps =
     rw (keeps.0, keeps.1, at_word) (λ kinds. took_limit between.over kind kinds word between.words
     (view instead) gives)
-reads view kind word before between behind instead (Err Syntax) result at_word gives keeps =
+reads view kind word before between after instead (Err Syntax) result at_word gives keeps =
     rw (keeps, at_word) (λ kinds. took_syntax between.over kind kinds word between.words gives)
-reads view kind word before between behind instead (Err NoMemory) result at_word gives keeps =
+reads view kind word before between after instead (Err NoMemory) result at_word gives keeps =
     rw keeps (λ kinds. tt)
 
 all_fault : (values : List Value) (fault : LineFault) → with_all values (Err fault) ≡ Err fault
 all_fault [] fault = refl
 all_fault (value ∷ values) fault = rw (all_fault values fault) refl
 
--- the fault behind the last word is the line's
-pub told_at_end : (fault : LineFault) (verb : Verb) (values : List Value)
-    (read behind : Result (List Value) LineFault) → read ≡ with_all values behind → FaultTells fault behind →
-    FaultTells fault (stated_of verb read)
-told_at_end Syntax verb values read behind h tells = rw (h, tells, all_fault values Syntax) refl
-told_at_end Limit verb values read behind h tells = rw (h, tells, all_fault values Limit) refl
-told_at_end NoMemory verb values read behind h tells = tt
+-- the fault after the last word is the line's
+pub reported_at_end : (fault : LineFault) (verb : Verb) (values : List Value)
+    (read after : Result (List Value) LineFault) → read ≡ with_all values after → FaultReports fault after →
+    FaultReports fault (stated_of verb read)
+reported_at_end Syntax verb values read after h tells = rw (h, tells, all_fault values Syntax) refl
+reported_at_end Limit verb values read after h tells = rw (h, tells, all_fault values Limit) refl
+reported_at_end NoMemory verb values read after h tells = tt

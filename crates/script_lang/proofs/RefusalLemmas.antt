@@ -1,4 +1,4 @@
--- No line is refused for want of memory.
+-- No line is refused when memory runs out.
 use Rattle.std.proofs.Common.{ℕ, Bool, true, false, cond, not, ◌&&◌, List, [], ◌∷◌, length, Option, Some, None, Result}
 use Rattle.std.proofs.Common.{◌≡◌, Ok, Err, refl}
 use Rattle.std.specs.Prelude.{IfErr, ◌≢◌, nat_le, codes, replicate}
@@ -8,7 +8,7 @@ use Rattle.std.specs.Str.Parse.{digits_value}
 use Rattle.hex.specs.Hex.{decode_of}
 use Rattle.hex.specs.declared.error.FromHexError.{FromHexError}
 use Rattle.ndn_name.specs.Names.{Component, encoding}
-use Rattle.ndn_name.specs.UriText.{behind_word, cut_at, plain_name_of_text}
+use Rattle.ndn_name.specs.UriText.{after_word, cut_at, plain_name_of_text}
 use Rattle.script_lang.specs.declared.line_fault.LineFault.{LineFault}
 use Rattle.script_lang.specs.declared.line_fault.LineFault.TheVariants.{Syntax, Limit, NoMemory}
 use Rattle.script_lang.specs.declared.check_fault.CheckFault.{CheckFault}
@@ -19,7 +19,7 @@ use Rattle.script_lang.specs.Kinds.{Kind, LABEL, PUBLISHER, N, URI, HEX, CONTENT
 use Rattle.script_lang.specs.Kinds.{Octets, label_of, publisher_of}
 use Rattle.script_lang.specs.Kinds.{is_label, is_numeral, numeral_of, octets_within, decoded_within, hex_of, filled}
 use Rattle.script_lang.specs.Kinds.{filled_of, content_by, content_of, name_within, uri_of, mapped, word_of}
-use Rattle.script_lang.specs.Forms.{AreShaped, Stated, form, said}
+use Rattle.script_lang.specs.Forms.{AreShaped, Stated, form, statement}
 use Rattle.script_lang.specs.Lines.{with_value, without_value, word_then, values_of, are_within, stated_of}
 use Rattle.script_lang.specs.Lines.{line_by, line_in_words, verb_of_word, spaced_words, says_nothing, is_printable}
 use Rattle.script_lang.specs.Lines.{mapped_line, line_in, line_within, ends_with, line_of, without_last_octet}
@@ -103,8 +103,8 @@ by_err least most None None None = syntax_is
 content_err : (least most : ℕ) (word : List ℕ) → IfErr (content_of least most word) IsOfLine
 unfolding content_of
 content_err least most word =
-    by_err least most (behind_word (codes "text:") word) (behind_word (codes "hex:") word)
-    (behind_word (codes "fill:") word)
+    by_err least most (after_word (codes "text:") word) (after_word (codes "hex:") word)
+    (after_word (codes "fill:") word)
 
 named_err : (least most : ℕ) (o : Option (List Component)) → IfErr (name_within least most o) IsOfLine
 named_err least most None = syntax_is
@@ -147,7 +147,7 @@ values_err (kind ∷ kinds) (word ∷ words) =
     then_err (word_of kind word) (values_of kinds words) (word_err kind word) (values_err kinds words)
 
 stated_err : (verb : Verb) (r : Result (List Value) LineFault) → IfErr r IsOfLine → IfErr (stated_of verb r) IsOfLine
-stated_err verb (Ok values) h = either (are_within verb values) (said verb values) Limit limit_is
+stated_err verb (Ok values) h = either (are_within verb values) (statement verb values) Limit limit_is
 stated_err verb (Err f) h = h
 
 verb_err : (words : List (List ℕ)) (o : Option Verb) → IfErr (line_by words o) IsOfLine

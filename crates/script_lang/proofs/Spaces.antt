@@ -47,14 +47,14 @@ split_last (c ∷ cs) h = rw (
 
 -- ---- words with spaces are split into the words
 
-behind_spaces : (n : ℕ) (text : List ℕ) → spaced_words (replicate n 32 ++ text) ≡ spaced_words text
-behind_spaces zero text = refl
-behind_spaces (suc n) text = behind_spaces n text
+after_spaces : (n : ℕ) (text : List ℕ) → spaced_words (replicate n 32 ++ text) ≡ spaced_words text
+after_spaces zero text = refl
+after_spaces (suc n) text = after_spaces n text
 
 pub spaced_is : (words : List (List ℕ)) (text : List ℕ) → IsSpaced words text → spaced_words text ≡ words
-spaced_is [] text h = ap spaced_words (h.1 ∙ sym (append-nil (replicate h.0 32))) ∙ behind_spaces h.0 []
+spaced_is [] text h = ap spaced_words (h.1 ∙ sym (append-nil (replicate h.0 32))) ∙ after_spaces h.0 []
 spaced_is (word ∷ words) text h =
-    ap spaced_words h.2 ∙ behind_spaces h.0 (word ++ h.1)
+    ap spaced_words h.2 ∙ after_spaces h.0 (word ++ h.1)
     ∙ elim h.4 [
       | inl end ↦ rw (
         end.0,
@@ -92,18 +92,18 @@ one_space : (words : List (List ℕ)) (text : List ℕ) → IsSpaced words text 
 one_space [] text h = (suc h.0, ap (λ (t : List ℕ). 32 ∷ t) h.1)
 one_space (word ∷ words) text h = (suc h.0, h.1, ap (λ (t : List ℕ). 32 ∷ t) h.2, h.3, h.4)
 
--- the first part of a text, which may be empty, and what is behind it
+-- the first part of a text, which may be empty, and what is after it
 record Begins (text first : List ℕ) (parts : List (List ℕ)) : Type 0 where
   rest : List ℕ
   is : text ≡ first ++ rest
   graphic : list_all is_graphic first ≡ true
-  behind : ((rest ≡ []) × (parts ≡ [])) ⊎ ((more : List ℕ) × (rest ≡ 32 ∷ more) × IsSpaced
+  after : ((rest ≡ []) × (parts ≡ [])) ⊎ ((more : List ℕ) × (rest ≡ 32 ∷ more) × IsSpaced
       (some_words parts) more)
 
 -- so that its words are these
 begun : (text first : List ℕ) (parts : List (List ℕ)) → Begins text first parts
     → IsSpaced (some_words (first ∷ parts)) text
-begun text [] parts b = elim b.behind [
+begun text [] parts b = elim b.after [
   | inl end ↦ (let e : text ≡ [] = b.is ∙ end.0 in rw (e, end.1) (0, refl))
   | inr more ↦ (let e : text ≡ 32 ∷ more.0 = b.is ∙ more.1 in rw e (one_space (some_words parts) more.0 more.2))
 ]
@@ -113,7 +113,7 @@ begun text (c ∷ cs) parts b = let t : is_some_word (c ∷ cs) ≡ true = some_
       b.rest,
       b.is,
       record { some = omega arith; graphic = b.graphic },
-      elim b.behind [
+      elim b.after [
         | inl end ↦ inl (end.0, ap some_words end.1)
         | inr more ↦ inr more
       ],
@@ -131,7 +131,7 @@ split_text [] h = record {
   parts = [];
   split = refl;
   begins = record
-      { rest = []; is = refl; graphic = refl; behind = inl (refl, refl) };
+      { rest = []; is = refl; graphic = refl; after = inl (refl, refl) };
 }
 split_text (c ∷ cs) h = elim (eqb_tells c 32) [
   | inl p ↦ at_space p.1 (split_text cs (and_right (is_printable c) _ h))
@@ -147,7 +147,7 @@ split_text (c ∷ cs) h = elim (eqb_tells c 32) [
       rest = c ∷ cs;
       is = refl;
       graphic = refl;
-      behind = inr
+      after = inr
           (cs, ap (λ (x : ℕ). x ∷ cs) e, begun cs s.first s.parts s.begins);
     };
   }
@@ -162,7 +162,7 @@ split_text (c ∷ cs) h = elim (eqb_tells c 32) [
       is = ap
           (λ (t : List ℕ). c ∷ t) s.begins.is;
       graphic = and_from _ _ g s.begins.graphic;
-      behind = s.begins.behind;
+      after = s.begins.after;
     };
   }
 

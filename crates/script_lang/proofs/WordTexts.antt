@@ -15,7 +15,7 @@ use Rattle.std.specs.Str.Parse.{digits_value}
 use Rattle.hex.specs.Hex.{decode_of}
 use Rattle.hex.specs.declared.error.FromHexError.{FromHexError}
 use Rattle.ndn_name.specs.Names.{Component, encoding}
-use Rattle.ndn_name.specs.UriText.{behind_word, cut_at, is_digest, name_of_text, plain_name, plain_name_of_text}
+use Rattle.ndn_name.specs.UriText.{after_word, cut_at, is_digest, name_of_text, plain_name, plain_name_of_text}
 use Rattle.ndn_name.specs.Uri.{IsDigits}
 use Rattle.script_lang.specs.declared.line_fault.LineFault.{LineFault}
 use Rattle.script_lang.specs.declared.line_fault.LineFault.TheVariants.{Syntax, Limit}
@@ -28,7 +28,7 @@ use Rattle.script_lang.proofs.Conditions.{chosen, never, same_ok, and_left, and_
 use Rattle.script_lang.proofs.Numerals.{below_limit, printed_again, decimal_numeral, decimal_value}
 use Rattle.script_lang.proofs.HexTexts.{digits_decoded, decoded_digits}
 use Rattle.script_lang.proofs.Cuts.{cut_found, cut_is}
-use Rattle.ndn_name.proofs.ComputedNames.{is_behind, texts-computed}
+use Rattle.ndn_name.proofs.ComputedNames.{is_after, texts-computed}
 use Rattle.ndn_name.proofs.ComputedValues.{decimal_digits}
 
 mapped_ok : {A B : Type 0} (f : A → B) (r : Result A LineFault) (v : B) → mapped f r ≡ Ok v
@@ -189,9 +189,9 @@ filled_ok least most (Some x) octets counts cut h =
     let e : octets ≡ replicate (digits_value 10 x.0) (digits_value 10 x.1) = sym (same_ok _ octets s) in
     let l : length octets ≡ digits_value 10 x.0 = ap length e
     ∙ length-replicate (digits_value 10 x.0) (digits_value 10 x.1) in
-    let front = and_left (nat_le least (digits_value 10 x.0) && nat_le (digits_value 10 x.0) most) _ r in
-    let low : least ≤ digits_value 10 x.0 = le_tested least (digits_value 10 x.0) (and_left _ _ front) in
-    let high : digits_value 10 x.0 ≤ most = le_tested (digits_value 10 x.0) most (and_right _ _ front) in (
+    let prefix = and_left (nat_le least (digits_value 10 x.0) && nat_le (digits_value 10 x.0) most) _ r in
+    let low : least ≤ digits_value 10 x.0 = le_tested least (digits_value 10 x.0) (and_left _ _ prefix) in
+    let high : digits_value 10 x.0 ≤ most = le_tested (digits_value 10 x.0) most (and_right _ _ prefix) in (
       fills (digits_value 10 x.0) (digits_value 10 x.1) (below_limit x.0 a)
           (le_tested (digits_value 10 x.1) 255 (and_right _ _ r)) e
           (ap (λ t. codes "fill:" ++ t) (cut x refl ∙ rw
@@ -205,22 +205,22 @@ filled_ok least most (Some x) octets counts cut h =
 content_ok : (least most : ℕ) (word octets : List ℕ) → content_of least most word ≡ Ok octets
     → IsContentText octets word × (least ≤ length octets) × (length octets ≤ most)
 unfolding content_of filled_of
-content_ok least most word octets h = go (behind_word (codes "text:") word) refl
-    (behind_word (codes "hex:") word) refl (behind_word (codes "fill:") word) refl h where
-      go : (a : Option (List ℕ)) → behind_word (codes "text:") word ≡ a → (b : Option (List ℕ))
-          → behind_word (codes "hex:") word ≡ b → (c : Option (List ℕ)) → behind_word (codes "fill:") word ≡ c
+content_ok least most word octets h = go (after_word (codes "text:") word) refl
+    (after_word (codes "hex:") word) refl (after_word (codes "fill:") word) refl h where
+      go : (a : Option (List ℕ)) → after_word (codes "text:") word ≡ a → (b : Option (List ℕ))
+          → after_word (codes "hex:") word ≡ b → (c : Option (List ℕ)) → after_word (codes "fill:") word ≡ c
           → content_by least most a b c ≡ Ok octets
           → IsContentText octets word × (least ≤ length octets) × (length octets ≤ most)
       go (Some text) p b q c r k =
           let m = many_ok least most text octets k in
-          (plain (is_behind (codes "text:") word text p ∙ ap (λ t. codes "text:" ++ t) m.0), m.1, m.2)
+          (plain (is_after (codes "text:") word text p ∙ ap (λ t. codes "text:" ++ t) m.0), m.1, m.2)
       go None p (Some tail) q c r k =
           let x = hex_ok least most tail octets k in
-          (digits tail (is_behind (codes "hex:") word tail q) x.0, x.1, x.2)
+          (digits tail (is_after (codes "hex:") word tail q) x.0, x.1, x.2)
       go None p None q (Some counts) r k =
           let f = filled_ok least most (cut_at 58 counts) octets counts (cut_is 58 counts) k in
           subst (λ t. IsContentText octets t × (least ≤ length octets) × (length octets ≤ most))
-          (sym (is_behind (codes "fill:") word counts r)) f
+          (sym (is_after (codes "fill:") word counts r)) f
       go None p None q None r k = never Syntax octets k
 
 read_content : (least most : ℕ) (word : List ℕ) (value : Value) → word_of (CONTENT least most) word ≡ Ok value
@@ -272,7 +272,7 @@ filled_text least most count octet small byte low high =
 
 content_is : (least most : ℕ) (octets word : List ℕ) → IsContentText octets word → least ≤ length octets
     → length octets ≤ most → content_of least most word ≡ Ok octets
-unfolding content_of behind_word hex_of
+unfolding content_of after_word hex_of
 content_is least most octets word (plain e) low high = rw
     (e, le_test least (length octets) low, le_test (length octets) most high) refl
 content_is least most octets word (digits tail e d) low high = rw

@@ -4,7 +4,7 @@ use Rattle.std.specs.Prelude.{◌++◌, length, map, Result, Ok, Err, nat_le, if
 use Rattle.std.specs.List.{list_all, list_any}
 use Rattle.std.specs.Str.{bytes_eq}
 use Rattle.std.specs.String.{string_bytes}
-use Rattle.script_lang.specs.declared.sums.Sums.{Sums}
+use Rattle.script_lang.specs.declared.script_totals.ScriptTotals.{ScriptTotals}
 use Rattle.script_lang.specs.declared.declaration.Declaration.{Declaration}
 use Rattle.ndn_name.specs.Names.{Component, encoding}
 use Rattle.script_lang.specs.declared.check_fault.CheckFault.{CheckFault}
@@ -32,7 +32,7 @@ pub record LineTotals : Type 0 where
   pub parts : ℕ
   pub settles : ℕ
 
-abbrev pub line_totals : Sums → LineTotals
+abbrev pub line_totals : ScriptTotals → LineTotals
 line_totals s = record { contents = s.contents; parts = s.parts; settles = s.settles }
 
 -- What the lines so far have declared. A mirror has a label alone.
@@ -79,7 +79,7 @@ labels_in (Number n ∷ values) = labels_in values
 labels_in (Named name ∷ values) = labels_in values
 labels_in (Octets octets ∷ values) = labels_in values
 
--- Labels are members'. Of those of a client's command the first is a member's, and what is behind it clients'.
+-- Labels are members'. Of those of a client's command the first is a member's, and what is after it clients'.
 abbrev pub are_clients : Declared → List (List ℕ) → Bool
 are_clients d [] = true
 are_clients d (client ∷ []) = has_label client d.clients
@@ -96,7 +96,7 @@ abbrev pub are_mirrors : Declared → List (List ℕ) → Bool
 are_mirrors d labels = list_all (λ label. is_mirror label d.mirrors) labels
 
 -- What a form is: it declares the group, a member, a client or a mirror; it is an event whose labels are members'; it
--- is an event by a client's command, with the client's label behind the member's; or it is an event of a mirror.
+-- is an event by a client's command, with the client's label after the member's; or it is an event of a mirror.
 pub data Sort : Type 0 where
   declaration : Sort
   event : Sort
@@ -282,8 +282,8 @@ after_event d s =
 abbrev pub party : List ℕ → List Component → Party
 party label node = record { label = label; node = node }
 
--- No line states another declaration than these: it would have no cause, and is told as want of memory, which no line
--- gets.
+-- No line states another declaration than these: it would have no cause, and is reported as out of memory, which no
+-- line gets.
 abbrev pub after_declaration : Declared → Verb → List Value → Result Declared CheckFault
 after_declaration d Group values = after_group d
 after_declaration d Member (Text label ∷ Named node ∷ key ∷ []) =

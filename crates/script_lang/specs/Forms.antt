@@ -69,8 +69,8 @@ pub record Stated : Type 0 where
   pub verb : Verb
   pub values : List Value
 
-abbrev pub said : Verb → List Value → Stated
-said verb values = record { verb = verb; values = values }
+abbrev pub statement : Verb → List Value → Stated
+statement verb values = record { verb = verb; values = values }
 
 -- The publisher of this label, or every one.
 abbrev pub publisher_value : {Z : Type 0} → Option (String Z) → Value
@@ -79,72 +79,72 @@ publisher_value None = Anyone
 
 abbrev pub stated : Line → Stated
 stated (line.Group name) =
-    said Group (Named name ∷ [])
+    statement Group (Named name ∷ [])
 stated (line.Member label name key) =
-    said Member (Text (string_bytes label) ∷ Named name ∷ Octets key.items ∷ [])
+    statement Member (Text (string_bytes label) ∷ Named name ∷ Octets key.items ∷ [])
 stated (line.Client label name key) =
-    said Client (Text (string_bytes label) ∷ Named name ∷ Octets key.items ∷ [])
+    statement Client (Text (string_bytes label) ∷ Named name ∷ Octets key.items ∷ [])
 stated (line.Mirror label p name) =
-    said Mirror (Text (string_bytes label) ∷ publisher_value p ∷ Named name ∷ [])
+    statement Mirror (Text (string_bytes label) ∷ publisher_value p ∷ Named name ∷ [])
 stated (line.Publish m name size content) =
-    said Publish (Text (string_bytes m) ∷ Named name ∷ Number size ∷ Octets content.items ∷ [])
+    statement Publish (Text (string_bytes m) ∷ Named name ∷ Number size ∷ Octets content.items ∷ [])
 stated (line.Withdraw m s) =
-    said Withdraw (Text (string_bytes m) ∷ Number s ∷ [])
+    statement Withdraw (Text (string_bytes m) ∷ Number s ∷ [])
 stated (line.Deliver k m) =
-    said Deliver (Number k ∷ Text (string_bytes m) ∷ [])
+    statement Deliver (Number k ∷ Text (string_bytes m) ∷ [])
 stated (line.Sync k) =
-    said Sync (Number k ∷ [])
+    statement Sync (Number k ∷ [])
 stated (line.Advance ms) =
-    said Advance (Number ms ∷ [])
+    statement Advance (Number ms ∷ [])
 stated (line.Fire m) =
-    said Fire (Text (string_bytes m) ∷ [])
+    statement Fire (Text (string_bytes m) ∷ [])
 stated (line.Restart m) =
-    said Restart (Text (string_bytes m) ∷ [])
+    statement Restart (Text (string_bytes m) ∷ [])
 stated (line.Vector m) =
-    said Vector (Text (string_bytes m) ∷ [])
+    statement Vector (Text (string_bytes m) ∷ [])
 stated (line.Catalogue m) =
-    said Catalogue (Text (string_bytes m) ∷ [])
+    statement Catalogue (Text (string_bytes m) ∷ [])
 stated (line.Claim m f) =
-    said Claim (Text (string_bytes m) ∷ Number f ∷ [])
+    statement Claim (Text (string_bytes m) ∷ Number f ∷ [])
 stated (line.Lose m f) =
-    said Lose (Text (string_bytes m) ∷ Number f ∷ [])
+    statement Lose (Text (string_bytes m) ∷ Number f ∷ [])
 stated (line.Answer m f q) =
-    said Answer (Text (string_bytes m) ∷ Number f ∷ Text (string_bytes q) ∷ [])
+    statement Answer (Text (string_bytes m) ∷ Number f ∷ Text (string_bytes q) ∷ [])
 stated (line.Fetch m workers tries loss) =
-    said Fetch (Text (string_bytes m) ∷ Number workers ∷ Number tries ∷ Number loss ∷ [])
+    statement Fetch (Text (string_bytes m) ∷ Number workers ∷ Number tries ∷ Number loss ∷ [])
 stated (line.Settle workers) =
-    said Settle (Number workers ∷ [])
+    statement Settle (Number workers ∷ [])
 stated (line.Dump m p s x) =
-    said Dump (Text (string_bytes m) ∷ Text (string_bytes p) ∷ Number s ∷ Number x ∷ [])
+    statement Dump (Text (string_bytes m) ∷ Text (string_bytes p) ∷ Number s ∷ Number x ∷ [])
 stated (line.Hear m octets) =
-    said Hear (Text (string_bytes m) ∷ Octets octets.items ∷ [])
+    statement Hear (Text (string_bytes m) ∷ Octets octets.items ∷ [])
 stated (line.Order m octets) =
-    said Order (Text (string_bytes m) ∷ Octets octets.items ∷ [])
+    statement Order (Text (string_bytes m) ∷ Octets octets.items ∷ [])
 stated (line.Ask m octets) =
-    said Ask (Text (string_bytes m) ∷ Octets octets.items ∷ [])
+    statement Ask (Text (string_bytes m) ∷ Octets octets.items ∷ [])
 stated (line.Feed m f octets) =
-    said Feed (Text (string_bytes m) ∷ Number f ∷ Octets octets.items ∷ [])
+    statement Feed (Text (string_bytes m) ∷ Number f ∷ Octets octets.items ∷ [])
 stated (line.Insert m client name first last) =
-    said Insert
+    statement Insert
     (Text (string_bytes m) ∷ Text (string_bytes client) ∷ Named name ∷ Number first ∷ Number last ∷ [])
 stated (line.Block m process index content) =
-    said Block (Text (string_bytes m) ∷ Number process ∷ Number index ∷ Octets content.items ∷ [])
+    statement Block (Text (string_bytes m) ∷ Number process ∷ Number index ∷ Octets content.items ∷ [])
 stated (line.Status m client process) =
-    said Status (Text (string_bytes m) ∷ Text (string_bytes client) ∷ Number process ∷ [])
+    statement Status (Text (string_bytes m) ∷ Text (string_bytes client) ∷ Number process ∷ [])
 stated (line.Delete m client name) =
-    said Delete (Text (string_bytes m) ∷ Text (string_bytes client) ∷ Named name ∷ [])
+    statement Delete (Text (string_bytes m) ∷ Text (string_bytes client) ∷ Named name ∷ [])
 stated (line.Watch m p name) =
-    said Watch (Text (string_bytes m) ∷ publisher_value p ∷ Named name ∷ [])
+    statement Watch (Text (string_bytes m) ∷ publisher_value p ∷ Named name ∷ [])
 stated (line.Told m w) =
-    said Told (Text (string_bytes m) ∷ Number w ∷ [])
+    statement Told (Text (string_bytes m) ∷ Number w ∷ [])
 stated (line.Mdeliver k l) =
-    said Mdeliver (Number k ∷ Text (string_bytes l) ∷ [])
+    statement Mdeliver (Number k ∷ Text (string_bytes l) ∷ [])
 stated (line.Mfetch l workers tries loss) =
-    said Mfetch (Text (string_bytes l) ∷ Number workers ∷ Number tries ∷ Number loss ∷ [])
+    statement Mfetch (Text (string_bytes l) ∷ Number workers ∷ Number tries ∷ Number loss ∷ [])
 stated (line.Mcatalogue l) =
-    said Mcatalogue (Text (string_bytes l) ∷ [])
-stated line.Summary = said Summary []
-stated line.Traffic = said Traffic []
+    statement Mcatalogue (Text (string_bytes l) ∷ [])
+stated line.Summary = statement Summary []
+stated line.Traffic = statement Traffic []
 
 -- ---- values of their kinds
 

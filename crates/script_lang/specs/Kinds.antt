@@ -8,7 +8,7 @@ use Rattle.std.specs.Str.Parse.{digits_value}
 use Rattle.hex.specs.Hex.{decode_of}
 use Rattle.hex.specs.declared.error.FromHexError.{FromHexError}
 use Rattle.ndn_name.specs.Names.{Component, encoding}
-use Rattle.ndn_name.specs.UriText.{behind_word, cut_at, plain_name_of_text}
+use Rattle.ndn_name.specs.UriText.{after_word, cut_at, plain_name_of_text}
 use Rattle.script_lang.specs.declared.line_fault.LineFault.{LineFault}
 use Rattle.script_lang.specs.declared.line_fault.LineFault.TheVariants.{Syntax, Limit}
 
@@ -99,8 +99,8 @@ content_by least most None None None = Err Syntax
 
 unfoldable pub content_of : ℕ → ℕ → List ℕ → Result (List ℕ) LineFault
 content_of least most word =
-    content_by least most (behind_word (codes "text:") word) (behind_word (codes "hex:") word)
-    (behind_word (codes "fill:") word)
+    content_by least most (after_word (codes "text:") word) (after_word (codes "hex:") word)
+    (after_word (codes "fill:") word)
 
 -- A URI is the text of a name without components of type 1 or 2 (`plain_name_of_text`), whose value has
 -- so many octets.

@@ -1,5 +1,5 @@
 -- What octets are as a line: its verb and the values of its words; nothing; or why they are no line. A line that is
--- too long is told first, then what isn't in the grammar, then what leaves a range.
+-- too long is reported first, then what isn't in the grammar, then what leaves a range.
 use Rattle.std.specs.Prelude.{ℕ, ◌-◌, ◌*◌, Bool, true, false, not, ◌&&◌, List, [], ◌∷◌, length, take, map, Option, Some}
 use Rattle.std.specs.Prelude.{None}
 use Rattle.std.specs.Prelude.{Result, Ok, Err, nat_le, nat_lt, ◌==◌, if◌then◌else◌, filter, slice_index}
@@ -15,16 +15,16 @@ use Rattle.script_lang.specs.declared.line_fault.LineFault.{LineFault}
 use Rattle.script_lang.specs.declared.line_fault.LineFault.TheVariants.{Syntax, Limit, NoMemory}
 use Rattle.script_lang.specs.Limits.{line_octets, segments_limit, blocks_limit}
 use Rattle.script_lang.specs.Kinds.{Kind, Value, Number, Octets, word_of}
-use Rattle.script_lang.specs.Forms.{Stated, form, said}
+use Rattle.script_lang.specs.Forms.{Stated, form, statement}
 
 -- ---- the words by their kinds
 
--- A value in front of what is read of the words behind it.
+-- A value in front of what is read of the words after it.
 abbrev pub with_value : Value → Result (List Value) LineFault → Result (List Value) LineFault
 with_value value (Ok values) = Ok (value ∷ values)
 with_value value (Err fault) = Err fault
 
--- A word left its range: the line is no line, and Syntax behind it is told first.
+-- A word left its range: the line is no line, and Syntax after it is reported first.
 abbrev pub without_value : Result (List Value) LineFault → Result (List Value) LineFault
 without_value (Ok values) = Err Limit
 without_value (Err fault) = Err fault
@@ -88,7 +88,7 @@ are_within Traffic values = true
 
 abbrev pub stated_of : Verb → Result (List Value) LineFault → Result Stated LineFault
 stated_of verb (Ok values) =
-    if are_within verb values then Ok (said verb values) else Err Limit
+    if are_within verb values then Ok (statement verb values) else Err Limit
 stated_of verb (Err fault) = Err fault
 
 -- The verb that a word is.

@@ -9,14 +9,14 @@ use Rattle.script_lang.specs.Forms.{form, stated}
 use Rattle.script_lang.specs.Lines.{values_of, with_value, without_value}
 
 -- What a call answers is what reading gives, unless memory ran out.
-abbrev pub FaultTells : {A : Type 0} → LineFault → Result A LineFault → Type 0
-FaultTells NoMemory read = Unit {0}
-FaultTells Syntax read = read ≡ Err Syntax
-FaultTells Limit read = read ≡ Err Limit
+abbrev pub FaultReports : {A : Type 0} → LineFault → Result A LineFault → Type 0
+FaultReports NoMemory read = Unit {0}
+FaultReports Syntax read = read ≡ Err Syntax
+FaultReports Limit read = read ≡ Err Limit
 
 abbrev pub Gives : {X A : Type 0} → (X → A) → Result X LineFault → Result A LineFault → Type 0
 Gives view (Ok x) read = read ≡ Ok (view x)
-Gives view (Err fault) read = FaultTells fault read
+Gives view (Err fault) read = FaultReports fault read
 
 -- Words that are left to be read, and whether a word before them left its range.
 pub record Unread : Type 0 where
@@ -29,21 +29,21 @@ left_of kinds unread =
     else values_of kinds unread.words
 
 -- What a call read from the words that were left, as a word of this kind: whatever kinds are wanted of
--- the words behind it, its value stands in front of what they are; or its fault is the line's.
+-- the words after it, its value stands in front of what they are; or its fault is the line's.
 abbrev pub ReadsWord : {X : Type 0} → (X → Value) → Kind → Unread → Unread → Result X LineFault → Type 0
-ReadsWord view kind before behind (Ok x) =
+ReadsWord view kind before after (Ok x) =
     (kinds : List Kind)
-    → left_of (kind ∷ kinds) before ≡ with_value (view x) (left_of kinds behind)
-ReadsWord view kind before behind (Err fault) =
-    (kinds : List Kind) → FaultTells fault (left_of (kind ∷ kinds) before)
+    → left_of (kind ∷ kinds) before ≡ with_value (view x) (left_of kinds after)
+ReadsWord view kind before after (Err fault) =
+    (kinds : List Kind) → FaultReports fault (left_of (kind ∷ kinds) before)
 
 -- What is kept of a word: its value; where it left its range, something in its place, and that it did.
 abbrev pub KeepsValue : {X : Type 0} → X → Result X LineFault → Unread → Unread → Result X LineFault → Type 0
-KeepsValue instead (Ok x) before behind result = (result ≡ Ok x) × (behind ≡ before)
-KeepsValue instead (Err Limit) before behind result =
-    (result ≡ Ok instead) × (behind ≡ record { over = true; words = before.words })
-KeepsValue instead (Err Syntax) before behind result = result ≡ Err Syntax
-KeepsValue instead (Err NoMemory) before behind result = result ≡ Err NoMemory
+KeepsValue instead (Ok x) before after result = (result ≡ Ok x) × (after ≡ before)
+KeepsValue instead (Err Limit) before after result =
+    (result ≡ Ok instead) × (after ≡ record { over = true; words = before.words })
+KeepsValue instead (Err Syntax) before after result = result ≡ Err Syntax
+KeepsValue instead (Err NoMemory) before after result = result ≡ Err NoMemory
 
 -- The same of a whole form.
 abbrev pub with_all : List Value → Result (List Value) LineFault → Result (List Value) LineFault
@@ -51,7 +51,7 @@ with_all [] others = others
 with_all (value ∷ values) others = with_value value (with_all values others)
 
 abbrev pub ReadsForm : Verb → Unread → Unread → Result Line LineFault → Type 0
-ReadsForm verb before behind (Ok x) =
+ReadsForm verb before after (Ok x) =
     ((stated x).verb ≡ verb)
-    × (left_of (form verb).kinds before ≡ with_all (stated x).values (left_of [] behind))
-ReadsForm verb before behind (Err fault) = FaultTells fault (left_of (form verb).kinds before)
+    × (left_of (form verb).kinds before ≡ with_all (stated x).values (left_of [] after))
+ReadsForm verb before after (Err fault) = FaultReports fault (left_of (form verb).kinds before)

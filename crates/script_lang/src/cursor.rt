@@ -2,7 +2,7 @@ ghost use Rattle.std.specs.Prelude.{◌≡◌, ◌≤◌, List, ◌∷◌, [], m
 ghost use Rattle.std.specs.String.{string_bytes};
 ghost use Rattle.script_lang.specs.Forms.{publisher_value};
 ghost use Rattle.script_lang.specs.Kinds.{URI, CONTENT, Named, Kind, LABEL, N, HEX, PUBLISHER, Text, Number, Octets};
-ghost use Rattle.script_lang.specs.Reading.{left_of, KeepsValue, ReadsWord, FaultTells};
+ghost use Rattle.script_lang.specs.Reading.{left_of, KeepsValue, ReadsWord, FaultReports};
 
 use crate::line_fault::LineFault;
 use crate::word::{content_in, hex_in, label_in, name_in, number_in, publisher_in, small_in};
@@ -12,8 +12,8 @@ use std::marker::Model;
 
 // The words of a line that are still to be read.
 //
-// A word that leaves its range stops nothing, since the words behind it may be no words at all,
-// which is told first: something stands in for its value, and `end` tells that it left its range.
+// A word that leaves its range stops nothing, since the words after it may be no words at all,
+// which is reported first: something stands in for its value, and `end` tells that it left its range.
 #[derive(Drop)]
 pub(crate) struct Cursor<'a> {
     rest: &'a [&'a str],
@@ -45,7 +45,7 @@ impl<'a> Cursor<'a> {
         ensures ok { IfOk result (λ word. self.old
             ≡ record { over = self.new.over; words = word.now ∷ self.new.words }) }
         ensures err { IfErr result (λ fault. (kind : Kind) (kinds : List Kind)
-            → FaultTells fault (left_of (kind ∷ kinds) self.old)) }
+            → FaultReports fault (left_of (kind ∷ kinds) self.old)) }
     {
         let [word, rest @ ..] = self.rest else {
             return Err(LineFault::Syntax);
@@ -129,11 +129,11 @@ impl<'a> Cursor<'a> {
         self.kept(content_in(alloc, least, most, word), Vec::new(alloc))
     }
 
-    // Behind the last word: there is no other, and none left its range.
+    // After the last word: there is no other, and none left its range.
     #[tactic(auto, unfolding(crate::specs::Lines::values_of))]
     pub(crate) fn end(&self) -> Result<(), LineFault>
         ensures ok { IfOk result (λ _. left_of [] self.now ≡ Ok []) }
-        ensures err { IfErr result (λ fault. FaultTells fault (left_of [] self.now)) }
+        ensures err { IfErr result (λ fault. FaultReports fault (left_of [] self.now)) }
     {
         if !self.rest.is_empty() {
             return Err(LineFault::Syntax);

@@ -17,7 +17,7 @@ use crate::line_fault::LineFault;
 use crate::verb::Verb;
 use std::alloc::Global;
 
-// Reads the words behind the verb as a line of its form.
+// Reads the words after the verb as a line of its form.
 pub(crate) fn line_of(alloc: Global, verb: Verb, words: Cursor<'_>) -> Result<Line, LineFault>
     ensures { Gives stated result (stated_of verb (left_of (form verb).kinds words.entry)) }
 {
@@ -91,7 +91,7 @@ fn read_form(alloc: Global, verb: Verb, words: &mut Cursor<'_>) -> Result<Line, 
     }
 }
 
-// Each form of more than one word behind its verb, in the order of the verbs.
+// Each form of more than one word after its verb, in the order of the verbs.
 
 fn member(alloc: Global, words: &mut Cursor<'_>) -> Result<Line, LineFault>
     ensures { ReadsForm Member words.old words.new result }

@@ -10,7 +10,7 @@ ghost use Rattle.script_lang.specs.Limits.{contents_limit, last_part, line_octet
 ghost use Rattle.script_lang.specs.Limits.{parts_limit, script_lines, script_octets, segments_limit, settles_limit};
 ghost use Rattle.script_lang.specs.Kinds.{Anyone, Kind, Named, Number, Octets, Text, Value, word_of};
 ghost use Rattle.script_lang.specs.declared.line.Line.{Line};
-ghost use Rattle.script_lang.specs.Forms.{AreShaped, Stated, form, said, stated};
+ghost use Rattle.script_lang.specs.Forms.{AreShaped, Stated, form, statement, stated};
 ghost use Rattle.script_lang.specs.Lines.{are_within, line_of};
 ghost use Rattle.script_lang.specs.Checking.{Declared, after_line, are_within_limits, asks_the_group_first};
 ghost use Rattle.script_lang.specs.Checking.{publication_parts};
@@ -53,7 +53,7 @@ pub fn printed_lines_are_read()
         → line_of (printed_line s) ≡ Ok (Some s) }
 {}
 
-/// A refusal that a line gets is told by it and the lines before it, and is never want of memory.
+/// A refusal that a line gets is reported by it and the lines before it, and is never out of memory.
 pub fn refusals_are_of_the_lines()
     ensures read { (octets : List ℕ) → IfErr (line_of octets) (λ f. f ≢ fault.NoMemory) }
     ensures checked { (d : Declared) (s : Stated) → AreShaped (form s.verb).kinds s.values
@@ -77,21 +77,21 @@ pub fn what_asks_the_group_first_adds_nothing()
 
 /// Worked lines, as the definition computes them.
 pub fn worked_lines()
-    ensures group { line_of (codes "group /g") ≡ Ok (Some (said Group (Named ((8, codes "g") ∷ []) ∷ []))) }
+    ensures group { line_of (codes "group /g") ≡ Ok (Some (statement Group (Named ((8, codes "g") ∷ []) ∷ []))) }
     ensures claim { line_of (codes " claim  bob 16 ")
-        ≡ Ok (Some (said Claim (Text (codes "bob") ∷ Number 16 ∷ []))) }
+        ≡ Ok (Some (statement Claim (Text (codes "bob") ∷ Number 16 ∷ []))) }
     ensures over { line_of (codes "claim bob 17") ≡ Err Limit }
     ensures syntax_first { line_of (codes "answer bob 17 Bob") ≡ Err Syntax }
     ensures long_number { line_of (codes "claim bob 9999999999999999999") ≡ Err Syntax }
     ensures withdrawal { line_of (codes "withdraw a 65535")
-        ≡ Ok (Some (said Withdraw (Text (codes "a") ∷ Number 65535 ∷ []))) }
+        ≡ Ok (Some (statement Withdraw (Text (codes "a") ∷ Number 65535 ∷ []))) }
     ensures filled { line_of (codes "publish a /x 4 fill:3:65")
-        ≡ Ok (Some (said Publish (Text (codes "a") ∷ Named ((8, codes "x") ∷ []) ∷ Number 4
+        ≡ Ok (Some (statement Publish (Text (codes "a") ∷ Named ((8, codes "x") ∷ []) ∷ Number 4
         ∷ Octets (codes "AAA") ∷ []))) }
-    ensures mirror { line_of (codes "mirror mia alice /doc")
-        ≡ Ok (Some (said Mirror (Text (codes "mia") ∷ Text (codes "alice") ∷ Named ((8, codes "doc") ∷ []) ∷ []))) }
+    ensures mirror { line_of (codes "mirror mia alice /doc") ≡ Ok (Some
+        (statement Mirror (Text (codes "mia") ∷ Text (codes "alice") ∷ Named ((8, codes "doc") ∷ []) ∷ []))) }
     ensures every_object { line_of (codes "watch bob * /")
-        ≡ Ok (Some (said Watch (Text (codes "bob") ∷ Anyone ∷ Named [] ∷ []))) }
+        ≡ Ok (Some (statement Watch (Text (codes "bob") ∷ Anyone ∷ Named [] ∷ []))) }
     ensures blocks { line_of (codes "insert a c /in 5 205") ≡ Err Limit }
     ensures comment { line_of (codes " # g") ≡ Ok None }
 {}

@@ -59,7 +59,7 @@ pub(crate) const LOSS: u32 = 1_000;
 
 pub(crate) const ADVANCE: u64 = 1_000_000_000;
 
-// The greatest number of a publication, and of a part of one: 20,000 segments stand behind 100 index packets.
+// The greatest number of a publication, and of a part of one: 20,000 segments stand after 100 index packets.
 pub(crate) const NUMBERS: u32 = 65_535;
 
 pub(crate) const LAST_PART: u32 = 20_100;

@@ -3,7 +3,7 @@ ghost use Rattle.std.specs.List.{list_all, slice_split};
 ghost use Rattle.std.specs.Option.{option_copied, option_map};
 ghost use Rattle.std.specs.Char.{is_ascii_digit};
 ghost use Rattle.std.specs.String.{string_bytes};
-ghost use Rattle.ndn_name.specs.UriText.{behind_word, cut_at};
+ghost use Rattle.ndn_name.specs.UriText.{after_word, cut_at};
 ghost use Rattle.script_lang.specs.Forms.{publisher_value};
 ghost use Rattle.script_lang.specs.Kinds.{CONTENT, LABEL, N, Named, Number, Octets, PUBLISHER, Text, URI, filled_of};
 ghost use Rattle.script_lang.specs.Kinds.{hex_of};
@@ -119,14 +119,14 @@ pub(crate) fn hex_in(alloc: Global, least: u64, most: u64, word: &str) -> Result
     }
 }
 
-// What stands behind a front, where the text has it.
-fn behind<'a>(front: &str, text: &'a str) -> Option<&'a str>
-    ensures { option_copied result ≡ behind_word front.now text.now }
+// What stands after a prefix, where the text has it.
+fn after<'a>(prefix: &str, text: &'a str) -> Option<&'a str>
+    ensures { option_copied result ≡ after_word prefix.now text.now }
 {
-    text.strip_prefix(front)
+    text.strip_prefix(prefix)
 }
 
-// What stands before the first colon and behind it, where there is one.
+// What stands before the first colon and after it, where there is one.
 fn cut_at_colon(text: &str) -> Option<(&str, &str)>
     ensures { option_map (λ parts. (parts.0.now, parts.1.now)) result ≡ cut_at 58 text.now }
 {
@@ -169,11 +169,11 @@ pub(crate) fn content_in(
 ) -> Result<Vec<u8>, LineFault>
     ensures { Gives (λ octets. Octets octets.items) result (word_of (CONTENT least most) word.now) }
 {
-    if let Some(text) = behind("text:", word) {
+    if let Some(text) = after("text:", word) {
         text_in(alloc, least, most, text)
-    } else if let Some(digits) = behind("hex:", word) {
+    } else if let Some(digits) = after("hex:", word) {
         hex_in(alloc, least, most, digits)
-    } else if let Some(counts) = behind("fill:", word) {
+    } else if let Some(counts) = after("fill:", word) {
         filled_in(alloc, least, most, counts)
     } else {
         Err(LineFault::Syntax)

@@ -11,7 +11,7 @@ use crate::known::{are_known, is_publisher};
 use crate::limits::{MEMBERS_LIMIT, MIRRORS_LIMIT};
 use crate::line::Line;
 use crate::mirror::{is_mirror, place_of_mirror};
-use crate::sums::Sums;
+use crate::script_totals::ScriptTotals;
 use ndn_name::Name;
 use std::alloc::Global;
 use std::marker::Model;
@@ -26,7 +26,7 @@ pub struct Words {
     mirrors: Vec<String>,
     // Whether a line was an event.
     events: bool,
-    sums: Sums,
+    sums: ScriptTotals,
 }
 
 // It is seen as what is declared.
@@ -61,7 +61,7 @@ impl Words {
             clients: Vec::new(alloc),
             mirrors: Vec::new(alloc),
             events: false,
-            sums: Sums::none(),
+            sums: ScriptTotals::none(),
         }
     }
 
@@ -163,7 +163,7 @@ impl Words {
         if !are_known(&self.members, &self.clients, &self.mirrors, line) {
             return Err(CheckFault::UnknownLabel);
         }
-        let Some(sums) = self.sums.with(Sums::of_line(line)) else {
+        let Some(sums) = self.sums.with(ScriptTotals::of_line(line)) else {
             return Err(CheckFault::TooLarge);
         };
         self.events = true;

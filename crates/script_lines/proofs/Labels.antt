@@ -4,21 +4,21 @@ use Rattle.std.proofs.Math.Seq.{get_or-append_seam}
 use Rattle.sorted_lists.specs.Range.{numbers_from}
 use Rattle.script_report.specs.Labels.{label_at, no_label}
 
-labels_behind : (front rest : List (List ℕ))
-    → map (label_at (front ++ rest)) (numbers_from (length front) (length rest)) ≡ rest
-labels_behind front [] = refl
-labels_behind front (label ∷ rest) =
-    let all = front ++ label ∷ rest in
-    let longer = front ++ label ∷ [] in
-    let here : label_at all (length front) ≡ label = get_or-append_seam front label rest no_label in
+labels_after : (prefix rest : List (List ℕ))
+    → map (label_at (prefix ++ rest)) (numbers_from (length prefix) (length rest)) ≡ rest
+labels_after prefix [] = refl
+labels_after prefix (label ∷ rest) =
+    let all = prefix ++ label ∷ rest in
+    let longer = prefix ++ label ∷ [] in
+    let here : label_at all (length prefix) ≡ label = get_or-append_seam prefix label rest no_label in
     let named : map (label_at all) (numbers_from (length longer) (length rest)) ≡ rest =
     subst (λ (labels : List (List ℕ)). map (label_at labels) (numbers_from (length longer) (length rest)) ≡ rest)
-    (append_assoc front (label ∷ []) rest) (labels_behind longer rest) in
-    let behind : map (label_at all) (numbers_from (length front + 1) (length rest)) ≡ rest =
+    (append_assoc prefix (label ∷ []) rest) (labels_after longer rest) in
+    let after : map (label_at all) (numbers_from (length prefix + 1) (length rest)) ≡ rest =
     subst (λ (n : ℕ). map (label_at all) (numbers_from n (length rest)) ≡ rest)
-    (length-append front (label ∷ [])) named in
+    (length-append prefix (label ∷ [])) named in
     cc
 
 pub labels_of_all : (labels : List (List ℕ)) (n : ℕ) (members : List ℕ) → n ≡ length labels
     → members ≡ numbers_from 0 n → map (label_at labels) members ≡ labels
-labels_of_all labels n members count all = rw (all, count) (labels_behind [] labels)
+labels_of_all labels n members count all = rw (all, count) (labels_after [] labels)

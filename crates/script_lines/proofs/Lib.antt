@@ -1,7 +1,7 @@
 pub mod Readings
 pub mod Labels
 pub mod Judgings
-pub mod Progressings
+pub mod RunStateLemmas
 pub mod WatchLines
 pub mod MirrorWorlds
 pub mod MirrorSettles

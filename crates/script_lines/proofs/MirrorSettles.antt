@@ -26,7 +26,7 @@ use Rattle.repo_mirror.specs.Mirrors.{mirror_holds, path_to, unless_held}
 use Rattle.repo_mirror.specs.MirrorLaws.{learns_all}
 use Rattle.repo_mirror.proofs.Gains.{gains_known}
 use Rattle.repo_mirror.specs.MirrorState.{MirrorState}
-use Rattle.repo_mirror.specs.TrueMirrors.{mirror_in_group}
+use Rattle.repo_mirror.specs.ConsistentMirrors.{mirror_in_group}
 use Rattle.bench_world.specs.MirrorSettles.{HasSettled}
 use Rattle.script_story.specs.Mirrors.{comes_to, mirror_as, mirror_settles}
 
@@ -34,7 +34,7 @@ use Rattle.script_story.specs.Mirrors.{comes_to, mirror_as, mirror_settles}
 
 -- A part that comes is one that could, by what the mirror knows and its pattern.
 record Comes (pattern : Pattern) (ls : Logs) (members : List Member) (known : List ℕ) (t : Part) : Type 0 where
-  told : t.seq ≤ slice_index known t.publisher
+  reported : t.seq ≤ slice_index known t.publisher
   publisher : is_publisher pattern.publisher t.publisher ≡ true
   part : (t.part == 0 || is_kept pattern ls (pair_of t)) ≡ true
   someones : someone_holds members t ≡ true
@@ -43,7 +43,7 @@ module _ (pattern : Pattern) (ls : Logs) (members : List Member) where
   comes_wanted : (m : Mirror) (t : Part) → IsWantedByMirror pattern ls m t → someone_holds members t ≡ true
       → Comes pattern ls members m.known t
   comes_wanted m t h held = record {
-    told = h.known.to_known;
+    reported = h.known.to_known;
     publisher = h.publisher;
     part = elim h.part [
       | inl z ↦ or_left (t.part == 0) (is_kept pattern ls (pair_of t)) (eq-eqb t.part 0 z)
@@ -113,12 +113,13 @@ module _ (w : World) (s : IsSoundGroup w) (old new : MirrorState) (h : HasSettle
       let a = and_parts (nat_le t.seq (slice_index known t.publisher)) _ c in
       let b = and_parts (is_publisher old.pattern.publisher t.publisher) _ a.1 in
       let d = and_parts (t.part == 0 || is_kept old.pattern (logs w) (pair_of t)) (someone_holds w.members t) b.1 in
-      record { told = leb-true t.seq _ a.0; publisher = b.0; part = d.0; someones = d.1 }
+      record { reported = leb-true t.seq _ a.0; publisher = b.0; part = d.0; someones = d.1 }
 
   come : (t : Part) → Comes old.pattern (logs w) w.members (join old.known (settled_vector w)) t
       → comes_to w (mirror_as old) t ≡ true
   come t c =
-      and_from (nat_le t.seq (slice_index (join old.known (settled_vector w)) t.publisher)) _ (le-leb t.seq _ c.told)
+      and_from (nat_le t.seq (slice_index (join old.known (settled_vector w)) t.publisher)) _
+      (le-leb t.seq _ c.reported)
       (and_from (is_publisher old.pattern.publisher t.publisher) _ c.publisher
       (and_from (t.part == 0 || is_kept old.pattern (logs w) (pair_of t)) (someone_holds w.members t) c.part
       c.someones))
@@ -151,7 +152,7 @@ module _ (w : World) (s : IsSoundGroup w) (old new : MirrorState) (h : HasSettle
     wanted free = record {
       known = record {
         from_one = sound.from_one;
-        to_known = subst (λ (known : List ℕ). t.seq ≤ slice_index known t.publisher) (sym h.known) c.told;
+        to_known = subst (λ (known : List ℕ). t.seq ≤ slice_index known t.publisher) (sym h.known) c.reported;
       };
       publisher = c.publisher;
       part = part (t.part == 0) refl c.part;
@@ -162,31 +163,31 @@ module _ (w : World) (s : IsSoundGroup w) (old new : MirrorState) (h : HasSettle
   comes_too : (t : Part) (x : ℕ) → Comes old.pattern (logs w) w.members (join old.known (settled_vector w)) t
       → (t.part == 0) ≡ false → someone_holds w.members (part_of (pair_of t) x) ≡ true
       → Comes old.pattern (logs w) w.members (join old.known (settled_vector w)) (part_of (pair_of t) x)
-  comes_too t x c behind held = record {
-    told = c.told;
+  comes_too t x c after held = record {
+    reported = c.reported;
     publisher = c.publisher;
     part = or_right (x == 0) (is_kept old.pattern (logs w) (pair_of t))
-        (subst (λ (z : Bool). (z || is_kept old.pattern (logs w) (pair_of t)) ≡ true) behind c.part);
+        (subst (λ (z : Bool). (z || is_kept old.pattern (logs w) (pair_of t)) ≡ true) after c.part);
     someones = held;
   }
 
   record_held : (t : Part) → Comes old.pattern (logs w) w.members (join old.known (settled_vector w)) t
       → (t.part == 0) ≡ false → mirror_holds (mirror_in_group new) (record_of t) ≡ true
-  record_held t c behind =
-      held_if (record_of t) (comes_too t 0 c behind (held_soundly w s t c.someones).with_record)
+  record_held t c after =
+      held_if (record_of t) (comes_too t 0 c after (held_soundly w s t c.someones).with_record)
       (λ other. absurd (true≢false other))
 
   parent_held : (t : Part) → Comes old.pattern (logs w) w.members (join old.known (settled_vector w)) t
       → (t.part == 0) ≡ false
       → mirror_holds (mirror_in_group new) (parent (shape_at (logs w) (pair_of t)) t) ≡ true
-  parent_held t c behind =
+  parent_held t c after =
       held_if (parent (shape_at (logs w) (pair_of t)) t)
-      (comes_too t (parent_number (shape_at (logs w) (pair_of t)) t.part) c behind (someone_lists w s t c.someones))
+      (comes_too t (parent_number (shape_at (logs w) (pair_of t)) t.part) c after (someone_lists w s t c.someones))
       (λ other.
       ap (λ (x : ℕ). mirror_holds (mirror_in_group new) (part_of (pair_of t) x))
       (parent_of_parent (length (contents_of (post_at (logs w) (pair_of t)))) t.part
       (held_soundly w s t c.someones).counted)
-      ∙ record_held t c behind)
+      ∙ record_held t c after)
 
   held_as : (t : Part) → mirror_holds (mirror_in_group new) t
       ≡ (mirror_holds (mirror_in_group old) t || comes_to w (mirror_as old) t)

@@ -9,7 +9,7 @@ use Rattle.std.proofs.lemmas.Bool.{leb-true, not-true}
 use Rattle.std.proofs.lemmas.List.{length-map, map-set}
 use Rattle.sorted_lists.specs.SortedList.{contains, Rises}
 use Rattle.sorted_lists.proofs.RunOrder.{both_ways}
-use Rattle.sorted_lists.proofs.SameSets.{not_behind, same_sets}
+use Rattle.sorted_lists.proofs.SameSets.{not_after, same_sets}
 use Rattle.sorted_lists.proofs.Sets.{contains-filter, eq_same, rises_filter}
 use Rattle.repo_plan.specs.declared.part.Part.{Part}
 use Rattle.repo_plan.specs.Parts.{part_cmp, pair_of, parent}
@@ -26,9 +26,9 @@ use Rattle.group_model.proofs.Tries.{rises_take, tried-at}
 use Rattle.repo_mirror.specs.Asked.{is_kept}
 use Rattle.repo_mirror.specs.Mirrors.{IsPartAskedFor, IsWantedByMirror, mirror_holds, mirror_plan}
 use Rattle.repo_mirror.specs.MirrorState.{MirrorState}
-use Rattle.repo_mirror.specs.TrueMirrors.{IsTrueMirror, mirror_in_group}
+use Rattle.repo_mirror.specs.ConsistentMirrors.{IsConsistentMirror, mirror_in_group}
 use Rattle.repo_member.specs.Groups.{GroupKeys}
-use Rattle.script_lines.specs.Progressing.{IsSameGroup}
+use Rattle.script_lines.specs.RunStates.{IsSameGroup}
 use Rattle.bench_world.specs.Worlds.{GroupState, world_of}
 use Rattle.bench_world.specs.MirrorFetching.{HasFetched, mirror_asks, mirror_attempt, mirror_attempts, mirror_counts}
 use Rattle.bench_world.specs.MirrorFetching.{mirror_gets, mirror_wants}
@@ -70,11 +70,11 @@ all_as (m ∷ old) (n ∷ new) f many each = λ i.
 
 -- ---- what a mirror wants
 
-module _ (g : GroupKeys) (w : World) (m : MirrorState) (truly : IsTrueMirror g (logs w) m) where
+module _ (g : GroupKeys) (w : World) (m : MirrorState) (consistent : IsConsistentMirror g (logs w) m) where
   -- A wanted part is one that there is.
   wanted_there : (t : Part) → IsWantedByMirror m.pattern (logs w) (mirror_in_group m) t → IsPublishedPart (logs w) t
   wanted_there t h =
-      let no_more = truly.vector.no_more t.publisher in
+      let no_more = consistent.vector.no_more t.publisher in
       let to_known = h.known.to_known in
       record {
         there = record { from_one = h.known.from_one; to_last = omega (arith, no_more, to_known) };
@@ -159,7 +159,7 @@ tried_at more (t ∷ ts) es u r =
       go true e rest =
           let this : u ≡ t = eq_same exact_parts u t e in
           let none : contains part_cmp ts u ≡ false =
-          ap (contains part_cmp ts) this ∙ not_behind exact_parts t ts r.0 in
+          ap (contains part_cmp ts) this ∙ not_after exact_parts t ts r.0 in
           let here : tries_of (with_tries t (more t) es) u ≡ tries_of es t + more t =
           tried-at t (more t) es u ∙ ap (λ (b : Bool). cond b (tries_of es t + more t) (tries_of es u)) e in
           rest ∙ ap (λ (b : Bool). tries_of (with_tries t (more t) es) u + cond b (more u) 0) none
@@ -173,9 +173,9 @@ tried_at more (t ∷ ts) es u r =
 -- ---- a fetch
 
 module _ (passes : ℕ → ℕ → ℕ → ℕ → ℕ → ℕ → Bool) (g : GroupKeys) (w : World) (i tries loss : ℕ) (old new : MirrorState)
-    (truly : IsTrueMirror g (logs w) old) (h : HasFetched passes w i tries loss old new) where
+    (consistent : IsConsistentMirror g (logs w) old) (h : HasFetched passes w i tries loss old new) where
   pub asked_as : asked_by w (mirror_as old) ≡ mirror_asks w old
-  asked_as = ap (take 4096) (wanted_as g w old truly h.wants)
+  asked_as = ap (take 4096) (wanted_as g w old consistent h.wants)
 
   pub gets_as : gets passes w i tries loss (mirror_as old) ≡ mirror_gets passes w i tries loss old
   gets_as = ap (filter (λ t. is_some (mirror_attempt passes w i tries loss old t))) asked_as

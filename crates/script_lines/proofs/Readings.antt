@@ -1,4 +1,4 @@
--- What a reader holds: parts of its room, and the line at the front.
+-- What a reader holds: parts of its room, and the line at the start.
 use Rattle.std.proofs.Common.{◌≡◌, ℕ, zero, suc, ◌+◌, ◌-◌, ◌<◌, ◌≤◌, false, eqb, ltb, List, [], ◌∷◌}
 use Rattle.std.proofs.Common.{◌++◌, length, take, drop, slice_range, get_or, Option, Some, None, Result, Ok, Err, IfOk}
 use Rattle.std.proofs.Common.{refl, sym, ap, ◌∙◌, append_assoc, arith, inl, inr, position}
@@ -16,21 +16,21 @@ use Rattle.script_lines.specs.Reading.{HasLine, LineIsBegun}
 
 -- ---- octets that are read
 
--- what was consumed stands behind what was held
-keeps_read : (a b : Option (List ℕ)) (front read : List ℕ) → Consumes a b read
-    → Keeps (prepend_known front a) (prepend_known (front ++ read) b)
-keeps_read None b front read p = tt
-keeps_read (Some x) None front read p = absurd p
-keeps_read (Some x) (Some y) front read p = append_assoc front read y ∙ ap (λ (t : List ℕ). front ++ t) (sym p)
+-- what was consumed stands after what was held
+keeps_read : (a b : Option (List ℕ)) (prefix read : List ℕ) → Consumes a b read
+    → Keeps (prepend_known prefix a) (prepend_known (prefix ++ read) b)
+keeps_read None b prefix read p = tt
+keeps_read (Some x) None prefix read p = absurd p
+keeps_read (Some x) (Some y) prefix read p = append_assoc prefix read y ∙ ap (λ (t : List ℕ). prefix ++ t) (sym p)
 
-pub kept_behind : {E : Type 0} (a b : Option (List ℕ)) (h : ℕ) (room front new : List ℕ) (r : Result ℕ E)
-    → length front ≡ h → take h room ≡ front
+pub kept_after : {E : Type 0} (a b : Option (List ℕ)) (h : ℕ) (room prefix new : List ℕ) (r : Result ℕ E)
+    → length prefix ≡ h → take h room ≡ prefix
     → IfOk r (λ n. Consumes a b (take n new)) → IfOk r (λ n.
-    Keeps (prepend_known (take h room) a) (prepend_known (take (h + n) (front ++ new)) b))
-kept_behind a b h room front new (Err e) len is p = tt
-kept_behind a b h room front new (Ok n) len is p =
-    let taken : take (h + n) (front ++ new) ≡ front ++ take n new = rw (← len) (take-append-add front new n) in
-    rw (is, taken) (keeps_read a b front (take n new) p)
+    Keeps (prepend_known (take h room) a) (prepend_known (take (h + n) (prefix ++ new)) b))
+kept_after a b h room prefix new (Err e) len is p = tt
+kept_after a b h room prefix new (Ok n) len is p =
+    let taken : take (h + n) (prefix ++ new) ≡ prefix ++ take n new = rw (← len) (take-append-add prefix new n) in
+    rw (is, taken) (keeps_read a b prefix (take n new) p)
 
 -- ---- the line at the front
 
@@ -46,18 +46,18 @@ found octets at e =
     let facts = position-Some (λ octet. eqb octet 10) octets at 0 e in
     let feed : get_or octets at 0 ≡ 10 = eqb-true (get_or octets at 0) 10 facts.1 in
     record {
-      front = take at octets;
+      prefix = take at octets;
       free = none_before octets at facts.2;
       is = take_more octets at 0 facts.0 ∙ ap (λ (t : ℕ). take at octets ++ t ∷ []) feed;
     }
 
 -- octets without a line feed before a line are of it
-pub whole_behind : (front line : List ℕ) → has_feed front ≡ false → IsWhole line → IsWhole (front ++ line)
-whole_behind front line free w = record {
-  front = front ++ w.front;
-  free = list_any-append (λ octet. eqb octet 10) front w.front
-      ∙ or_from (has_feed front) (has_feed w.front) free w.free;
-  is = ap (λ (t : List ℕ). front ++ t) w.is ∙ sym (append_assoc front w.front (10 ∷ []));
+pub whole_after : (prefix line : List ℕ) → has_feed prefix ≡ false → IsWhole line → IsWhole (prefix ++ line)
+whole_after prefix line free w = record {
+  prefix = prefix ++ w.prefix;
+  free = list_any-append (λ octet. eqb octet 10) prefix w.prefix
+      ∙ or_from (has_feed prefix) (has_feed w.prefix) free w.free;
+  is = ap (λ (t : List ℕ). prefix ++ t) w.is ∙ sym (append_assoc prefix w.prefix (10 ∷ []));
 }
 
 module _ (held : List ℕ) (searched : ℕ) (within : searched ≤ length held) (free : has_feed (take searched held) ≡ false)
@@ -69,7 +69,7 @@ module _ (held : List ℕ) (searched : ℕ) (within : searched ≤ length held) 
         record {
           within = omega (arith, lt, length-drop searched held);
           line = inl (rw (count, take-add searched (at + 1) held)
-              (whole_behind (take searched held) (take (at + 1) (drop searched held)) free
+              (whole_after (take searched held) (take (at + 1) (drop searched held)) free
               (found (drop searched held) at e)));
         }
 
@@ -96,9 +96,9 @@ no_line held free = elim (cases_Bool (ltb 32768 (length held))) [
 -- ---- parts of the room
 
 -- a part without its first elements
-pub part_behind : (room : List ℕ) (start end count : ℕ) → count ≤ length (slice_range room start end)
+pub part_after : (room : List ℕ) (start end count : ℕ) → count ≤ length (slice_range room start end)
     → take (end - (start + count)) (drop (start + count) room) ≡ drop count (take (end - start) (drop start room))
-part_behind room start end count le =
+part_after room start end count le =
     let short : count ≤ end - start = omega (arith, le, length-take (end - start) (drop start room)) in
     let size : count + (end - (start + count)) ≡ end - start = omega (arith, short) in
     let parts : drop count (take (count + (end - (start + count))) (drop start room))

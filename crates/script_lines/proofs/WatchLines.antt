@@ -25,34 +25,34 @@ use Rattle.bench_world.specs.Worlds.{GroupState, drawing, world_of}
 use Rattle.bench_world.proofs.Names.{names_all}
 use Rattle.script_lang.specs.declared.verb.Verb.TheVariants as verb
 use Rattle.script_lang.specs.Kinds.{Value, Text, Number, Named}
-use Rattle.script_lang.specs.Forms.{Stated, publisher_value, said}
+use Rattle.script_lang.specs.Forms.{Stated, publisher_value, statement}
 use Rattle.script_lang.specs.Checking.{Declared, are_members, has_label, labels_in, party_label}
 use Rattle.script_lang.proofs.Conditions.{and_left, and_right}
 use Rattle.script_report.specs.Texts.{watch_text}
-use Rattle.script_lines.specs.declared.progress.Progress.{Progress}
+use Rattle.script_lines.specs.declared.run_state.RunState.{RunState}
 use Rattle.script_report.specs.declared.refusal.Refusal.TheVariants as refusal
-use Rattle.script_lines.specs.declared.stop.Stop.{Stop}
-use Rattle.script_lines.specs.declared.stop.Stop.TheVariants as stop
+use Rattle.script_lines.specs.declared.error.LineError.{LineError}
+use Rattle.script_lines.specs.declared.error.LineError.TheVariants as error
 use Rattle.script_report.specs.Labels.{label_at}
-use Rattle.script_story.specs.SaidEvents.{party_number}
-use Rattle.script_story.specs.ToldTexts.{news_in, news_text}
-use Rattle.script_story.specs.Judging.{Given, State, found_world, line_taken, refused, says, told_at, told_by}
+use Rattle.script_story.specs.StatedEvents.{party_number}
+use Rattle.script_story.specs.ReportedTexts.{news_in, news_text}
+use Rattle.script_story.specs.Judging.{RunEnvironment, State, found_world, line_taken, refused, says, told_at, told_by}
 use Rattle.script_story.specs.Judging.{watched, watched_by, watchers_at, watchers_of, with_watchers}
-use Rattle.script_lines.specs.Progressing.{IsAtEvent, IsStop, IsStopWhere, LineIsChecked}
+use Rattle.script_lines.specs.RunStates.{IsAtEvent, IsLineError, IsStopWhere, LineIsChecked}
 use Rattle.script_story.proofs.Fitting.{number_within}
 use Rattle.script_story.proofs.Declarations.{IsEvent, event_after}
-use Rattle.script_lines.proofs.Progressings.{at_event}
+use Rattle.script_lines.proofs.RunStateLemmas.{at_event}
 use Rattle.script_story.proofs.HeadlineNames.{news_among, news_pairs}
 
 -- ---- what is known of the line
 
 -- The line names a member, and what is kept is there.
-pub record OfMember (p : Progress) (label : List ℕ) : Type 0 where
+pub record OfMember (p : RunState) (label : List ℕ) : Type 0 where
   pub known : has_label label p.words.members ≡ true
   pub there : party_number label p.words.members < length p.words.members
   pub at : IsAtEvent p
 
-of_member : (p : Progress) (s : Stated) (label : List ℕ) (c : LineIsChecked p s) → IsEvent c.before p.words s
+of_member : (p : RunState) (s : Stated) (label : List ℕ) (c : LineIsChecked p s) → IsEvent c.before p.words s
     → has_label label p.words.members ≡ true → OfMember p label
 of_member p s label c event known = record {
   known = known;
@@ -60,15 +60,15 @@ of_member p s label c event known = record {
   at = at_event p s c event;
 }
 
-pub told_checked : (p : Progress) (label : List ℕ) (number : ℕ)
-    → LineIsChecked p (said verb.Told (Text label ∷ Number number ∷ [])) → OfMember p label
-told_checked p label number checked =
-    let line : Stated = said verb.Told (Text label ∷ Number number ∷ []) in
+pub reported_checked : (p : RunState) (label : List ℕ) (number : ℕ)
+    → LineIsChecked p (statement verb.Told (Text label ∷ Number number ∷ [])) → OfMember p label
+reported_checked p label number checked =
+    let line : Stated = statement verb.Told (Text label ∷ Number number ∷ []) in
     let event = event_after checked.before p.words line checked.after in
     of_member p line label checked event (and_left (has_label label p.words.members) _ event.known)
 
 -- A watcher is of a publisher that is declared, or of every one.
-pub record OfWatch (p : Progress) (label : List ℕ) (publisher : Value) : Type 0 where
+pub record OfWatch (p : RunState) (label : List ℕ) (publisher : Value) : Type 0 where
   pub of : OfMember p label
   pub asked : are_members p.words (labels_in (publisher ∷ [])) ≡ true
 
@@ -78,11 +78,11 @@ publisher_known : (e : Declared) (p : Option (String Global)) (prefix : List Com
 publisher_known e None prefix known = refl
 publisher_known e (Some label) prefix known = known
 
-pub watch_checked : (p : Progress) (label : List ℕ) (publisher : Option (String Global)) (prefix : List Component)
-    → LineIsChecked p (said verb.Watch (Text label ∷ publisher_value publisher ∷ Named prefix ∷ []))
+pub watch_checked : (p : RunState) (label : List ℕ) (publisher : Option (String Global)) (prefix : List Component)
+    → LineIsChecked p (statement verb.Watch (Text label ∷ publisher_value publisher ∷ Named prefix ∷ []))
     → OfWatch p label (publisher_value publisher)
 watch_checked p label publisher prefix checked =
-    let line : Stated = said verb.Watch (Text label ∷ publisher_value publisher ∷ Named prefix ∷ []) in
+    let line : Stated = statement verb.Watch (Text label ∷ publisher_value publisher ∷ Named prefix ∷ []) in
     let event = event_after checked.before p.words line checked.after in
     record {
       of = of_member p line label checked event (and_left (has_label label p.words.members) _ event.known);
@@ -91,56 +91,57 @@ watch_checked p label publisher prefix checked =
 
 -- ---- what it comes to
 
-watch_says : (given : Given) (s : State) (d : Declared) (values : List Value)
-    → line_taken given s d (said verb.Watch values) ≡ watched_by (found_world given s) s d values
+watch_says : (env : RunEnvironment) (s : State) (d : Declared) (values : List Value)
+    → line_taken env s d (statement verb.Watch values) ≡ watched_by (found_world env s) s d values
 unfolding line_taken
-watch_says given s d values = refl
+watch_says env s d values = refl
 
-told_says : (given : Given) (s : State) (d : Declared) (values : List Value)
-    → line_taken given s d (said verb.Told values) ≡ told_by (found_world given s) s d values
+reported_says : (env : RunEnvironment) (s : State) (d : Declared) (values : List Value)
+    → line_taken env s d (statement verb.Told values) ≡ told_by (found_world env s) s d values
 unfolding line_taken
-told_says given s d values = refl
+reported_says env s d values = refl
 
-pub watch_taken : (given : Given) (s : State) (d : Declared) (line : Stated) (values : List Value)
-    → line ≡ said verb.Watch values → line_taken given s d line ≡ watched_by (found_world given s) s d values
-watch_taken given s d line values is = ap (line_taken given s d) is ∙ watch_says given s d values
+pub watch_taken : (env : RunEnvironment) (s : State) (d : Declared) (line : Stated) (values : List Value)
+    → line ≡ statement verb.Watch values → line_taken env s d line ≡ watched_by (found_world env s) s d values
+watch_taken env s d line values is = ap (line_taken env s d) is ∙ watch_says env s d values
 
-pub told_taken : (given : Given) (s : State) (d : Declared) (line : Stated) (values : List Value)
-    → line ≡ said verb.Told values → line_taken given s d line ≡ told_by (found_world given s) s d values
-told_taken given s d line values is = ap (line_taken given s d) is ∙ told_says given s d values
+pub reported_taken : (env : RunEnvironment) (s : State) (d : Declared) (line : Stated) (values : List Value)
+    → line ≡ statement verb.Told values → line_taken env s d line ≡ told_by (found_world env s) s d values
+reported_taken env s d line values is = ap (line_taken env s d) is ∙ reported_says env s d values
 
 -- A member and a pattern are the same by their names.
 pub watched_same : (w : World) (s : State) (d : Declared) (m n : ℕ) (pattern asked : Pattern) → m ≡ n
     → pattern ≡ asked → watched w s d m pattern ≡ watched w s d n asked
 watched_same w s d m n pattern asked p q = λ i. watched w s d (p i) (q i)
 
-pub told_same : (w : World) (s : State) (d : Declared) (m n number : ℕ) → m ≡ n
+pub reported_same : (w : World) (s : State) (d : Declared) (m n number : ℕ) → m ≡ n
     → told_at w s d m number ≡ told_at w s d n number
-told_same w s d m n number p = λ i. told_at w s d (p i) number
+reported_same w s d m n number p = λ i. told_at w s d (p i) number
 
 -- ---- stops
 
-pub watched_stops : (w : World) (s : State) (d : Declared) (m : ℕ) (pattern : Pattern) (stop : Stop)
-    → IsStopWhere (nat_le 16 (length (watchers_at s m))) refusal.Limit stop → IsStop (watched w s d m pattern) stop
-watched_stops w s d m pattern stop.NoMemory h = tt
-watched_stops w s d m pattern (stop.Refused why) h =
+pub watched_stops : (w : World) (s : State) (d : Declared) (m : ℕ) (pattern : Pattern) (error : LineError)
+    → IsStopWhere (nat_le 16 (length (watchers_at s m))) refusal.Limit error
+    → IsLineError (watched w s d m pattern) error
+watched_stops w s d m pattern error.NoMemory h = tt
+watched_stops w s d m pattern (error.Refused why) h =
     ap (λ (full : Bool). if full then refused refusal.Limit
     else says (watch_text (label_at (map party_label d.members) m) (length (watchers_at s m) + 1))
     (with_watchers w s d m (after_add pattern (catalogue_at w m) (watchers_at s m)))) h.0 ∙ ap refused (sym h.1)
-watched_stops w s d m pattern stop.Foreign h = absurd h
+watched_stops w s d m pattern error.Foreign h = absurd h
 
-pub told_stops : (w : World) (s : State) (d : Declared) (m number : ℕ) (stop : Stop)
-    → IsStopWhere (not (is_some (watch_of number (watchers_at s m)))) refusal.NoSuchWatch stop
-    → IsStop (told_at w s d m number) stop
-told_stops w s d m number stop.NoMemory h = tt
-told_stops w s d m number (stop.Refused why) h =
+pub reported_stops : (w : World) (s : State) (d : Declared) (m number : ℕ) (error : LineError)
+    → IsStopWhere (not (is_some (watch_of number (watchers_at s m)))) refusal.NoSuchWatch error
+    → IsLineError (told_at w s d m number) error
+reported_stops w s d m number error.NoMemory h = tt
+reported_stops w s d m number (error.Refused why) h =
     ap (λ (found : Bool). if found
     then says (news_text (map party_label d.members) m number
     (news_in (watch_of number (watchers_at s m)) (catalogue_at w m)))
     (with_watchers w s d m (after_take number (catalogue_at w m) (watchers_at s m)))
     else refused refusal.NoSuchWatch) (not-true (is_some (watch_of number (watchers_at s m))) h.0)
     ∙ ap refused (sym h.1)
-told_stops w s d m number stop.Foreign h = absurd h
+reported_stops w s d m number error.Foreign h = absurd h
 
 -- ---- the entries of the news
 
@@ -193,13 +194,13 @@ module _ (state : GroupState) (m : ℕ) (entries : List Entry)
 
   pub all_there : (o : Option Watching) (pairs : List Pair) → pairs ≡ news_of o entries
       → All (λ pair. lists pair entries ≡ true) pairs
-  all_there o pairs told = news_listed o entries pairs in_order told
+  all_there o pairs reported = news_listed o entries pairs in_order reported
 
   pub copies_are : (o : Option Watching) (copies : List Entry) (pairs : List Pair) → pairs ≡ news_of o entries
       → map Some copies ≡ map (λ pair. entry_of pair entries) pairs
       → copies ≡ news_in o (catalogue_at (world_of state) m)
-  copies_are o copies pairs told copied =
-      news_copied o entries copies pairs in_order told copied ∙ ap (news_in o) are
+  copies_are o copies pairs reported copied =
+      news_copied o entries copies pairs in_order reported copied ∙ ap (news_in o) are
 
   pub publishers_are : (n : ℕ) (o : Option Watching) (copies : List Entry)
       → length state.members ≡ length state.keys.members.names → IsSoundGroup (world_of state)

@@ -1,4 +1,4 @@
--- The octets that a reader holds, and what stands at their front.
+-- The octets that a reader holds, and what stands at their start.
 use Rattle.std.specs.Prelude.{◌≡◌, ◌<◌, ◌≤◌, ◌⊎◌, ℕ, false, List, length, take, slice_range}
 use Rattle.script_lang.specs.Limits.{line_octets}
 use Rattle.script_lines.specs.declared.line_reader.Next.{Next}
@@ -15,7 +15,7 @@ pub record LineIsBegun (held : List ℕ) : Type 0 where
   pub free : has_feed held ≡ false
   pub short : length held ≤ line_octets
 
--- So many octets at the front are a line, or all are too long for one.
+-- So many octets at the start are a line, or all are too long for one.
 pub record HasLine (count : ℕ) (held : List ℕ) : Type 0 where
   pub within : count ≤ length held
   pub line : IsWhole (take count held) ⊎ (IsTooLong held × (count ≡ length held))

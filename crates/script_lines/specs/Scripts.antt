@@ -3,17 +3,17 @@ use Rattle.std.specs.Prelude.{◌≤◌}
 use Rattle.script_lang.specs.Limits.{script_lines, script_octets}
 use Rattle.script_report.specs.Limits.{report_octets}
 use Rattle.script_lines.specs.declared.script.Script.{Script}
-use Rattle.script_lines.specs.Progressing.{IsProgress, progress_state, steps}
+use Rattle.script_lines.specs.RunStates.{IsRunState, state_of_run, steps}
 use Rattle.script_story.specs.Story.{Reached}
 
 -- What the lines so far came to.
 abbrev pub reached : Script → Reached
-reached s = record { lines = s.lines; octets = s.octets; reported = s.reported; state = progress_state s.progress }
+reached s = record { lines = s.lines; octets = s.octets; reported = s.reported; state = state_of_run s.run_state }
 
 -- What is kept is what they declare and did, each line made one step at most, and all is within the limits.
 pub record IsScript (s : Script) : Type 0 where
-  pub progress : IsProgress s.progress
-  pub steps : steps s.progress ≤ s.lines
+  pub run_state : IsRunState s.run_state
+  pub steps : steps s.run_state ≤ s.lines
   pub lines : s.lines ≤ script_lines
   pub octets : s.octets ≤ script_octets
   pub reported : s.reported ≤ report_octets

@@ -5,13 +5,13 @@
 #![tactic(auto)]
 
 mod accepting;
+mod error;
+mod event_report;
+mod line_events;
 mod line_reader;
-mod progress;
-mod said;
+mod run_state;
 mod script;
-mod stop;
-mod telling;
 
+pub use error::{LineError, put_line_error};
 pub use line_reader::{LineReader, Next};
 pub use script::Script;
-pub use stop::{Stop, put_stop};

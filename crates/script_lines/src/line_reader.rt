@@ -67,12 +67,12 @@ impl LineReader {
     }
 
     /// The first octets held.
-    pub fn front(&self, count: usize) -> &[u8]
+    pub fn prefix(&self, count: usize) -> &[u8]
         requires { count ≤ length self.now }
         ensures { result.now ≡ take count self.now }
     {
-        let (front, _) = self.held().split_at(count);
-        front
+        let (prefix, _) = self.held().split_at(count);
+        prefix
     }
 
     /// Passes over the first octets held.
@@ -104,7 +104,7 @@ impl LineReader {
         }
     }
 
-    // How many octets at the front are a line, or too long for one.
+    // How many octets at the start are a line, or too long for one.
     fn line(&mut self) -> Option<usize>
         ensures held { self.new ≡ self.old }
         ensures few { length self.new ≤ 65536 }
@@ -130,11 +130,11 @@ impl LineReader {
         ensures faults { S.faults source.old ≤ S.faults source.new }
     {
         let held = self.end - self.start;
-        move_to_front(&mut self.room, self.start, self.end);
+        move_to_start(&mut self.room, self.start, self.end);
         self.start = 0;
         self.end = held;
         self.searched = held;
-        let count = read_behind(source, &mut self.room, held)?;
+        let count = read_after(source, &mut self.room, held)?;
         self.end = held + count;
         Ok(count)
     }
@@ -160,8 +160,8 @@ fn find_feed(octets: &[u8]) -> Option<usize>
     octets.iter().position(|octet| *octet == b'\n')
 }
 
-// Moves the octets between two places to the front. The others are of no more use.
-fn move_to_front(room: &mut [u8], start: usize, end: usize)
+// Moves the octets between two places to the start. The others are of no more use.
+fn move_to_start(room: &mut [u8], start: usize, end: usize)
     requires low { start ≤ end }
     requires high { end ≤ length room.old }
     ensures { take (end - start) room.new ≡ slice_range room.old start end }
@@ -171,10 +171,10 @@ fn move_to_front(room: &mut [u8], start: usize, end: usize)
     }
 }
 
-// Reads octets behind the first so many of the room.
-fn read_behind<S: Source>(source: &mut S, room: &mut [u8], held: usize) -> Result<usize, Failed>
+// Reads octets after the first so many of the room.
+fn read_after<S: Source>(source: &mut S, room: &mut [u8], held: usize) -> Result<usize, Failed>
     requires { held < length room.old }
-    ensures front { take held room.new ≡ take held room.old }
+    ensures prefix { take held room.new ≡ take held room.old }
     ensures count { IfOk result (λ n. held + n ≤ length room.old) }
     ensures kept { IfOk result (λ n. Keeps (prepend_known (take held room.old) (S.left source.old))
         (prepend_known (take (held + n) room.new) (S.left source.new))) }

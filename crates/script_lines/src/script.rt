@@ -2,13 +2,13 @@ ghost use Rattle.std.specs.Prelude.{◌≡◌, ◌+◌, map, IfErr, IfOk, IfSome
 ghost use Rattle.std.specs.Option.{option_map};
 ghost use Rattle.bench_world.specs.Worlds.{world_of};
 ghost use Rattle.script_story.specs.Mirrors.{mirror_as};
-ghost use Rattle.script_story.specs.Judging.{given_by, says};
-ghost use Rattle.script_story.specs.Story.{reached_behind, judged_next, nothing_reached};
-ghost use Rattle.script_lines.specs.Progressing.{IsStop};
+ghost use Rattle.script_story.specs.Judging.{env_by, says};
+ghost use Rattle.script_story.specs.Story.{reached_after, judged_next, nothing_reached};
+ghost use Rattle.script_lines.specs.RunStates.{IsLineError};
 ghost use Rattle.script_lines.specs.Scripts.{IsScript, reached};
 
-use crate::progress::Progress;
-use crate::stop::Stop;
+use crate::error::LineError;
+use crate::run_state::RunState;
 use bench_net::{Draws, Net};
 use bench_world::World;
 use script_lang::{LINES_LIMIT, SCRIPT_LIMIT};
@@ -17,10 +17,10 @@ use std::alloc::Global;
 use std::thread::Threads;
 
 /// A script whose lines are carried out one by one. Contracts see it as what these came to (`reached`): a view would
-/// have to be without functions, and the mirrors of a story have one.
+/// must be without functions, and the mirrors of a story have one.
 #[derive(Drop)]
 pub struct Script {
-    progress: Progress,
+    run_state: RunState,
     // How many lines were carried out, how many octets they have, and how many their reports.
     lines: u32,
     octets: usize,
@@ -34,7 +34,7 @@ impl Script {
         ensures is { IsScript result }
     {
         Script {
-            progress: Progress::new(alloc),
+            run_state: RunState::new(alloc),
             lines: 0,
             octets: 0,
             reported: 0,
@@ -58,23 +58,23 @@ impl Script {
         report: &mut Vec<u8>,
         net: &N,
         draws: &D,
-    ) -> Result<Script, Stop>
+    ) -> Result<Script, LineError>
         requires { IsScript self }
-        ensures taken { IfOk result (λ next. judged_next (given_by (D.draw draws.now) (N.passes net.now))
+        ensures taken { IfOk result (λ next. judged_next (env_by (D.draw draws.now) (N.passes net.now))
             (reached self) line.now ≡ says report.new.items (reached next).state) }
         ensures reached { IfOk result (λ next. reached next
-            ≡ reached_behind (reached self) line.now report.new.items (reached next).state) }
+            ≡ reached_after (reached self) line.now report.new.items (reached next).state) }
         ensures is { IfOk result IsScript }
         ensures stopped { IfErr result
-            (IsStop (judged_next (given_by (D.draw draws.now) (N.passes net.now)) (reached self) line.now)) }
+            (IsLineError (judged_next (env_by (D.draw draws.now) (N.passes net.now)) (reached self) line.now)) }
     {
         if self.lines >= LINES_LIMIT || line.len() > SCRIPT_LIMIT - self.octets {
-            return Err(Stop::Refused(Refusal::Limit));
+            return Err(LineError::Refused(Refusal::Limit));
         }
         report.clear();
-        self.progress.take(rt, line, report, net, draws)?;
+        self.run_state.take(rt, line, report, net, draws)?;
         if report.len() > REPORT_LIMIT - self.reported {
-            return Err(Stop::Refused(Refusal::TooLarge));
+            return Err(LineError::Refused(Refusal::TooLarge));
         }
         self.lines += 1;
         self.octets += line.len();
@@ -88,7 +88,7 @@ impl Script {
         ensures keys { IfSome result (λ world. world.now.keys ≡ (reached self.now).state.keys) }
         ensures mirrors { IfSome result (λ world. map mirror_as world.now.mirrors ≡ (reached self.now).state.mirrors) }
     {
-        self.progress.world()
+        self.run_state.world()
     }
 
     /// The same, where no line follows.
@@ -97,6 +97,6 @@ impl Script {
         ensures keys { IfSome result (λ world. world.keys ≡ (reached self).state.keys) }
         ensures mirrors { IfSome result (λ world. map mirror_as world.mirrors ≡ (reached self).state.mirrors) }
     {
-        self.progress.into_world()
+        self.run_state.into_world()
     }
 }

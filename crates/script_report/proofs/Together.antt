@@ -5,16 +5,16 @@ use Rattle.std.proofs.lemmas.Bool.{cases_lt}
 use Rattle.std.proofs.lemmas.List.{drop_more, drop_all}
 use Rattle.std.specs.Fmt.{decimal}
 use Rattle.repo_catalog.specs.declared.entry.Entry.{Entry}
-use Rattle.script_report.specs.Pieces.{KeepsFront}
-use Rattle.script_report.specs.Texts.{behind_spaces, labelled_numbers, entry_text, entries_text, totals_text}
+use Rattle.script_report.specs.Pieces.{KeepsPrefix}
+use Rattle.script_report.specs.Texts.{after_spaces, labelled_numbers, entry_text, entries_text, totals_text}
 use Rattle.script_report.specs.Texts.{summary_text}
-use Rattle.script_report.proofs.Fronts.{keeps_same, keeps_then}
+use Rattle.script_report.proofs.Prefixes.{keeps_same, keeps_then}
 
 -- what is written of the first places of both lists is written, and what was there stands in front
 pub record Writes {A B : Type 0} (F : List A → List B → List ℕ) (xs : List A) (ys : List B) (n : ℕ)
     (old new : List ℕ) : Type 0 where
   pub written : new ++ F (drop n xs) (drop n ys) ≡ old ++ F xs ys
-  pub kept : KeepsFront old new
+  pub kept : KeepsPrefix old new
 
 -- a text of both lists is that of their first places, and of the others
 pub record IsText {A B : Type 0} (F : List A → List B → List ℕ) (f : A → B → List ℕ) : Type 0 where
@@ -36,17 +36,17 @@ together_more F f text xs ys n x y lt lu p q =
     ∙ text.both x (drop (n + 1) xs) y (drop (n + 1) ys)
 
 -- one more piece of what is still to be written was written
-pub one_more : (whole mid new piece here behind : List ℕ) → mid ++ here ≡ whole → here ≡ piece ++ behind
-    → new ≡ mid ++ piece → new ++ behind ≡ whole
-one_more whole mid new piece here behind w h more =
-    ap (λ s. s ++ behind) more ∙ append_assoc mid piece behind ∙ ap (λ s. mid ++ s) (sym h) ∙ w
+pub one_more : (whole mid new piece here after : List ℕ) → mid ++ here ≡ whole → here ≡ piece ++ after
+    → new ≡ mid ++ piece → new ++ after ≡ whole
+one_more whole mid new piece here after w h more =
+    ap (λ s. s ++ after) more ∙ append_assoc mid piece after ∙ ap (λ s. mid ++ s) (sym h) ∙ w
 
 pub writes_more : {A B : Type 0} (F : List A → List B → List ℕ) (f : A → B → List ℕ) → IsText F f
     → (xs : List A) (ys : List B) (n m : ℕ) (x : A) (y : B)
     (old mid new : List ℕ) → n < length xs → n < length ys
     → x ≡ get_or xs n x → y ≡ get_or ys n y → m ≡ n + 1 → Writes F xs ys n old mid → new ≡ mid ++ f x
     y
-    → KeepsFront mid new → Writes F xs ys m old new
+    → KeepsPrefix mid new → Writes F xs ys m old new
 writes_more F f text xs ys n m x y old mid new lt lu p q next w more kept = rw next (record {
   written =
       one_more (old ++ F xs ys) mid new (f x y) (F (drop n xs) (drop n ys))
@@ -54,7 +54,7 @@ writes_more F f text xs ys n m x y old mid new lt lu p q next w more kept = rw n
   kept = keeps_then old mid new w.kept kept;
 })
 
--- behind the last place of one there is nothing
+-- after the last place of one there is nothing
 nothing_left : {A B : Type 0} (F : List A → List B → List ℕ) (f : A → B → List ℕ) → IsText F f
     → (xs : List A) (ys : List B) (n : ℕ) → n ≡ min (length xs) (length ys) → F (drop n xs) (drop n ys) ≡ []
 nothing_left F f text xs ys n h = elim (cases_lt (length ys) (length xs)) [
@@ -74,7 +74,7 @@ writes_all F f text xs ys n old new all w =
 -- ---- the words of counts, and the lines of entries
 
 abbrev pub counts : List (String Global) → List ℕ → List ℕ
-counts labels numbers = behind_spaces (labelled_numbers (map string_bytes labels) numbers)
+counts labels numbers = after_spaces (labelled_numbers (map string_bytes labels) numbers)
 
 abbrev pub count : String Global → ℕ → List ℕ
 count label n = 32 ∷ (string_bytes label ++ (61 ∷ []) ++ decimal n)

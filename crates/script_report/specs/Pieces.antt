@@ -10,14 +10,14 @@ use Rattle.script_report.specs.declared.piece.Piece.{Piece}
 use Rattle.script_report.specs.declared.piece.Piece.TheVariants.{Word, Number, Hex, Uri, Field, Counts}
 use Rattle.script_report.specs.Texts.{field, labelled_numbers}
 
--- The text stands behind what was there; or, where memory ran out, nothing changed.
+-- The text stands after what was there; or, where memory ran out, nothing changed.
 abbrev pub Appends : List ℕ → List ℕ → List ℕ → Result (Unit {0}) AllocError → Type 0
 Appends text old new (Ok x) = new ≡ old ++ text
 Appends text old new (Err e) = new ≡ old
 
 -- What was there stands in front still.
-pub record KeepsFront (old new : List ℕ) : Type 0 where
-  pub front : take (length old) new ≡ old
+pub record KeepsPrefix (old new : List ℕ) : Type 0 where
+  pub prefix : take (length old) new ≡ old
 
 -- The words of a piece.
 abbrev pub words_of : Piece → List (List ℕ)

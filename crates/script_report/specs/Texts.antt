@@ -8,13 +8,13 @@ use Rattle.repo_catalog.specs.declared.entry.Entry.{Entry}
 
 -- ---- a line
 
--- Words, each behind a space.
-abbrev pub behind_spaces : List (List ℕ) → List ℕ
-behind_spaces words = flat_map (λ word. 32 ∷ word) words
+-- Words, each after a space.
+abbrev pub after_spaces : List (List ℕ) → List ℕ
+after_spaces words = flat_map (λ word. 32 ∷ word) words
 
 -- A line is its first word, the others, and a line feed.
 unfoldable pub line : List ℕ → List (List ℕ) → List ℕ
-line first words = first ++ (behind_spaces words ++ 10 ∷ [])
+line first words = first ++ (after_spaces words ++ 10 ∷ [])
 
 -- ---- events
 
@@ -168,7 +168,7 @@ catalogue_text m count labels entries =
 abbrev pub watch_text : List ℕ → ℕ → List ℕ
 watch_text m w = line (codes "watch") (m ∷ decimal w ∷ [])
 
--- What a watcher is told: how many entries, and these.
+-- What a watcher is given: how many entries, and these.
 abbrev pub told_text : List ℕ → ℕ → ℕ → List (List ℕ) → List Entry → List ℕ
 told_text m w count labels entries =
     line (codes "told") (m ∷ decimal w ∷ decimal count ∷ []) ++ entries_text labels entries

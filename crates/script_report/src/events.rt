@@ -77,7 +77,7 @@ pub fn put_sync(out: &mut Vec<u8>, k: u64, octets: &[u8]) -> Result<(), AllocErr
     put_line(out, "sync", &[Number(k), Hex(octets)])
 }
 
-/// The moment in milliseconds.
+/// The time in milliseconds.
 pub fn put_advance(out: &mut Vec<u8>, now: u64) -> Result<(), AllocError>
     ensures { Appends (advance_text now) out.old.items out.new.items result }
 {

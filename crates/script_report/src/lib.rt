@@ -12,11 +12,11 @@ mod labels;
 mod laws;
 mod line;
 mod mirrors;
+mod packet_lines;
 mod parts;
 mod piece;
 mod readings;
 mod refusal;
-mod telling;
 mod watchers;
 
 pub use commands::{
@@ -37,14 +37,14 @@ pub use journal::{
 pub use labels::{label, publisher_labels};
 pub use laws::limits_are_these;
 pub use mirrors::{put_mcatalogue, put_mdeliver, put_mfetch};
+pub use packet_lines::{
+    put_ask_found, put_ask_none, put_ask_refused, put_dump_hex, put_dump_none, put_hear_refused,
+    put_hear_steady, put_hear_suppressed,
+};
 pub use parts::{
     put_answer_kept, put_answer_none, put_claim_none, put_claim_part, put_feed_kept,
     put_feed_refused, put_fetch, put_lose, put_settle,
 };
 pub use readings::{put_catalogue, put_summary, put_traffic, put_vector};
 pub use refusal::Refusal;
-pub use telling::{
-    put_ask_found, put_ask_none, put_ask_refused, put_dump_hex, put_dump_none, put_hear_refused,
-    put_hear_steady, put_hear_suppressed,
-};
 pub use watchers::{put_told, put_watch};

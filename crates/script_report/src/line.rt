@@ -1,6 +1,6 @@
 ghost use Rattle.std.specs.Prelude.{◌≡◌, ◌++◌, take, OnOk, MatchResult};
 ghost use Rattle.script_report.specs.Texts.{line};
-ghost use Rattle.script_report.specs.Pieces.{Appends, KeepsFront, words_in};
+ghost use Rattle.script_report.specs.Pieces.{Appends, KeepsPrefix, words_in};
 
 use crate::piece::{Piece, put_pieces};
 use std::alloc::AllocError;
@@ -26,14 +26,14 @@ pub(crate) fn write_line(
     pieces: &[Piece<'_>],
 ) -> Result<(), AllocError>
     ensures ok { OnOk result (out.new.items ≡ out.old.items ++ line first.now (words_in pieces.now)) }
-    ensures kept { KeepsFront out.old.items out.new.items }
+    ensures kept { KeepsPrefix out.old.items out.new.items }
 {
     out.extend_from_slice(first.as_bytes())?;
     put_pieces(out, pieces)?;
     out.extend_from_slice(b"\n")
 }
 
-// Takes away what was written behind so many octets, where memory ran out.
+// Takes away what was written after so many octets, where memory ran out.
 pub(crate) fn all_or_nothing(
     out: &mut Vec<u8>,
     before: usize,

@@ -2,14 +2,14 @@ ghost use Rattle.std.specs.Prelude.{◌≡◌, ◌∷◌, ◌++◌, codes, map, 
 ghost use Rattle.std.specs.Fmt.{decimal};
 ghost use Rattle.hex.specs.Hex.{encode_lower};
 ghost use Rattle.ndn_name.specs.Uri.{uri};
-ghost use Rattle.script_report.specs.Texts.{field, labelled_numbers, behind_spaces};
-ghost use Rattle.script_report.specs.Pieces.{KeepsFront, words_in, words_of};
+ghost use Rattle.script_report.specs.Texts.{field, labelled_numbers, after_spaces};
+ghost use Rattle.script_report.specs.Pieces.{KeepsPrefix, words_in, words_of};
 
 use itoa::Buffer;
 use ndn_name::Name;
 use std::alloc::AllocError;
 
-// What a line says behind its first word.
+// What a line says after its first word.
 #[derive(Clone, Copy, Debug)]
 pub(crate) enum Piece<'a> {
     Word(&'a str),
@@ -23,12 +23,12 @@ pub(crate) enum Piece<'a> {
     Counts(&'a [String], &'a [u64]),
 }
 
-// Each call appends words, each behind a space. Where memory ran out, what was there stands in front
+// Each call appends words, each after a space. Where memory ran out, what was there stands in front
 // still.
 
 pub(crate) fn put_pieces(out: &mut Vec<u8>, pieces: &[Piece<'_>]) -> Result<(), AllocError>
-    ensures ok { OnOk result (out.new.items ≡ out.old.items ++ behind_spaces (words_in pieces.now)) }
-    ensures kept { KeepsFront out.old.items out.new.items }
+    ensures ok { OnOk result (out.new.items ≡ out.old.items ++ after_spaces (words_in pieces.now)) }
+    ensures kept { KeepsPrefix out.old.items out.new.items }
 {
     for piece in pieces {
         put_piece(out, piece)?;
@@ -37,8 +37,8 @@ pub(crate) fn put_pieces(out: &mut Vec<u8>, pieces: &[Piece<'_>]) -> Result<(), 
 }
 
 fn put_piece(out: &mut Vec<u8>, piece: &Piece<'_>) -> Result<(), AllocError>
-    ensures ok { OnOk result (out.new.items ≡ out.old.items ++ behind_spaces (words_of piece.now)) }
-    ensures kept { KeepsFront out.old.items out.new.items }
+    ensures ok { OnOk result (out.new.items ≡ out.old.items ++ after_spaces (words_of piece.now)) }
+    ensures kept { KeepsPrefix out.old.items out.new.items }
 {
     match piece {
         Piece::Word(word) => put_word(out, word.as_bytes()),
@@ -52,7 +52,7 @@ fn put_piece(out: &mut Vec<u8>, piece: &Piece<'_>) -> Result<(), AllocError>
 
 fn put_word(out: &mut Vec<u8>, word: &[u8]) -> Result<(), AllocError>
     ensures ok { OnOk result (out.new.items ≡ out.old.items ++ (32 ∷ word.now)) }
-    ensures kept { KeepsFront out.old.items out.new.items }
+    ensures kept { KeepsPrefix out.old.items out.new.items }
 {
     out.push(b' ')?;
     out.extend_from_slice(word)
@@ -60,7 +60,7 @@ fn put_word(out: &mut Vec<u8>, word: &[u8]) -> Result<(), AllocError>
 
 fn put_hex(out: &mut Vec<u8>, octets: &[u8]) -> Result<(), AllocError>
     ensures ok { OnOk result (out.new.items ≡ out.old.items ++ (32 ∷ encode_lower octets.now)) }
-    ensures kept { KeepsFront out.old.items out.new.items }
+    ensures kept { KeepsPrefix out.old.items out.new.items }
 {
     out.push(b' ')?;
     let before = out.len();
@@ -72,18 +72,18 @@ fn put_hex(out: &mut Vec<u8>, octets: &[u8]) -> Result<(), AllocError>
     Ok(())
 }
 
-#[tactic(auto, using(crate::proofs::Fronts::keeps_more, crate::proofs::Fronts::keeps_same))]
+#[tactic(auto, using(crate::proofs::Prefixes::keeps_more, crate::proofs::Prefixes::keeps_same))]
 fn put_uri(out: &mut Vec<u8>, name: &Name) -> Result<(), AllocError>
     ensures ok { OnOk result (out.new.items ≡ out.old.items ++ (32 ∷ uri name.now)) }
-    ensures kept { KeepsFront out.old.items out.new.items }
+    ensures kept { KeepsPrefix out.old.items out.new.items }
 {
     out.push(b' ')?;
     name.view().put_uri(out)
 }
 
 fn put_field(out: &mut Vec<u8>, word: &str, number: Option<u64>) -> Result<(), AllocError>
-    ensures ok { OnOk result (out.new.items ≡ out.old.items ++ behind_spaces (field word.now number)) }
-    ensures kept { KeepsFront out.old.items out.new.items }
+    ensures ok { OnOk result (out.new.items ≡ out.old.items ++ after_spaces (field word.now number)) }
+    ensures kept { KeepsPrefix out.old.items out.new.items }
 {
     let Some(number) = number else {
         return Ok(());
@@ -94,8 +94,8 @@ fn put_field(out: &mut Vec<u8>, word: &str, number: Option<u64>) -> Result<(), A
 
 fn put_counts(out: &mut Vec<u8>, labels: &[String], numbers: &[u64]) -> Result<(), AllocError>
     ensures ok { OnOk result (out.new.items ≡ out.old.items
-        ++ behind_spaces (labelled_numbers (map string_bytes labels.now) numbers.now)) }
-    ensures kept { KeepsFront out.old.items out.new.items }
+        ++ after_spaces (labelled_numbers (map string_bytes labels.now) numbers.now)) }
+    ensures kept { KeepsPrefix out.old.items out.new.items }
 {
     for (label, number) in labels.iter().zip(numbers) {
         put_count(out, label, *number)?;
@@ -103,11 +103,11 @@ fn put_counts(out: &mut Vec<u8>, labels: &[String], numbers: &[u64]) -> Result<(
     Ok(())
 }
 
-#[tactic(auto, using(crate::proofs::Fronts::keeps_more, crate::proofs::Fronts::keeps_then))]
+#[tactic(auto, using(crate::proofs::Prefixes::keeps_more, crate::proofs::Prefixes::keeps_then))]
 fn put_count(out: &mut Vec<u8>, label: &str, number: u64) -> Result<(), AllocError>
     ensures ok { OnOk result (out.new.items
         ≡ out.old.items ++ (32 ∷ label.now ++ codes "=" ++ decimal number)) }
-    ensures kept { KeepsFront out.old.items out.new.items }
+    ensures kept { KeepsPrefix out.old.items out.new.items }
 {
     put_word(out, label.as_bytes())?;
     out.push(b'=')?;

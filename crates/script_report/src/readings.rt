@@ -1,7 +1,7 @@
 ghost use Rattle.std.specs.Prelude.{◌≡◌, ◌++◌, map, length, string_bytes, OnOk};
 ghost use Rattle.script_report.specs.Texts.{catalogue_text, entries_text, entry_text, line, summary_text, totals_text};
 ghost use Rattle.script_report.specs.Texts.{traffic_text, vector_text};
-ghost use Rattle.script_report.specs.Pieces.{Appends, KeepsFront, words_in};
+ghost use Rattle.script_report.specs.Pieces.{Appends, KeepsPrefix, words_in};
 
 use crate::line::{all_or_nothing, put_line, write_line};
 use crate::piece::Piece;
@@ -63,7 +63,7 @@ fn write_listing(
 ) -> Result<(), AllocError>
     ensures ok { OnOk result (out.new.items ≡ out.old.items
         ++ (line first.now (words_in pieces.now) ++ entries_text (map string_bytes labels.now) entries.now)) }
-    ensures kept { KeepsFront out.old.items out.new.items }
+    ensures kept { KeepsPrefix out.old.items out.new.items }
 {
     write_line(out, first, pieces)?;
     write_entries(out, labels, entries)
@@ -72,7 +72,7 @@ fn write_listing(
 fn write_entries(out: &mut Vec<u8>, labels: &[String], entries: &[Entry]) -> Result<(), AllocError>
     ensures ok { OnOk result (out.new.items ≡ out.old.items
         ++ entries_text (map string_bytes labels.now) entries.now) }
-    ensures kept { KeepsFront out.old.items out.new.items }
+    ensures kept { KeepsPrefix out.old.items out.new.items }
 {
     for (label, entry) in labels.iter().zip(entries) {
         write_entry(out, label, entry)?;
@@ -82,7 +82,7 @@ fn write_entries(out: &mut Vec<u8>, labels: &[String], entries: &[Entry]) -> Res
 
 fn write_entry<'a>(out: &mut Vec<u8>, label: &'a str, entry: &'a Entry) -> Result<(), AllocError>
     ensures ok { OnOk result (out.new.items ≡ out.old.items ++ entry_text label.now entry.now) }
-    ensures kept { KeepsFront out.old.items out.new.items }
+    ensures kept { KeepsPrefix out.old.items out.new.items }
 {
     write_line(
         out,
@@ -132,7 +132,7 @@ fn write_summary(
     requires octets { length labels.now ≡ length octets.now }
     ensures ok { OnOk result (out.new.items ≡ out.old.items
         ++ summary_text (map string_bytes labels.now) entries.now segments.now octets.now) }
-    ensures kept { KeepsFront out.old.items out.new.items }
+    ensures kept { KeepsPrefix out.old.items out.new.items }
 {
     for (i, label) in labels.iter().enumerate() {
         write_totals(out, label, entries[i], segments[i], octets[i])?;
@@ -148,7 +148,7 @@ fn write_totals(
     octets: u64,
 ) -> Result<(), AllocError>
     ensures ok { OnOk result (out.new.items ≡ out.old.items ++ totals_text member.now entries segments octets) }
-    ensures kept { KeepsFront out.old.items out.new.items }
+    ensures kept { KeepsPrefix out.old.items out.new.items }
 {
     write_line(
         out,

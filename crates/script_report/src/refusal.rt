@@ -25,7 +25,7 @@ pub enum Refusal {
     NoGroup,
     /// A total would be passed.
     TooLarge,
-    /// A declaration behind an event or, in the input of a live group, a member behind a publication.
+    /// A declaration after an event or, in the input of a live group, a member after a publication.
     Late,
     /// The octets of an inspection are no elements.
     BadPacket,

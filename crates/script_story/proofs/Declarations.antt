@@ -11,7 +11,7 @@ use Rattle.script_lang.specs.declared.verb.Verb.{Verb}
 use Rattle.script_lang.specs.declared.verb.Verb.TheVariants as verb
 use Rattle.script_lang.specs.declared.check_fault.CheckFault.TheVariants as check_fault
 use Rattle.script_lang.specs.Kinds.{Value, Text, Named, Octets}
-use Rattle.script_lang.specs.Forms.{Stated, said}
+use Rattle.script_lang.specs.Forms.{Stated, statement}
 use Rattle.script_lang.specs.Checking.{Declared, LineTotals, Party, after_line, after_event, are_known, are_known_by}
 use Rattle.script_lang.specs.Checking.{are_clients, are_those, are_within_limits, has_label, labels_in, party_node}
 use Rattle.script_lang.specs.Checking.{with_totals, adds, declared_then, is_party_among, is_there}
@@ -45,19 +45,19 @@ may d p count after e h = go d.group d.events (is_there d p) (nat_le 16 count) r
       (record { group = g; early = v; apart = t; few = grind (arith, nat_tests, f) }, cc)
 
 pub member_declares : (d e : Declared) (label : List ℕ) (node : List Component) (key : List ℕ)
-    → after_line d (said verb.Member (Text label ∷ Named node ∷ Octets key ∷ [])) ≡ Ok e
+    → after_line d (statement verb.Member (Text label ∷ Named node ∷ Octets key ∷ [])) ≡ Ok e
     → MayDeclare d (party label node) (length d.members)
     × (record d { members = d.members ++ party label node ∷ [] } ≡ e)
 member_declares d e label node key h = may d (party label node) (length d.members) _ e h
 
 pub client_declares : (d e : Declared) (label : List ℕ) (node : List Component) (key : List ℕ)
-    → after_line d (said verb.Client (Text label ∷ Named node ∷ Octets key ∷ [])) ≡ Ok e
+    → after_line d (statement verb.Client (Text label ∷ Named node ∷ Octets key ∷ [])) ≡ Ok e
     → MayDeclare d (party label node) (length d.clients)
     × (record d { clients = d.clients ++ party label node ∷ [] } ≡ e)
 client_declares d e label node key h = may d (party label node) (length d.clients) _ e h
 
 pub group_declares : (d e : Declared) (name : List Component)
-    → after_line d (said verb.Group (Named name ∷ [])) ≡ Ok e
+    → after_line d (statement verb.Group (Named name ∷ [])) ≡ Ok e
     → (d.group ≡ false) × (record d { group = true } ≡ e)
 group_declares d e name h = go d.group refl h where
   go : (group : Bool) → d.group ≡ group
@@ -74,7 +74,7 @@ pub record MayMirror (d : Declared) (publishers : List (List ℕ)) : Type 0 wher
   pub few : length d.mirrors < 4
 
 pub mirror_declares : (d e : Declared) (label : List ℕ) (publisher : Value) (prefix : List Component)
-    → after_line d (said verb.Mirror (Text label ∷ publisher ∷ Named prefix ∷ [])) ≡ Ok e
+    → after_line d (statement verb.Mirror (Text label ∷ publisher ∷ Named prefix ∷ [])) ≡ Ok e
     → MayMirror d (labels_in (publisher ∷ [])) × (record d { mirrors = d.mirrors ++ label ∷ [] } ≡ e)
 mirror_declares d e label publisher prefix h =
     go d.group d.events (are_members d publishers) (is_label_there d label) (nat_le 4 (length d.mirrors))

@@ -21,7 +21,7 @@ use Rattle.script_lang.specs.declared.check_fault.CheckFault.TheVariants as chec
 use Rattle.script_lang.specs.declared.verb.Verb.{Verb}
 use Rattle.script_lang.specs.declared.verb.Verb.TheVariants as verb
 use Rattle.script_lang.specs.Kinds.{Kind, Value, Text, Number, Named, Octets}
-use Rattle.script_lang.specs.Forms.{Stated, form, said}
+use Rattle.script_lang.specs.Forms.{Stated, form, statement}
 use Rattle.script_lang.specs.Lines.{are_within, line_of}
 use Rattle.script_lang.specs.Checking.{Declared, Party, has_label, labels_in, are_known, are_known_by, party_place}
 use Rattle.script_lang.specs.Checking.{is_mirror, mirror_place}
@@ -34,7 +34,7 @@ use Rattle.repo_member.specs.Groups.{IsPlainNodeName, IsKey}
 use Rattle.repo_member.proofs.PublicLaws.{above_digests, object_name}
 use Rattle.bench_world.specs.EventValues.{EventValue}
 use Rattle.bench_world.specs.Steps.{IsReady, NamesClient}
-use Rattle.script_story.specs.SaidEvents.{mirror_number, party_number, said_by, said_event}
+use Rattle.script_story.specs.StatedEvents.{mirror_number, party_number, stated_by, stated_event}
 use Rattle.script_story.proofs.ReadNames.{read_name_valid}
 
 -- ---- places
@@ -105,7 +105,7 @@ client_within d e same label known = number_within label d.clients e.clients sam
 abbrev FormFits : Verb → Type 0
 FormFits form_verb = (d e : Declared) (values : List Value) → SameParties d e → AreOf (form form_verb).kinds values
     → are_within form_verb values ≡ true → are_known_by form_verb d (labels_in values) ≡ true
-    → IfSome (said_by form_verb e values) (Fits e)
+    → IfSome (stated_by form_verb e values) (Fits e)
 
 publish_fits : FormFits verb.Publish
 publish_fits d e (Text m ∷ Named name ∷ Number size ∷ Octets content ∷ []) same of within known = (
@@ -317,7 +317,7 @@ taken d e s h = go
           }
 
 event_taken : (form_verb : Verb) (d e : Declared) (s : Stated) (values : List Value) (v : EventValue)
-    → after_by d s form_verb values ≡ Ok e → said_by form_verb e values ≡ Some v → IsKnown d e s
+    → after_by d s form_verb values ≡ Ok e → stated_by form_verb e values ≡ Some v → IsKnown d e s
 event_taken verb.Group d e s values v after says = cc
 event_taken verb.Member d e s values v after says = cc
 event_taken verb.Client d e s values v after says = cc
@@ -329,12 +329,12 @@ fits_some d o v is h = let P : Option EventValue → Type 0 = λ x. IfSome x (Fi
 
 -- An event that a line states, which is taken, can be carried out.
 pub event_fits : (octets : List ℕ) (d e : Declared) (s : Stated) (v : EventValue) → line_of octets ≡ Ok (Some s)
-    → after_line d s ≡ Ok e → said_event e s ≡ Some v
+    → after_line d s ≡ Ok e → stated_event e s ≡ Some v
     → IsReady (length e.members) v × NamesClient (length e.clients) v
 event_fits octets d e s v read after says =
     let text : IsLineText s octets = (line_texts s octets).0 read in
     let k = event_taken s.verb d e s s.values v after says in
-    fits_some e (said_event e s) v says (form_fits s.verb d e s.values k.same text.ranges text.within k.known)
+    fits_some e (stated_event e s) v says (form_fits s.verb d e s.values k.same text.ranges text.within k.known)
 
 -- ---- what is declared
 
@@ -366,37 +366,37 @@ key_fits key h = record { some = h.0; short = h.1 }
 
 -- The name of a group line is one of a group.
 pub group_fits : (octets : List ℕ) (name : List Component)
-    → line_of octets ≡ Ok (Some (said verb.Group (Named name ∷ []))) → IsPlainNodeName name
+    → line_of octets ≡ Ok (Some (statement verb.Group (Named name ∷ []))) → IsPlainNodeName name
 group_fits octets name read =
-    let text = (line_texts (said verb.Group (Named name ∷ [])) octets).0 read in
+    let text = (line_texts (statement verb.Group (Named name ∷ [])) octets).0 read in
     let words = written (form verb.Group).kinds (Named name ∷ []) text.words text.texts in
     node_name name words.0.0 text.ranges.0 words.0.1
 
 -- The name and the key of a member line are those of a member.
 pub member_fits : (octets label : List ℕ) (name : List Component) (key : List ℕ)
-    → line_of octets ≡ Ok (Some (said verb.Member (Text label ∷ Named name ∷ Octets key ∷ [])))
+    → line_of octets ≡ Ok (Some (statement verb.Member (Text label ∷ Named name ∷ Octets key ∷ [])))
     → IsPlainNodeName name × IsKey key
 member_fits octets label name key read =
     let values : List Value = Text label ∷ Named name ∷ Octets key ∷ [] in
-    let text = (line_texts (said verb.Member values) octets).0 read in
+    let text = (line_texts (statement verb.Member values) octets).0 read in
     let words = written (form verb.Member).kinds values text.words text.texts in
     (node_name name words.1.0.0 text.ranges.1.0 words.1.0.1, key_fits key text.ranges.1.1.0)
 
 -- The name and the key of a client line are those of a client.
 pub client_fits : (octets label : List ℕ) (name : List Component) (key : List ℕ)
-    → line_of octets ≡ Ok (Some (said verb.Client (Text label ∷ Named name ∷ Octets key ∷ [])))
+    → line_of octets ≡ Ok (Some (statement verb.Client (Text label ∷ Named name ∷ Octets key ∷ [])))
     → IsPlainNodeName name × IsKey key
 client_fits octets label name key read =
     let values : List Value = Text label ∷ Named name ∷ Octets key ∷ [] in
-    let text = (line_texts (said verb.Client values) octets).0 read in
+    let text = (line_texts (statement verb.Client values) octets).0 read in
     let words = written (form verb.Client).kinds values text.words text.texts in
     (node_name name words.1.0.0 text.ranges.1.0 words.1.0.1, key_fits key text.ranges.1.1.0)
 
 -- So many fetch for a mirror, and so often at most.
 pub mirror_fits : (octets label : List ℕ) (workers tries loss : ℕ)
-    → line_of octets ≡ Ok (Some (said verb.Mfetch (Text label ∷ Number workers ∷ Number tries ∷ Number loss ∷ [])))
+    → line_of octets ≡ Ok (Some (statement verb.Mfetch (Text label ∷ Number workers ∷ Number tries ∷ Number loss ∷ [])))
     → ((1 ≤ workers) × (workers ≤ 16)) × ((1 ≤ tries) × (tries ≤ 16))
 mirror_fits octets label workers tries loss read =
     let values : List Value = Text label ∷ Number workers ∷ Number tries ∷ Number loss ∷ [] in
-    let text = (line_texts (said verb.Mfetch values) octets).0 read in
+    let text = (line_texts (statement verb.Mfetch values) octets).0 read in
     ((text.ranges.1.0.0, text.ranges.1.0.1), (text.ranges.1.1.0.0, text.ranges.1.1.0.1))

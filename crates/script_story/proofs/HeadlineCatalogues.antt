@@ -12,7 +12,7 @@ use Rattle.repo_catalog.specs.declared.entry.Entry.{Entry}
 use Rattle.repo_catalog.specs.Entries.{lists, publication_of}
 use Rattle.group_model.specs.Publications.{Logs, Publication, published, published_entry}
 use Rattle.group_model.specs.Member.{Member, catalogue, catalogued, is_listed, member_hides}
-use Rattle.group_model.specs.World.{Outside, World, catalogue_at, logs, member}
+use Rattle.group_model.specs.World.{Environment, World, catalogue_at, logs, member}
 use Rattle.group_model.specs.Sound.{IsPublished, IsSoundGroup, IsSoundMember}
 use Rattle.group_model.specs.Catalogues.{BelongsInCatalogue, ListsRightly}
 use Rattle.group_model.proofs.Lists.{from_filter, in_at}
@@ -20,13 +20,13 @@ use Rattle.group_model.proofs.Parts.{IsIn, in_published}
 use Rattle.group_model.proofs.PublicLaws.{lists_those, lists_in_order}
 use Rattle.script_lang.specs.declared.verb.Verb.TheVariants as verb
 use Rattle.script_lang.specs.Kinds.{Text}
-use Rattle.script_lang.specs.Forms.{said}
+use Rattle.script_lang.specs.Forms.{statement}
 use Rattle.script_lang.specs.Checking.{Declared, Party, has_label, party_label}
 use Rattle.script_lang.proofs.Conditions.{and_left}
 use Rattle.bench_world.specs.EventValues.{EventValue}
-use Rattle.script_story.specs.SaidEvents.{party_number}
+use Rattle.script_story.specs.StatedEvents.{party_number}
 use Rattle.script_report.specs.Labels.{label_at}
-use Rattle.script_story.specs.Judging.{Given, State, acted_by, found_world, outside_of}
+use Rattle.script_story.specs.Judging.{RunEnvironment, State, acted_by, found_world, outside_of}
 use Rattle.script_story.specs.Story.{Reached}
 use Rattle.script_story.specs.Headline.{HoldsAllOf, IsCatalogueLine, IsCatalogueOf, IsToBeListed, ListExactly}
 use Rattle.script_story.specs.Headline.{PrintsCatalogues, group_at, labels_at, printed_entries, publication_at}
@@ -36,9 +36,9 @@ use Rattle.script_story.proofs.LinesTaken.{IsActed, StatedTaken, acts_so, stated
 
 -- ---- a catalogue
 
-told_entry : (ls : Logs) (m : Member) (e : Entry) → In e (catalogue ls m)
+reported_entry : (ls : Logs) (m : Member) (e : Entry) → In e (catalogue ls m)
     → e ≡ published_entry (publication_at ls (publication_of e))
-told_entry ls m e among =
+reported_entry ls m e among =
     let q : (q : Publication) × (In q (catalogued ls m)) × (e ≡ published_entry q) =
     from_map published_entry (catalogued ls m) e among in
     let there : IsIn ls q.0 = in_published ls q.0 (from_filter (is_listed (published ls) m) (published ls) q.0 q.1).0 in
@@ -62,7 +62,7 @@ held_by w m pair sound t = go t.had where
     | inr all ↦ all
   ]
 
-list_exactly : (out : Outside) (w : World) (m : ℕ) → IsSoundGroup w → m < length w.members
+list_exactly : (out : Environment) (w : World) (m : ℕ) → IsSoundGroup w → m < length w.members
     → ListExactly w m (catalogue_at w m)
 list_exactly out w m sound there = record {
   exactly = λ pair.
@@ -85,7 +85,7 @@ list_exactly out w m sound there = record {
       }) in
       (to, from);
   in_order = lists_in_order (logs w) (member w m);
-  told = λ k d inside. told_entry (logs w) (member w m) (get_or (catalogue_at w m) k d)
+  reported = λ k d inside. reported_entry (logs w) (member w m) (get_or (catalogue_at w m) k d)
       (in_at (catalogue_at w m) k d inside);
 } where
   not_hidden : (pair : Pair) → lists pair (catalogue_at w m) ≡ true → ListsRightly w m pair
@@ -114,10 +114,10 @@ at_place label (p ∷ ps) known = go (bytes_eq p.label label) refl known (at_pla
       → IsNumberOf label (p ∷ ps) (if not b then 1 + place label ps else 0)
   go true is k rest = record { there = omega arith; labelled = (bytes_eq-Decides p.label label).0 is }
   go false is k rest =
-      let behind = rest k in
+      let after = rest k in
       let more : suc (place label ps) ≡ 1 + place label ps = omega arith in
       let here : IsNumberOf label (p ∷ ps) (suc (place label ps)) =
-      record { there = omega (arith, behind.there); labelled = behind.labelled } in
+      record { there = omega (arith, after.there); labelled = after.labelled } in
       subst (IsNumberOf label (p ∷ ps)) more here
 
 pub named_by : (label : List ℕ) (parties : List Party) → has_label label parties ≡ true
@@ -126,16 +126,16 @@ named_by label parties known = at_place label parties known
 
 -- ---- the line
 
-module _ (given : Given) (s : State) (sound : IsSoundState given s) (label report : List ℕ) (new : State) where
-  catalogue_of : StatedTaken given s (said verb.Catalogue (Text label ∷ [])) report new
-      → IsCatalogueOf (found_world given s) (map party_label s.declared.members) label report
+module _ (env : RunEnvironment) (s : State) (sound : IsSoundState env s) (label report : List ℕ) (new : State) where
+  catalogue_of : StatedTaken env s (statement verb.Catalogue (Text label ∷ [])) report new
+      → IsCatalogueOf (found_world env s) (map party_label s.declared.members) label report
   unfolding acted_by
   catalogue_of t =
-      let line : IsEventLine s.declared t.d (said verb.Catalogue (Text label ∷ [])) =
-      event_line s.declared t.d (said verb.Catalogue (Text label ∷ [])) t.after in
+      let line : IsEventLine s.declared t.d (statement verb.Catalogue (Text label ∷ [])) =
+      event_line s.declared t.d (statement verb.Catalogue (Text label ∷ [])) t.after in
       let same : t.d.members ≡ s.declared.members = ap (λ (x : Declared). x.members) line.is in
       let m : ℕ = party_number label s.declared.members in
-      let w : World = found_world given s in
+      let w : World = found_world env s in
       let named : IsNumberOf label s.declared.members m =
       named_by label s.declared.members (and_left (has_label label s.declared.members) _ line.known) in
       let there : m < length w.members = omega (arith, named.there, sound.many) in
@@ -143,8 +143,8 @@ module _ (given : Given) (s : State) (sound : IsSoundState given s) (label repor
       let labels : List (List ℕ) = map party_label ps in
       let entries : List Entry = catalogue_at w (party_number label ps) in
       printed_entries labels (label_at labels (party_number label ps)) entries in
-      let acts : IsActed given s t.d (EventValue.Catalogue (party_number label t.d.members)) report new =
-      acts_so given s t.d (EventValue.Catalogue (party_number label t.d.members)) report new t.is in
+      let acts : IsActed env s t.d (EventValue.Catalogue (party_number label t.d.members)) report new =
+      acts_so env s t.d (EventValue.Catalogue (party_number label t.d.members)) report new t.is in
       let labels : List (List ℕ) = map party_label s.declared.members in
       record {
         number = m;
@@ -152,17 +152,17 @@ module _ (given : Given) (s : State) (sound : IsSoundState given s) (label repor
         named = named.labelled;
         text = acts.text ∙ ap text same ∙ ap (λ (l : List ℕ). printed_entries labels l (catalogue_at w m))
             named.labelled;
-        rightly = list_exactly (outside_of given s.keys) w m sound.sound there;
+        rightly = list_exactly (outside_of env s.keys) w m sound.sound there;
       }
 
-pub catalogue_line : (given : Given) (r : Reached) → IsSoundState given r.state
-    → (label report : List ℕ) (new : Reached) → IsCatalogueLine given r label report new
-    → IsCatalogueOf (group_at given r) (labels_at r) label report
-catalogue_line given r sound label report new l =
-    catalogue_of given r.state sound label report new.state
-    (stated_taken given r.state l.line report new.state (said verb.Catalogue (Text label ∷ [])) l.stated
-    (taken_line given r l.line report new l.taken))
+pub catalogue_line : (env : RunEnvironment) (r : Reached) → IsSoundState env r.state
+    → (label report : List ℕ) (new : Reached) → IsCatalogueLine env r label report new
+    → IsCatalogueOf (group_at env r) (labels_at r) label report
+catalogue_line env r sound label report new l =
+    catalogue_of env r.state sound label report new.state
+    (stated_taken env r.state l.line report new.state (statement verb.Catalogue (Text label ∷ [])) l.stated
+    (taken_line env r l.line report new l.taken))
 
 pub prints_catalogues : PrintsCatalogues
-prints_catalogues given lines reports r taken label report new l =
-    catalogue_line given r (sound_from_start given lines reports r taken) label report new l
+prints_catalogues env lines reports r taken label report new l =
+    catalogue_line env r (sound_from_start env lines reports r taken) label report new l

@@ -9,7 +9,7 @@ use Rattle.std.proofs.lemmas.Option.{slice_get-get_or}
 use Rattle.sorted_lists.specs.Range.{numbers_from}
 use Rattle.sorted_lists.proofs.Sets.{In, from_map}
 use Rattle.repo_plan.specs.declared.part.Part.{Part}
-use Rattle.repo_plan.specs.Parts.{Pair, index_packets, pair_of, part_of, parts_behind}
+use Rattle.repo_plan.specs.Parts.{Pair, index_packets, pair_of, part_of, parts_after}
 use Rattle.repo_object.specs.Objects.{IsObject, IsPost, IsPublisher, NamedContents, Post, offered, shape_in}
 use Rattle.repo_object.specs.Objects.Post.{Offers, Withdraws}
 use Rattle.repo_object.specs.Publication.{packet_at}
@@ -25,14 +25,14 @@ use Rattle.group_model.proofs.Lists.{each_all, from_filter, in_at}
 use Rattle.group_model.proofs.Members.{known_published}
 use Rattle.group_model.proofs.Parts.{IsIn, in_parts_in, in_published}
 use Rattle.repo_member.specs.Groups.{GroupKeys, publisher_at}
-use Rattle.repo_member.specs.InGroup.{AreLogs, true_packet}
+use Rattle.repo_member.specs.InGroup.{AreLogs, published_packet}
 use Rattle.repo_member.proofs.PublicLaws.{is_publisher, packets_are_there, packets_pass}
 use Rattle.bench_world.proofs.ClaimedPackets.{post_within, publisher_there}
-use Rattle.script_story.specs.Judging.{Given}
+use Rattle.script_story.specs.Judging.{RunEnvironment}
 use Rattle.script_story.specs.Story.{Reached}
 use Rattle.script_story.specs.Headline.{AreTakenFirst, group_at}
 use Rattle.script_story.specs.HeldPackets.{EntriesTellOfDumped, HoldsChecked, MembersHoldChecked, PassesItsChecks}
-use Rattle.script_story.specs.HeldPackets.{TellsOfDumped, all_there, dumped}
+use Rattle.script_story.specs.HeldPackets.{ReportsOfDumped, all_there, dumped}
 use Rattle.script_story.proofs.ListedDigests.{lists_digest}
 use Rattle.script_story.proofs.HeadlineGroups.{IsSoundState, sound_from_start}
 use Rattle.script_story.proofs.HeadlineMembers.{kept_from_start}
@@ -51,14 +51,14 @@ its_number g ls are pair there =
     omega (arith, few, there.to_last)
 
 passes_so : (g : GroupKeys) (ls : Logs) (t : Part) → AreLogs g ls → IsPublishedPart ls t → PassesItsChecks g ls t
-passes_so g ls t are there = go (true_packet g ls t) refl (packets_are_there g ls t are there) where
+passes_so g ls t are there = go (published_packet g ls t) refl (packets_are_there g ls t are there) where
   by : IsPublisher (publisher_at g t.publisher)
   by = its_publisher g ls are (pair_of t) there.there
 
   post : IsPost t.seq (post_at ls (pair_of t))
   post = post_within g ls are (pair_of t) there.there
 
-  go : (o : Option (List ℕ)) → true_packet g ls t ≡ o → IsSomeAnd o (λ octets. length octets ≤ 8800)
+  go : (o : Option (List ℕ)) → published_packet g ls t ≡ o → IsSomeAnd o (λ octets. length octets ≤ 8800)
       → PassesItsChecks g ls t
   go None is short = absurd short
   go (Some octets) is short =
@@ -66,8 +66,8 @@ passes_so g ls t are there = go (true_packet g ls t) refl (packets_are_there g l
         octets = octets;
         its = is;
         passes = packets_pass g ls t octets are there is;
-        listed = λ behind. lists_digest (publisher_at g t.publisher) by t.seq (post_at ls (pair_of t)) post
-            (its_number g ls are (pair_of t) there.there) t.part behind there.counted octets is;
+        listed = λ after. lists_digest (publisher_at g t.publisher) by t.seq (post_at ls (pair_of t)) post
+            (its_number g ls are (pair_of t) there.there) t.part after there.counted octets is;
       }
 
 holds_checked : (g : GroupKeys) (w : World) (m : ℕ) → IsSoundGroup w → AreLogs g (logs w) → m < length w.members
@@ -81,24 +81,25 @@ holds_checked g w m sound are there t held =
     })
 
 -- Where there is a member the group's line was taken.
-grouped : (given : Given) (r : Reached) → IsSoundState given r.state → (m : ℕ)
-    → m < length (group_at given r).members → r.state.declared.group ≡ true
-grouped given r sound m there = elim (cases_Bool r.state.declared.group) [
+grouped : (env : RunEnvironment) (r : Reached) → IsSoundState env r.state → (m : ℕ)
+    → m < length (group_at env r).members → r.state.declared.group ≡ true
+grouped env r sound m there = elim (cases_Bool r.state.declared.group) [
   | inl is ↦ is
   | inr none ↦
       let empty : length r.state.declared.members ≡ 0 = ap length (sound.ungrouped none) in
       absurd (omega (arith, there, sound.many, empty))
 ]
 
-pub logs_within : (given : Given) (lines reports : List (List ℕ)) (r : Reached) → AreTakenFirst given lines reports r
-    → r.state.declared.group ≡ true → AreLogs r.state.keys (logs (group_at given r))
-logs_within given lines reports r taken is = ((kept_from_start given lines reports r taken).limited is).are
+pub logs_within : (env : RunEnvironment) (lines reports : List (List ℕ)) (r : Reached)
+    → AreTakenFirst env lines reports r
+    → r.state.declared.group ≡ true → AreLogs r.state.keys (logs (group_at env r))
+logs_within env lines reports r taken is = ((kept_from_start env lines reports r taken).limited is).are
 
 pub members_hold_checked : MembersHoldChecked
-members_hold_checked given lines reports r taken m there =
-    let sound = sound_from_start given lines reports r taken in
-    holds_checked r.state.keys (group_at given r) m sound.sound
-    (logs_within given lines reports r taken (grouped given r sound m there)) there
+members_hold_checked env lines reports r taken m there =
+    let sound = sound_from_start env lines reports r taken in
+    holds_checked r.state.keys (group_at env r) m sound.sound
+    (logs_within env lines reports r taken (grouped env r sound m there)) there
 
 -- ---- entries
 
@@ -109,17 +110,17 @@ each_there f first [] each = refl
 each_there f first (c ∷ cs) each =
     let none : first + 0 ≡ first = omega arith in
     let here : f first ≡ Some c = subst (λ (n : ℕ). f n ≡ Some c) none (each 0 (omega arith)) in
-    let behind : map f (numbers_from (first + 1) (length cs)) ≡ all_there cs =
+    let after : map f (numbers_from (first + 1) (length cs)) ≡ all_there cs =
     each_there f (first + 1) cs (λ k inside.
     let more : first + suc k ≡ (first + 1) + k = omega arith in
     subst (λ (n : ℕ). f n ≡ Some (get_or cs k [])) more (each (suc k) (omega (arith, inside)))) in
-    λ i. here i ∷ behind i
+    λ i. here i ∷ after i
 
 dumped_content : (g : GroupKeys) (w : World) (m : ℕ) (t : Part) (octets : List ℕ)
-    → member_holds (member w m) t ≡ true → true_packet g (logs w) t ≡ Some octets
+    → member_holds (member w m) t ≡ true → published_packet g (logs w) t ≡ Some octets
     → option_and_then content_in (dumped g w m t) ≡ content_in octets
 dumped_content g w m t octets held its =
-    ap (λ (b : Bool). option_and_then content_in (cond b (true_packet g (logs w) t) None)) held
+    ap (λ (b : Bool). option_and_then content_in (cond b (published_packet g (logs w) t) None)) held
     ∙ ap (option_and_then content_in) its
 
 offers_it : (post : Post) → is_some (offered post) ≡ true → post ≡ Offers (unwrap_or (offered post) no_object)
@@ -144,14 +145,14 @@ module _ (g : GroupKeys) (w : World) (m : ℕ) (are : AreLogs g (logs w)) (q : P
       → option_and_then content_in (dumped g w m (part_of (pair_in q) (first + k))) ≡ Some (get_or object.contents k [])
   segment_dumped k inside =
       let t : Part = part_of (pair_in q) (first + k) in
-      let behind : first + k ≤ parts_behind (shape_in (Offers object)) = omega (arith, inside) in
-      let counted : first + k ≤ parts_behind (shape_in q.post) =
-      subst (λ (post : Post). first + k ≤ parts_behind (shape_in post)) (sym (offers_it q.post is)) behind in
+      let after : first + k ≤ parts_after (shape_in (Offers object)) = omega (arith, inside) in
+      let counted : first + k ≤ parts_after (shape_in q.post) =
+      subst (λ (post : Post). first + k ≤ parts_after (shape_in post)) (sym (offers_it q.post is)) after in
       let held : member_holds (member w m) t ≡ true =
       each_all (member_holds (member w m)) _ whole t (in_parts_in q t (record { pair = refl; counted = counted })) in
       let p : PassesItsChecks g (logs w) t = passes_so g (logs w) t are (record {
         there = there.there;
-        counted = subst (λ (post : Post). first + k ≤ parts_behind (shape_in post)) (sym offers) behind;
+        counted = subst (λ (post : Post). first + k ≤ parts_after (shape_in post)) (sym offers) after;
       }) in
       let by : IsPublisher (publisher_at g q.publisher) = its_publisher g (logs w) are (pair_in q) there.there in
       let within : IsObject object =
@@ -164,8 +165,8 @@ module _ (g : GroupKeys) (w : World) (m : ℕ) (are : AreLogs g (logs w)) (q : P
       ∙ content_again (publisher_at g q.publisher) by object within q.seq k p.octets its
       ∙ slice_get-get_or object.contents k [] inside
 
-  entry_tells : TellsOfDumped g w m (published_entry q)
-  entry_tells = record {
+  entry_reports : ReportsOfDumped g w m (published_entry q)
+  entry_reports = record {
     contents = object.contents;
     there = each_there (λ x. option_and_then content_in (dumped g w m (part_of (pair_in q) x))) first object.contents
         segment_dumped;
@@ -174,7 +175,7 @@ module _ (g : GroupKeys) (w : World) (m : ℕ) (are : AreLogs g (logs w)) (q : P
   }
 
 entries_tell : (g : GroupKeys) (w : World) (m : ℕ) → AreLogs g (logs w) → (e : Entry) → In e (catalogue_at w m)
-    → TellsOfDumped g w m e
+    → ReportsOfDumped g w m e
 entries_tell g w m are e among =
     let listed : Publication → Bool = is_listed (published (logs w)) (member w m) in
     let q : (q : Publication) × (In q (catalogued (logs w) (member w m))) × (e ≡ published_entry q) =
@@ -182,12 +183,12 @@ entries_tell g w m are e among =
     let is = from_filter listed (published (logs w)) q.0 q.1 in
     let unknown : Bool = not (knows_withdrawn (published (logs w)) (member w m) (pair_in q.0)) in
     let both = and_parts (is_object q.0) (holds_all (member w m) q.0 && unknown) is.1 in
-    subst (TellsOfDumped g w m) (sym q.2)
-    (entry_tells g w m are q.0 is.0 both.0 (and_parts (holds_all (member w m) q.0) unknown both.1).0)
+    subst (ReportsOfDumped g w m) (sym q.2)
+    (entry_reports g w m are q.0 is.0 both.0 (and_parts (holds_all (member w m) q.0) unknown both.1).0)
 
 pub entries_tell_of_dumped : EntriesTellOfDumped
-entries_tell_of_dumped given lines reports r taken m there k d inside =
-    let sound = sound_from_start given lines reports r taken in
-    let w : World = group_at given r in
-    entries_tell r.state.keys w m (logs_within given lines reports r taken (grouped given r sound m there))
+entries_tell_of_dumped env lines reports r taken m there k d inside =
+    let sound = sound_from_start env lines reports r taken in
+    let w : World = group_at env r in
+    entries_tell r.state.keys w m (logs_within env lines reports r taken (grouped env r sound m there))
     (get_or (catalogue_at w m) k d) (in_at (catalogue_at w m) k d inside)

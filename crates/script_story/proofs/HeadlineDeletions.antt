@@ -17,11 +17,11 @@ use Rattle.group_model.specs.Member.{Member}
 use Rattle.group_model.specs.Changes.{member_starts}
 use Rattle.group_model.specs.Events.{SyncInterest, Came, Event}
 use Rattle.group_model.specs.Events.Came.{Nothing, Its, Another}
-use Rattle.group_model.specs.World.{Outside, World, member, no_member, sent_at}
+use Rattle.group_model.specs.World.{Environment, World, member, no_member, sent_at}
 use Rattle.group_model.specs.World.{with_member as world_with}
 use Rattle.group_model.specs.Steps.{after_block, after_came, after_claiming, after_command, after_deliver, after_event}
 use Rattle.group_model.specs.Steps.{after_fire, after_hear, after_publish, block_at, came_as, came_from, can_start}
-use Rattle.group_model.specs.Steps.{claim_at, tells_too_much, timer_at, to_claim, with_process_at}
+use Rattle.group_model.specs.Steps.{claim_at, reports_too_much, timer_at, to_claim, with_process_at}
 use Rattle.group_model.specs.Laws.{NothingHidden}
 use Rattle.group_model.proofs.Settles.{member_settled}
 use Rattle.sorted_lists.specs.Range.{numbers_from}
@@ -35,8 +35,8 @@ use Rattle.script_lang.specs.Lines.{line_of}
 use Rattle.script_lang.specs.Checking.{Declared}
 use Rattle.script_lang.proofs.Conditions.{and_left, and_right}
 use Rattle.bench_world.specs.EventValues.{EventValue, group_event}
-use Rattle.script_story.specs.SaidEvents.{said_by, said_event}
-use Rattle.script_story.specs.Judging.{Given, State, found_world, outside_of}
+use Rattle.script_story.specs.StatedEvents.{stated_by, stated_event}
+use Rattle.script_story.specs.Judging.{RunEnvironment, State, found_world, outside_of}
 use Rattle.script_story.specs.Story.{Reached, nothing_reached}
 use Rattle.script_story.specs.Headline.{LinesAreTaken, HidesByDeletionAlone, deletes, deletes_nothing, group_at}
 use Rattle.script_story.proofs.HeadlineGroups.{IsSoundState, opened, sound_beginning, sound_line}
@@ -70,7 +70,7 @@ claiming : (w : World) (j f : ℕ) (c : Option Part) → HidesAsBefore w (after_
 claiming w j f None = none_changes w w refl
 claiming w j f (Some t) = one w (after_claiming w j f (Some t)) j _ refl refl
 
-coming : (out : Outside) (w v : World) (j f : ℕ) (c : Option Part) (came : Came) → v.members ≡ w.members
+coming : (out : Environment) (w v : World) (j f : ℕ) (c : Option Part) (came : Came) → v.members ≡ w.members
     → HidesAsBefore w (after_came out v j f c came)
 coming out w v j f None came is = none_changes w v is
 coming out w v j f (Some t) Nothing is = none_changes w v is
@@ -83,17 +83,19 @@ coming out w v j f (Some t) Another is = λ i inside.
     (subst (λ (ms : List Member). i < length ms) (sym is) inside)
     ∙ none_changes w v is i inside
 
-firing : (out : Outside) (w : World) (j : ℕ) (f : Fired) → HidesAsBefore w (after_fire out w j f)
+firing : (out : Environment) (w : World) (j : ℕ) (f : Fired) → HidesAsBefore w (after_fire out w j f)
 firing out w j Early = none_changes w w refl
 firing out w j Quiet = one w (after_fire out w j Quiet) j _ refl refl
 firing out w j Send = one w (after_fire out w j Send) j _ refl refl
 
-delivering : (out : Outside) (w : World) (j : ℕ) (told : List ℕ) → HidesAsBefore w (after_deliver out w j told)
-delivering out w j told = one w (after_deliver out w j told) j _ refl refl
+delivering : (out : Environment) (w : World) (j : ℕ) (reported : List ℕ)
+    → HidesAsBefore w (after_deliver out w j reported)
+delivering out w j reported = one w (after_deliver out w j reported) j _ refl refl
 
-hearing : (out : Outside) (w : World) (j : ℕ) (read : Option SyncInterest) → HidesAsBefore w (after_hear out w j read)
+hearing : (out : Environment) (w : World) (j : ℕ) (read : Option SyncInterest)
+    → HidesAsBefore w (after_hear out w j read)
 hearing out w j None = none_changes w w refl
-hearing out w j (Some sync) = go (tells_too_much w j sync) where
+hearing out w j (Some sync) = go (reports_too_much w j sync) where
   go : (b : Bool) → HidesAsBefore w (cond b w (after_deliver out w j sync.vector))
   go true = none_changes w w refl
   go false = delivering out w j sync.vector
@@ -116,7 +118,7 @@ commanding w v j (Insert name first last) is spares = go (can_start (member v j)
 commanding w v j (Check process) is spares = none_changes w v is
 commanding w v j (Delete name) is spares = absurd spares
 
-blocking : (out : Outside) (w : World) (j process : ℕ) (state : BlockState)
+blocking : (out : Environment) (w : World) (j process : ℕ) (state : BlockState)
     → HidesAsBefore w (after_block out w j process state)
 blocking out w j process Unknown = none_changes w w refl
 blocking out w j process Already = none_changes w w refl
@@ -133,7 +135,7 @@ IsNoDeletionEvent (Event.Order j read) = ⊥
 IsNoDeletionEvent (Event.Issue j client command) = IsNoDeletion command
 IsNoDeletionEvent _ = Unit {0}
 
-pub hides_as_before : (out : Outside) (w : World) (e : Event) → IsNoDeletionEvent e
+pub hides_as_before : (out : Environment) (w : World) (e : Event) → IsNoDeletionEvent e
     → HidesAsBefore w (after_event out w e)
 hides_as_before out w (Event.Publish j o) spares = one w (after_publish out w j (Offers o)) j _ refl refl
 hides_as_before out w (Event.Withdraw j seq) spares = one w (after_publish out w j (Withdraws seq)) j _ refl refl
@@ -166,7 +168,7 @@ hides_as_before out w Event.Traffic spares = none_changes w w refl
 -- ---- what lines state
 
 undeleting : (g : GroupKeys) (form : Verb) (d : Declared) (values : List Value) → deletes form ≡ false
-    → IfSome (said_by form d values) (λ e. IsNoDeletionEvent (group_event g e))
+    → IfSome (stated_by form d values) (λ e. IsNoDeletionEvent (group_event g e))
 undeleting g verb.Delete d values only = cc
 undeleting g verb.Order d values only = cc
 undeleting g verb.Publish d (Text m ∷ Named name ∷ Number size ∷ Octets content ∷ []) only = tt
@@ -214,47 +216,48 @@ stated_keeps r stated is keeps =
     let spares : not (deletes stated.verb) ≡ true = subst (λ x. deletes_nothing x ≡ true) is keeps in
     not-true (deletes stated.verb) spares
 
-line_hides : (given : Given) (s : State) (line : List ℕ) (new : State) → IsSoundState given s → IsSoundState given new
-    → LineSteps given s line new → deletes_nothing (line_of line) ≡ true → NothingHidden (found_world given s)
-    → NothingHidden (found_world given new)
-line_hides given s line new sound sound_new (still same) keeps nothing_hidden j inside =
-    subst (λ (x : State). NothingHidden (found_world given x)) (sym same) nothing_hidden j inside
-line_hides given s line new sound sound_new (declares early none) keeps nothing_hidden j inside =
-    ap (λ (w : World). (member w j).hidden) (opened given new (sound_new.begun none))
+line_hides : (env : RunEnvironment) (s : State) (line : List ℕ) (new : State) → IsSoundState env s
+    → IsSoundState env new
+    → LineSteps env s line new → deletes_nothing (line_of line) ≡ true → NothingHidden (found_world env s)
+    → NothingHidden (found_world env new)
+line_hides env s line new sound sound_new (still same) keeps nothing_hidden j inside =
+    subst (λ (x : State). NothingHidden (found_world env x)) (sym same) nothing_hidden j inside
+line_hides env s line new sound sound_new (declares early none) keeps nothing_hidden j inside =
+    ap (λ (w : World). (member w j).hidden) (opened env new (sound_new.begun none))
     ∙ opening_hides _ (numbers_from 0 (length new.keys.members.names)) j (λ x. refl)
-line_hides given s line new sound sound_new (watches beside) keeps nothing_hidden j inside =
+line_hides env s line new sound sound_new (watches beside) keeps nothing_hidden j inside =
     subst NothingHidden (sym beside.leaves.group) nothing_hidden j inside
-line_hides given s line new sound sound_new (mirrors leaves same) keeps nothing_hidden j inside =
+line_hides env s line new sound sound_new (mirrors leaves same) keeps nothing_hidden j inside =
     subst NothingHidden (sym leaves.group) nothing_hidden j inside
-line_hides given s line new sound sound_new (steps stated d e read said step) keeps nothing_hidden j inside =
-    let w : World = found_world given s in
+line_hides env s line new sound sound_new (steps stated d e read statement step) keeps nothing_hidden j inside =
+    let w : World = found_world env s in
     let count : length new.declared.members ≡ length s.declared.members = ap length step.members in
     let before : j < length w.members = omega (arith, inside, count, sound.many, sound_new.many) in
     let only : deletes stated.verb ≡ false = stated_keeps (line_of line) stated read keeps in
     let spares : IsNoDeletionEvent (group_event s.keys e) =
-    undeleting_some s.keys (said_event d stated) e said (undeleting s.keys stated.verb d stated.values only) in
+    undeleting_some s.keys (stated_event d stated) e statement (undeleting s.keys stated.verb d stated.values only) in
     ap (λ (x : World). (member x j).hidden) step.group
-    ∙ hides_as_before (outside_of given s.keys) w (group_event s.keys e) spares j before
+    ∙ hides_as_before (outside_of env s.keys) w (group_event s.keys e) spares j before
     ∙ nothing_hidden j before
 
-lines_hide : (given : Given) (r : Reached) (lines reports : List (List ℕ)) (last : Reached)
-    → LinesAreTaken given r lines reports last → list_all (λ line. deletes_nothing (line_of line)) lines ≡ true
-    → IsSoundState given r.state → NothingHidden (group_at given r) → NothingHidden (group_at given last)
-lines_hide given r [] [] last taken keep sound nothing_hidden =
-    subst (λ (x : Reached). NothingHidden (group_at given x)) (sym taken) nothing_hidden
-lines_hide given r [] (report ∷ reports) last taken keep sound nothing_hidden = absurd taken
-lines_hide given r (line ∷ lines) [] last taken keep sound nothing_hidden = absurd taken
-lines_hide given r (line ∷ lines) (report ∷ reports) last taken keep sound nothing_hidden =
+lines_hide : (env : RunEnvironment) (r : Reached) (lines reports : List (List ℕ)) (last : Reached)
+    → LinesAreTaken env r lines reports last → list_all (λ line. deletes_nothing (line_of line)) lines ≡ true
+    → IsSoundState env r.state → NothingHidden (group_at env r) → NothingHidden (group_at env last)
+lines_hide env r [] [] last taken keep sound nothing_hidden =
+    subst (λ (x : Reached). NothingHidden (group_at env x)) (sym taken) nothing_hidden
+lines_hide env r [] (report ∷ reports) last taken keep sound nothing_hidden = absurd taken
+lines_hide env r (line ∷ lines) [] last taken keep sound nothing_hidden = absurd taken
+lines_hide env r (line ∷ lines) (report ∷ reports) last taken keep sound nothing_hidden =
     let next : Reached = taken.0 in
-    let here : LineTaken given r.state line report next.state = taken_line given r line report next taken.1 in
-    let sound_next : IsSoundState given next.state =
-    sound_line given r.state line report next.state here sound in
-    lines_hide given next lines reports last taken.2 (and_right (deletes_nothing (line_of line)) _ keep) sound_next
-    (line_hides given r.state line next.state sound sound_next
-    (line_steps given r.state line report next.state here sound) (and_left (deletes_nothing (line_of line)) _ keep)
+    let here : LineTaken env r.state line report next.state = taken_line env r line report next taken.1 in
+    let sound_next : IsSoundState env next.state =
+    sound_line env r.state line report next.state here sound in
+    lines_hide env next lines reports last taken.2 (and_right (deletes_nothing (line_of line)) _ keep) sound_next
+    (line_hides env r.state line next.state sound sound_next
+    (line_steps env r.state line report next.state here sound) (and_left (deletes_nothing (line_of line)) _ keep)
     nothing_hidden)
 
 pub hides_by_deletion_alone : HidesByDeletionAlone
-hides_by_deletion_alone given lines reports r taken keep =
-    lines_hide given nothing_reached lines reports r taken keep (sound_beginning given)
+hides_by_deletion_alone env lines reports r taken keep =
+    lines_hide env nothing_reached lines reports r taken keep (sound_beginning env)
     (λ j inside. absurd (omega arith))

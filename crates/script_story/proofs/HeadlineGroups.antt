@@ -1,4 +1,4 @@
--- The group behind lines that are taken is sound: an event names members that are there, and members are declared only
+-- The group after lines that are taken is sound: an event names members that are there, and members are declared only
 -- before the first event.
 use Rattle.std.proofs.Common.{◌≡◌, ◌∙◌, ℕ, ◌+◌, Bool, true, false, not, ◌||◌, nat_le, List, [], ◌∷◌, ◌++◌, length}
 use Rattle.std.proofs.Common.{length-append, map, Option, Some, None, unwrap_or, Result, Ok, Err, refl, sym, ap, subst}
@@ -11,7 +11,7 @@ use Rattle.std.proofs.lemmas.List.{length-map, length-set, map-append}
 use Rattle.std.proofs.lemmas.Map.Keys.{IsDistinct-push}
 use Rattle.ndn_name.specs.Names.{encoding}
 use Rattle.group_model.specs.Events as group
-use Rattle.group_model.specs.World.{Outside, World, opening_world}
+use Rattle.group_model.specs.World.{Environment, World, opening_world}
 use Rattle.group_model.specs.Steps.{after_event}
 use Rattle.group_model.specs.Refusals as refusals
 use Rattle.group_model.specs.Refusals.{NamesThose}
@@ -29,7 +29,7 @@ use Rattle.script_lang.specs.declared.check_fault.CheckFault.TheVariants as chec
 use Rattle.script_lang.specs.declared.verb.Verb.{Verb}
 use Rattle.script_lang.specs.declared.verb.Verb.TheVariants as verb
 use Rattle.script_lang.specs.Kinds.{Value, Text, Named, Octets}
-use Rattle.script_lang.specs.Forms.{Stated, said}
+use Rattle.script_lang.specs.Forms.{Stated, statement}
 use Rattle.script_lang.specs.Lines.{line_of}
 use Rattle.script_lang.specs.Limits.{members_limit}
 use Rattle.script_lang.specs.Checking as checking
@@ -38,70 +38,70 @@ use Rattle.script_lang.specs.Checking.{are_within_limits, declared_then, is_part
 use Rattle.script_lang.specs.Checking.{may_declare, party, with_totals}
 use Rattle.repo_watch.specs.Laws.{after_watch_call}
 use Rattle.script_story.specs.Mirrors.{Mirroring, mirror_begins}
-use Rattle.script_story.specs.SaidEvents.{pattern_for, publisher_number, said_event}
-use Rattle.script_story.specs.Judging.{Given, State, acted_by, acted_if}
+use Rattle.script_story.specs.StatedEvents.{pattern_for, publisher_number, stated_event}
+use Rattle.script_story.specs.Judging.{RunEnvironment, State, acted_by, acted_if}
 use Rattle.script_story.specs.Judging.{found_world, opening_state, outside_of, read, says}
 use Rattle.script_story.specs.Judging.{taken_by, watchers_at, with_client, with_group, with_watchers}
-use Rattle.script_story.specs.Judging.{declaring_member, declaring_mirror, mirrors_begin, mirrors_behind}
+use Rattle.script_story.specs.Judging.{declaring_member, declaring_mirror, mirrors_begin, mirrors_after}
 use Rattle.script_story.specs.Judging.{with_member_too}
 use Rattle.script_story.specs.Judging.{with_mirrors}
 use Rattle.script_story.specs.Story.{Reached, nothing_reached}
 use Rattle.script_story.specs.Headline.{LinesAreTaken, AreTakenFirst}
 use Rattle.script_story.proofs.Fitting.{event_fits}
-use Rattle.script_story.proofs.LinesTaken.{LineTaken, acted_said, nothing}
+use Rattle.script_story.proofs.LinesTaken.{LineTaken, acted_stated, nothing}
 use Rattle.script_story.proofs.LinesTaken.{stating, taken_line}
-use Rattle.script_story.proofs.HeadlineTaken.{IsMirrored, IsWatched, fetched_so, heard_so, listed_so, many_behind}
-use Rattle.script_story.proofs.HeadlineTaken.{says_state, told_so, watched_so}
+use Rattle.script_story.proofs.HeadlineTaken.{IsMirrored, IsWatched, fetched_so, heard_so, listed_so, many_after}
+use Rattle.script_story.proofs.HeadlineTaken.{says_state, reported_so, watched_so}
 use Rattle.script_story.proofs.Declarations.{mirror_declares}
 
 -- ---- what holds behind lines
 
-pub record IsSoundState (given : Given) (s : State) : Type 0 where
+pub record IsSoundState (env : RunEnvironment) (s : State) : Type 0 where
   pub ungrouped : s.declared.group ≡ false → s.declared.members ≡ []
   pub uneventful : s.declared.group ≡ false → s.declared.events ≡ false
   pub begun : s.declared.events ≡ false → s.world ≡ None
   pub names : length s.keys.members.names ≡ length s.declared.members
   pub labels : IsDistinct bytes_eq (map party_label s.declared.members)
-  pub sound : IsSoundGroup (found_world given s)
-  pub many : length (found_world given s).members ≡ length s.declared.members
+  pub sound : IsSoundGroup (found_world env s)
+  pub many : length (found_world env s).members ≡ length s.declared.members
   pub watched : length s.watchers ≡ length s.declared.members
   pub mirrored : length s.mirrors ≡ length s.declared.mirrors
 
-length_opening : (out : Outside) (n : ℕ) → length (opening_world out n).members ≡ n
+length_opening : (out : Environment) (n : ℕ) → length (opening_world out n).members ≡ n
 length_opening out n = length-map (numbers_from 0 n) _ ∙ length-numbers 0 n
 
 -- Before the first event the members have nothing.
-record HasNoWorld (given : Given) (s : State) : Type 0 where
+record HasNoWorld (env : RunEnvironment) (s : State) : Type 0 where
   world : s.world ≡ None
   names : length s.keys.members.names ≡ length s.declared.members
 
-pub opened : (given : Given) (s : State) → s.world ≡ None
-    → found_world given s ≡ opening_world (drawing given.draw) (length s.keys.members.names)
-opened given s none =
-    ap (λ (o : Option World). unwrap_or o (opening_world (drawing given.draw) (length s.keys.members.names))) none
+pub opened : (env : RunEnvironment) (s : State) → s.world ≡ None
+    → found_world env s ≡ opening_world (drawing env.draw) (length s.keys.members.names)
+opened env s none =
+    ap (λ (o : Option World). unwrap_or o (opening_world (drawing env.draw) (length s.keys.members.names))) none
 
-sound_before : (given : Given) (s : State) → HasNoWorld given s → IsSoundGroup (found_world given s)
-sound_before given s h = subst IsSoundGroup (sym (opened given s h.world))
-    (sound_opening (drawing given.draw) (length s.keys.members.names))
+sound_before : (env : RunEnvironment) (s : State) → HasNoWorld env s → IsSoundGroup (found_world env s)
+sound_before env s h = subst IsSoundGroup (sym (opened env s h.world))
+    (sound_opening (drawing env.draw) (length s.keys.members.names))
 
-many_before : (given : Given) (s : State) → HasNoWorld given s
-    → length (found_world given s).members ≡ length s.declared.members
-many_before given s h = ap (λ (w : World). length w.members) (opened given s h.world)
-    ∙ length_opening (drawing given.draw) (length s.keys.members.names) ∙ h.names
+many_before : (env : RunEnvironment) (s : State) → HasNoWorld env s
+    → length (found_world env s).members ≡ length s.declared.members
+many_before env s h = ap (λ (w : World). length w.members) (opened env s h.world)
+    ∙ length_opening (drawing env.draw) (length s.keys.members.names) ∙ h.names
 
 none_twice : IsDistinct bytes_eq []
 unfolding IsDistinct
 none_twice = tt
 
-pub sound_beginning : (given : Given) → IsSoundState given opening_state
-sound_beginning given = record {
+pub sound_beginning : (env : RunEnvironment) → IsSoundState env opening_state
+sound_beginning env = record {
   ungrouped = λ h. refl;
   uneventful = λ h. refl;
   begun = λ h. refl;
   names = refl;
   labels = none_twice;
-  sound = sound_opening (drawing given.draw) 0;
-  many = length_opening (drawing given.draw) 0;
+  sound = sound_opening (drawing env.draw) 0;
+  many = length_opening (drawing env.draw) 0;
   watched = refl;
   mirrored = refl;
 }
@@ -123,7 +123,7 @@ declares_group d e h = go d.group refl h where
   go true is k = cc
   go false is k = record { first = is; is = sym (ok_is (record d { group = true }) e k) }
 
--- A party may be declared behind the group's line, before the first event, under a label of its own.
+-- A party may be declared after the group's line, before the first event, under a label of its own.
 pub record MayDeclare (d : Declared) (p : Party) : Type 0 where
   pub grouped : d.group ≡ true
   pub before : d.events ≡ false
@@ -169,9 +169,10 @@ labels_more d p apart h =
 
 -- ---- one line
 
-module _ (given : Given) (s : State) (sound : IsSoundState given s) (d : Declared) (report : List ℕ) (new : State) where
+module _ (env : RunEnvironment) (s : State) (sound : IsSoundState env s) (d : Declared) (report : List ℕ)
+    (new : State) where
   after_group_line : (values : List Value) → after_group s.declared ≡ Ok d → with_group s d values ≡ says report new
-      → IsSoundState given new
+      → IsSoundState env new
   after_group_line (Named name ∷ []) after is =
       let declares = declares_group s.declared d after in
       let none : s.declared.members ≡ [] = sound.ungrouped declares.first in
@@ -183,25 +184,25 @@ module _ (given : Given) (s : State) (sound : IsSoundState given s) (d : Declare
         watchers = s.watchers;
         mirrors = s.mirrors;
       } in
-      let no : HasNoWorld given next = record { world = sound.begun early; names = sym (ap length none) } in
-      let result : IsSoundState given next = record {
+      let no : HasNoWorld env next = record { world = sound.begun early; names = sym (ap length none) } in
+      let result : IsSoundState env next = record {
         ungrouped = λ h. cc;
         uneventful = λ h. cc;
         begun = sound.begun;
         names = sym (ap length none);
         labels = sound.labels;
-        sound = sound_before given next no;
-        many = many_before given next no;
+        sound = sound_before env next no;
+        many = many_before env next no;
         watched = sound.watched;
         mirrored = sound.mirrored;
       } in
       let same : new ≡ next =
       says_state report [] new _ is ∙ ap (λ (e : Declared). record next { declared = e }) declares.is in
-      subst (IsSoundState given) (sym same) result
+      subst (IsSoundState env) (sym same) result
   after_group_line values after is = cc
 
   after_member_line : (stated : Stated) (values : List Value) → after_by s.declared stated verb.Member values ≡ Ok d
-      → declaring_member s d values ≡ says report new → IsSoundState given new
+      → declaring_member s d values ≡ says report new → IsSoundState env new
   after_member_line stated (Text label ∷ Named node ∷ Octets key ∷ []) after is =
       let p : Party = party label node in
       let more : Declared = record s.declared { members = s.declared.members ++ p ∷ [] } in
@@ -216,26 +217,26 @@ module _ (given : Given) (s : State) (sound : IsSoundState given s) (d : Declare
       let names : length (s.keys.members.names ++ node ∷ []) ≡ length (s.declared.members ++ p ∷ []) =
       length-append s.keys.members.names (node ∷ []) ∙ ap (λ n. n + 1) sound.names
       ∙ sym (length-append s.declared.members (p ∷ [])) in
-      let no : HasNoWorld given next = record { world = sound.begun m.0.before; names = names } in
-      let result : IsSoundState given next = record {
+      let no : HasNoWorld env next = record { world = sound.begun m.0.before; names = names } in
+      let result : IsSoundState env next = record {
         ungrouped = λ h. absurd (true≢false (sym m.0.grouped ∙ h));
         uneventful = λ h. m.0.before;
         begun = sound.begun;
         names = names;
         labels = labels_more s.declared p m.0.apart sound.labels;
-        sound = sound_before given next no;
-        many = many_before given next no;
+        sound = sound_before env next no;
+        many = many_before env next no;
         watched = length-append s.watchers ([] ∷ []) ∙ ap (λ n. n + 1) sound.watched
             ∙ sym (length-append s.declared.members (p ∷ []));
         mirrored = length-map s.mirrors
             (λ m. mirror_begins (length (with_member_too node key s.keys).members.names) m.pattern) ∙ sound.mirrored;
       } in
       let same : new ≡ next = says_state report [] new _ is ∙ ap (λ (e : Declared). record next { declared = e }) m.1 in
-      subst (IsSoundState given) (sym same) result
+      subst (IsSoundState env) (sym same) result
   after_member_line stated values after is = cc
 
   after_client_line : (stated : Stated) (values : List Value) → after_by s.declared stated verb.Client values ≡ Ok d
-      → with_client s d values ≡ says report new → IsSoundState given new
+      → with_client s d values ≡ says report new → IsSoundState env new
   after_client_line stated (Text label ∷ Named node ∷ Octets key ∷ []) after is =
       let p : Party = party label node in
       let more : Declared = record s.declared { clients = s.declared.clients ++ p ∷ [] } in
@@ -247,24 +248,24 @@ module _ (given : Given) (s : State) (sound : IsSoundState given s) (d : Declare
         watchers = s.watchers;
         mirrors = s.mirrors;
       } in
-      let no : HasNoWorld given next = record { world = sound.begun m.0.before; names = sound.names } in
-      let result : IsSoundState given next = record {
+      let no : HasNoWorld env next = record { world = sound.begun m.0.before; names = sound.names } in
+      let result : IsSoundState env next = record {
         ungrouped = λ h. absurd (true≢false (sym m.0.grouped ∙ h));
         uneventful = λ h. m.0.before;
         begun = sound.begun;
         names = sound.names;
         labels = sound.labels;
-        sound = sound_before given next no;
-        many = many_before given next no;
+        sound = sound_before env next no;
+        many = many_before env next no;
         watched = sound.watched;
         mirrored = sound.mirrored;
       } in
       let same : new ≡ next = says_state report [] new _ is ∙ ap (λ (e : Declared). record next { declared = e }) m.1 in
-      subst (IsSoundState given) (sym same) result
+      subst (IsSoundState env) (sym same) result
   after_client_line stated values after is = cc
 
-  after_mirror_line : (values : List Value) → after_line s.declared (said verb.Mirror values) ≡ Ok d
-      → declaring_mirror s d values ≡ says report new → IsSoundState given new
+  after_mirror_line : (values : List Value) → after_line s.declared (statement verb.Mirror values) ≡ Ok d
+      → declaring_mirror s d values ≡ says report new → IsSoundState env new
   after_mirror_line (Text label ∷ publisher ∷ Named prefix ∷ []) after is =
       let both = mirror_declares s.declared d label publisher prefix after in
       let begun : Mirroring =
@@ -276,7 +277,7 @@ module _ (given : Given) (s : State) (sound : IsSoundState given s) (d : Declare
         watchers = s.watchers;
         mirrors = s.mirrors ++ begun ∷ [];
       } in
-      let result : IsSoundState given next = record {
+      let result : IsSoundState env next = record {
         ungrouped = sound.ungrouped;
         uneventful = sound.uneventful;
         begun = sound.begun;
@@ -290,7 +291,7 @@ module _ (given : Given) (s : State) (sound : IsSoundState given s) (d : Declare
       } in
       let same : new ≡ next =
       says_state report [] new _ is ∙ ap (λ (e : Declared). record next { declared = e }) (sym both.1) in
-      subst (IsSoundState given) (sym same) result
+      subst (IsSoundState env) (sym same) result
   after_mirror_line values after is = cc
 
 -- ---- events
@@ -316,16 +317,17 @@ event_line d e stated h = go d.group (are_known d stated) (are_within_limits tot
   go true true false a b k = cc
   go true true true a b k = record { grouped = a; known = b; is = cc }
 
-module _ (given : Given) (s : State) (sound : IsSoundState given s) (line : List ℕ) (stated : Stated) (d : Declared)
+module _ (env : RunEnvironment) (s : State) (sound : IsSoundState env s) (line : List ℕ) (stated : Stated)
+    (d : Declared)
     (report : List ℕ) (new : State) (read_as : line_of line ≡ Ok (Some stated))
     (after : after_line s.declared stated ≡ Ok d) where
   after_event_line : checking.after_event s.declared stated ≡ Ok d
-      → acted_if given s d (said_event d stated) ≡ says report new → IsSoundState given new
+      → acted_if env s d (stated_event d stated) ≡ says report new → IsSoundState env new
   after_event_line taken is =
-      let acts = acted_said given s d stated report new (said_event d stated) refl is in
+      let acts = acted_stated env s d stated report new (stated_event d stated) refl is in
       let e : EventValue = acts.0 in
-      let out : Outside = outside_of given s.keys in
-      let w : World = found_world given s in
+      let out : Environment = outside_of env s.keys in
+      let w : World = found_world env s in
       let event : group.Event = group_event s.keys e in
       let declares = event_line s.declared d stated taken in
       let members : d.members ≡ s.declared.members = ap (λ (x : Declared). x.members) declares.is in
@@ -340,9 +342,9 @@ module _ (given : Given) (s : State) (sound : IsSoundState given s) (line : List
         keys = s.keys;
         world = Some (after_event out w event);
         watchers = s.watchers;
-        mirrors = mirrors_behind (after_event out w event) e s.mirrors;
+        mirrors = mirrors_after (after_event out w event) e s.mirrors;
       } in
-      let result : IsSoundState given next = record {
+      let result : IsSoundState env next = record {
         ungrouped = λ h. absurd (true≢false (sym grouped ∙ h));
         uneventful = λ h. absurd (true≢false (sym grouped ∙ h));
         begun = λ h. absurd (true≢false (sym begun ∙ h));
@@ -351,19 +353,19 @@ module _ (given : Given) (s : State) (sound : IsSoundState given s) (line : List
         sound = sound_after out w event ready sound.sound;
         many = (lasts out w event ready sound.sound).width ∙ sound.many ∙ sym count;
         watched = sound.watched ∙ sym count;
-        mirrored = many_behind (after_event out w event) e s.mirrors ∙ sound.mirrored
+        mirrored = many_after (after_event out w event) e s.mirrors ∙ sound.mirrored
             ∙ ap (λ (x : Declared). length x.mirrors) (sym declares.is);
       } in
-      subst (IsSoundState given) (sym acts.2.next) result
+      subst (IsSoundState env) (sym acts.2.next) result
 
-  after_watched_line : checking.after_event s.declared stated ≡ Ok d → IsWatched given s d new → IsSoundState given new
+  after_watched_line : checking.after_event s.declared stated ≡ Ok d → IsWatched env s d new → IsSoundState env new
   after_watched_line taken watched =
       let declares = event_line s.declared d stated taken in
       let members : d.members ≡ s.declared.members = ap (λ (x : Declared). x.members) declares.is in
       let grouped : d.group ≡ true = ap (λ (x : Declared). x.group) declares.is ∙ declares.grouped in
       let begun : d.events ≡ true = ap (λ (x : Declared). x.events) declares.is in
       let count : length d.members ≡ length s.declared.members = ap length members in
-      let result : IsSoundState given (with_watchers (found_world given s) s d watched.m
+      let result : IsSoundState env (with_watchers (found_world env s) s d watched.m
       (after_watch_call watched.call (watchers_at s watched.m))) = record {
         ungrouped = λ h. absurd (true≢false (sym grouped ∙ h));
         uneventful = λ h. absurd (true≢false (sym grouped ∙ h));
@@ -376,17 +378,17 @@ module _ (given : Given) (s : State) (sound : IsSoundState given s) (line : List
             ∙ sound.watched ∙ sym count;
         mirrored = sound.mirrored ∙ ap (λ (x : Declared). length x.mirrors) (sym declares.is);
       } in
-      subst (IsSoundState given) (sym watched.next) result
+      subst (IsSoundState env) (sym watched.next) result
 
-  after_mirrored_line : checking.after_event s.declared stated ≡ Ok d → IsMirrored given s d new
-      → IsSoundState given new
+  after_mirrored_line : checking.after_event s.declared stated ≡ Ok d → IsMirrored env s d new
+      → IsSoundState env new
   after_mirrored_line taken mirrored =
       let declares = event_line s.declared d stated taken in
       let members : d.members ≡ s.declared.members = ap (λ (x : Declared). x.members) declares.is in
       let grouped : d.group ≡ true = ap (λ (x : Declared). x.group) declares.is ∙ declares.grouped in
       let begun : d.events ≡ true = ap (λ (x : Declared). x.events) declares.is in
       let count : length d.members ≡ length s.declared.members = ap length members in
-      let result : IsSoundState given (with_mirrors (found_world given s) s d mirrored.mirrors) = record {
+      let result : IsSoundState env (with_mirrors (found_world env s) s d mirrored.mirrors) = record {
         ungrouped = λ h. absurd (true≢false (sym grouped ∙ h));
         uneventful = λ h. absurd (true≢false (sym grouped ∙ h));
         begun = λ h. absurd (true≢false (sym begun ∙ h));
@@ -397,41 +399,42 @@ module _ (given : Given) (s : State) (sound : IsSoundState given s) (line : List
         watched = sound.watched ∙ sym count;
         mirrored = mirrored.many ∙ sound.mirrored ∙ ap (λ (x : Declared). length x.mirrors) (sym declares.is);
       } in
-      subst (IsSoundState given) (sym mirrored.next) result
+      subst (IsSoundState env) (sym mirrored.next) result
 
   after_stated : (form : Verb) → after_by s.declared stated form stated.values ≡ Ok d
-      → taken_by form given s d stated ≡ says report new → IsSoundState given new
+      → taken_by form env s d stated ≡ says report new → IsSoundState env new
   unfolding acted_by
-  after_stated verb.Group k is = after_group_line given s sound d report new stated.values k is
-  after_stated verb.Member k is = after_member_line given s sound d report new stated stated.values k is
-  after_stated verb.Client k is = after_client_line given s sound d report new stated stated.values k is
-  after_stated verb.Mirror k is = after_mirror_line given s sound d report new stated.values k is
-  after_stated verb.Watch k is = after_watched_line k (watched_so given s d stated.values report new is)
-  after_stated verb.Told k is = after_watched_line k (told_so given s d stated.values report new is)
-  after_stated verb.Mdeliver k is = after_mirrored_line k (heard_so given s d stated.values report new is)
-  after_stated verb.Mfetch k is = after_mirrored_line k (fetched_so given s d stated.values report new is)
-  after_stated verb.Mcatalogue k is = after_mirrored_line k (listed_so given s d stated.values report new is)
+  after_stated verb.Group k is = after_group_line env s sound d report new stated.values k is
+  after_stated verb.Member k is = after_member_line env s sound d report new stated stated.values k is
+  after_stated verb.Client k is = after_client_line env s sound d report new stated stated.values k is
+  after_stated verb.Mirror k is = after_mirror_line env s sound d report new stated.values k is
+  after_stated verb.Watch k is = after_watched_line k (watched_so env s d stated.values report new is)
+  after_stated verb.Told k is = after_watched_line k (reported_so env s d stated.values report new is)
+  after_stated verb.Mdeliver k is = after_mirrored_line k (heard_so env s d stated.values report new is)
+  after_stated verb.Mfetch k is = after_mirrored_line k (fetched_so env s d stated.values report new is)
+  after_stated verb.Mcatalogue k is = after_mirrored_line k (listed_so env s d stated.values report new is)
   after_stated form k is = after_event_line k is
 
 -- ---- lines
 
-pub sound_line : (given : Given) (s : State) (line report : List ℕ) (new : State) → LineTaken given s line report new
-    → IsSoundState given s → IsSoundState given new
-sound_line given s line report new (nothing read same) sound = subst (IsSoundState given) (sym same) sound
-sound_line given s line report new (stating stated d read after is) sound =
-    after_stated given s sound line stated d report new read after stated.verb after is
+pub sound_line : (env : RunEnvironment) (s : State) (line report : List ℕ) (new : State)
+    → LineTaken env s line report new
+    → IsSoundState env s → IsSoundState env new
+sound_line env s line report new (nothing read same) sound = subst (IsSoundState env) (sym same) sound
+sound_line env s line report new (stating stated d read after is) sound =
+    after_stated env s sound line stated d report new read after stated.verb after is
 
-pub sound_lines : (given : Given) (r : Reached) (lines reports : List (List ℕ)) (last : Reached)
-    → LinesAreTaken given r lines reports last → IsSoundState given r.state → IsSoundState given last.state
-sound_lines given r [] [] last taken sound = subst (λ (x : Reached). IsSoundState given x.state) (sym taken) sound
-sound_lines given r [] (report ∷ reports) last taken sound = absurd taken
-sound_lines given r (line ∷ lines) [] last taken sound = absurd taken
-sound_lines given r (line ∷ lines) (report ∷ reports) last taken sound =
+pub sound_lines : (env : RunEnvironment) (r : Reached) (lines reports : List (List ℕ)) (last : Reached)
+    → LinesAreTaken env r lines reports last → IsSoundState env r.state → IsSoundState env last.state
+sound_lines env r [] [] last taken sound = subst (λ (x : Reached). IsSoundState env x.state) (sym taken) sound
+sound_lines env r [] (report ∷ reports) last taken sound = absurd taken
+sound_lines env r (line ∷ lines) [] last taken sound = absurd taken
+sound_lines env r (line ∷ lines) (report ∷ reports) last taken sound =
     let next : Reached = taken.0 in
-    sound_lines given next lines reports last taken.2
-    (sound_line given r.state line report next.state (taken_line given r line report next taken.1) sound)
+    sound_lines env next lines reports last taken.2
+    (sound_line env r.state line report next.state (taken_line env r line report next taken.1) sound)
 
-pub sound_from_start : (given : Given) (lines reports : List (List ℕ)) (r : Reached)
-    → AreTakenFirst given lines reports r → IsSoundState given r.state
-sound_from_start given lines reports r taken =
-    sound_lines given nothing_reached lines reports r taken (sound_beginning given)
+pub sound_from_start : (env : RunEnvironment) (lines reports : List (List ℕ)) (r : Reached)
+    → AreTakenFirst env lines reports r → IsSoundState env r.state
+sound_from_start env lines reports r taken =
+    sound_lines env nothing_reached lines reports r taken (sound_beginning env)

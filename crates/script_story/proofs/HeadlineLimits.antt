@@ -30,11 +30,11 @@ use Rattle.group_model.specs.Member.{Member, catalogued_under, member_hides_all,
 use Rattle.group_model.specs.Changes.{member_starts, publishes}
 use Rattle.group_model.specs.Events.{SyncInterest, Came, Event}
 use Rattle.group_model.specs.Events.Came.{Nothing, Its, Another}
-use Rattle.group_model.specs.World.{Issued, Outside, World, logs, logs_of, member, no_member, sent_at}
+use Rattle.group_model.specs.World.{Issued, Environment, World, logs, logs_of, member, no_member, sent_at}
 use Rattle.group_model.specs.World.{with_member as world_with}
 use Rattle.group_model.specs.Steps.{after_block, after_came, after_claiming, after_command, after_deliver, after_event}
 use Rattle.group_model.specs.Steps.{after_fire, after_hear, after_order, after_publish, after_settle, block_at, came_as}
-use Rattle.group_model.specs.Steps.{came_from, can_start, claim_at, drawn, tells_too_much, timer_at, to_claim}
+use Rattle.group_model.specs.Steps.{came_from, can_start, claim_at, drawn, reports_too_much, timer_at, to_claim}
 use Rattle.group_model.specs.Steps.{tried_once, with_process_at}
 use Rattle.group_model.specs.Refusals.{Refusal, EventIsTaken, has_issued, if_no_object_or_spent, if_spent, if_unissued}
 use Rattle.group_model.specs.Refusals.{if_whole, unless}
@@ -90,13 +90,13 @@ among j order (i ∷ issued) all found =
     go (is_it j order i) refl found (among j order issued (All-tail IsBegunWithin i issued all)) where
       go : (b : Bool) → is_it j order i ≡ b → (b || list_any (is_it j order) issued) ≡ true
           → (list_any (is_it j order) issued ≡ true → BeginsWithin order.1) → BeginsWithin order.1
-      go true is k behind =
+      go true is k after =
           subst BeginsWithin
           (same_commands i.command order.1
           (second_so (eqb i.client order.0) (is_equal_command i.command order.1)
           (second_so (eqb i.member j) (eqb i.client order.0 && is_equal_command i.command order.1) is)))
           (All-head IsBegunWithin i issued all)
-      go false is k behind = behind k
+      go false is k after = after k
 
 -- ---- members that change
 
@@ -167,11 +167,11 @@ module _ (g : GroupKeys) where
   }
 
   -- one publishes an object or a withdrawal
-  publishing : (out : Outside) (w : World) (j : ℕ) (post : Post) → j < length w.members
+  publishing : (out : Environment) (w : World) (j : ℕ) (post : Post) → j < length w.members
       → IsPost (length (member w j).log + 1) post → length (member w j).log < 65535 → IsLimited g w
       → IsLimited g (after_publish out w j post)
   publishing out w j post there is_post few h =
-      let m : Member = publishes (drawn out w j) w.moment j post (member w j) in
+      let m : Member = publishes (drawn out w j) w.time j post (member w j) in
       let log_at : get_or (logs w) j [] ≡ (member w j).log =
       get_or-map (λ (x : Member). x.log) w.members j no_member [] there in
       let count : length (logs w) ≡ length w.members = length-map w.members (λ (x : Member). x.log) in
@@ -191,7 +191,7 @@ module _ (g : GroupKeys) where
   claiming w j f None h = h
   claiming w j f (Some t) h = one w (after_claiming w j f (Some t)) j _ refl refl refl (h.insertions j) h
 
-  coming : (out : Outside) (w : World) (j f : ℕ) (c : Option Part) (came : Came) → IsLimited g w
+  coming : (out : Environment) (w : World) (j f : ℕ) (c : Option Part) (came : Came) → IsLimited g w
       → IsLimited g (after_came out w j f c came)
   coming out w j f None came h = h
   coming out w j f (Some t) Nothing h = h
@@ -199,32 +199,32 @@ module _ (g : GroupKeys) where
   coming out w j f (Some t) Another h =
       one w (after_came out w j f (Some t) Another) j _ refl refl refl (h.insertions j) h
 
-  firing : (out : Outside) (w : World) (j : ℕ) (f : Fired) → IsLimited g w → IsLimited g (after_fire out w j f)
+  firing : (out : Environment) (w : World) (j : ℕ) (f : Fired) → IsLimited g w → IsLimited g (after_fire out w j f)
   firing out w j Early h = h
   firing out w j Quiet h = one w (after_fire out w j Quiet) j _ refl refl refl (h.insertions j) h
   firing out w j Send h = one w (after_fire out w j Send) j _ refl refl refl (h.insertions j) h
 
-  delivering : (out : Outside) (w : World) (j : ℕ) (told : List ℕ) → IsLimited g w
-      → IsLimited g (after_deliver out w j told)
-  delivering out w j told h = one w (after_deliver out w j told) j _ refl refl refl (h.insertions j) h
+  delivering : (out : Environment) (w : World) (j : ℕ) (reported : List ℕ) → IsLimited g w
+      → IsLimited g (after_deliver out w j reported)
+  delivering out w j reported h = one w (after_deliver out w j reported) j _ refl refl refl (h.insertions j) h
 
-  hearing : (out : Outside) (w : World) (j : ℕ) (read : Option SyncInterest) → IsLimited g w
+  hearing : (out : Environment) (w : World) (j : ℕ) (read : Option SyncInterest) → IsLimited g w
       → IsLimited g (after_hear out w j read)
   hearing out w j None h = h
-  hearing out w j (Some sync) h = go (tells_too_much w j sync) where
+  hearing out w j (Some sync) h = go (reports_too_much w j sync) where
     go : (b : Bool) → IsLimited g (cond b w (after_deliver out w j sync.vector))
     go true = h
     go false = delivering out w j sync.vector h
 
   -- ---- a settle
 
-  each_settled : (out : Outside) (w : World) (k : ℕ) (ms : List Member) → AllWithin ms
+  each_settled : (out : Environment) (w : World) (k : ℕ) (ms : List Member) → AllWithin ms
       → AllWithin (settle_each out w k ms)
   each_settled out w k [] each j = each j
   each_settled out w k (m ∷ ms) each zero = each zero
   each_settled out w k (m ∷ ms) each (suc j) = each_settled out w (k + 1) ms (λ i. each (suc i)) j
 
-  settling : (out : Outside) (w : World) → IsLimited g w → IsLimited g (after_settle out w)
+  settling : (out : Environment) (w : World) → IsLimited g w → IsLimited g (after_settle out w)
   settling out w h = record {
     are = subst (AreLogs g) (sym (logs_settled out w 0 w.members)) h.are;
     insertions = each_settled out w 0 w.members h.insertions;
@@ -286,7 +286,8 @@ module _ (g : GroupKeys) where
       one w (with_process_at w j number p) j _ refl refl refl
       (one_more (member w j).processes number p is (h.insertions j)) h
 
-  blocking : (out : Outside) (w : World) (j process : ℕ) (state : BlockState) → ComesWithin state → j < length w.members
+  blocking : (out : Environment) (w : World) (j process : ℕ) (state : BlockState) → ComesWithin state → j
+      < length w.members
       → if_whole w j state ≡ None → IsLimited g w → IsLimited g (after_block out w j process state)
   blocking out w j process Unknown within there taken h = h
   blocking out w j process Already within there taken h = h
@@ -304,7 +305,8 @@ module _ (g : GroupKeys) where
   -- ---- withdrawals
 
   -- What is withdrawn was published before, and there is a number for its withdrawal.
-  withdrawing : (out : Outside) (w : World) (j seq : ℕ) → j < length w.members → if_no_object_or_spent w j seq ≡ None
+  withdrawing : (out : Environment) (w : World) (j seq : ℕ) → j < length w.members → if_no_object_or_spent w j seq
+      ≡ None
       → IsLimited g w → IsLimited g (after_publish out w j (Withdraws seq))
   withdrawing out w j seq there taken h = go (has_unwithdrawn log seq) refl taken where
     log : List Post
@@ -325,7 +327,8 @@ module _ (g : GroupKeys) where
 
   -- ---- any event
 
-  pub limited_after : (out : Outside) (w : World) (e : Event) → BringsWithin e → EventIsTaken out w e → IsLimited g w
+  pub limited_after : (out : Environment) (w : World) (e : Event) → BringsWithin e → EventIsTaken out w e
+      → IsLimited g w
       → IsLimited g (after_event out w e)
   limited_after out w (Event.Publish j o) within taken h =
       publishing out w j (Offers o) taken.named within (has_room w j taken.taken) h

@@ -1,4 +1,4 @@
--- What members list right after a settle, from then on, and where all are told of all.
+-- What members list right after a settle, from then on, and where all know of all.
 use Rattle.std.proofs.Common.{◌≡◌, ◌∙◌, inl, inr, ℕ, zero, suc, ◌≤◌, ◌<◌, max, true, false, List, []}
 use Rattle.std.proofs.Common.{◌∷◌, length, map, get_or, set, refl, sym, ap, subst, arith}
 use Rattle.std.specs.Str.{bytes_eq}
@@ -15,7 +15,7 @@ use Rattle.group_model.specs.Events as group
 use Rattle.group_model.specs.Publications.{Logs, last_of}
 use Rattle.group_model.specs.Member.{Member, member_hides}
 use Rattle.group_model.specs.Changes.{learns}
-use Rattle.group_model.specs.World.{Outside, World, catalogue_at, logs, member, no_member, sent_at}
+use Rattle.group_model.specs.World.{Environment, World, catalogue_at, logs, member, no_member, sent_at}
 use Rattle.group_model.specs.Steps.{after_deliver, after_event, drawn}
 use Rattle.group_model.specs.Sound.{IsPublished}
 use Rattle.group_model.specs.Catalogues.{BelongsInJoin, HoldsNoWithdrawal}
@@ -29,16 +29,16 @@ use Rattle.group_model.proofs.Runs.{nothing_published}
 use Rattle.group_model.proofs.Settles.{logs_settled, member_settled}
 use Rattle.script_lang.specs.declared.verb.Verb.TheVariants as verb
 use Rattle.script_lang.specs.Kinds.{Text, Number}
-use Rattle.script_lang.specs.Forms.{said}
+use Rattle.script_lang.specs.Forms.{statement}
 use Rattle.script_lang.specs.Checking.{Declared, Party, party_label}
 use Rattle.bench_world.specs.EventValues.{EventValue}
-use Rattle.script_story.specs.SaidEvents.{party_number}
+use Rattle.script_story.specs.StatedEvents.{party_number}
 use Rattle.script_report.specs.Labels.{label_at}
-use Rattle.script_story.specs.Judging.{Given, State, acted_by, found_world, outside_of, says}
-use Rattle.script_story.specs.Story.{Reached, nothing_reached, reached_behind}
+use Rattle.script_story.specs.Judging.{RunEnvironment, State, acted_by, found_world, outside_of, says}
+use Rattle.script_story.specs.Story.{Reached, nothing_reached, reached_after}
 use Rattle.script_story.specs.Headline.{AreTakenFirst, IsTakenAmid, LineIsTaken, LinesAreTaken, group_at, labels_at}
-use Rattle.script_story.specs.Listings.{IsToldOfAll, ListedStay, SettledListWhatIsHeld}
-use Rattle.script_story.specs.Listings.{SettledListWhatIsLeft, ToldMembersJoin}
+use Rattle.script_story.specs.Listings.{IsInformedOfAll, ListedStay, SettledListWhatIsHeld}
+use Rattle.script_story.specs.Listings.{SettledListWhatIsLeft, InformedMembersJoin}
 use Rattle.script_story.proofs.HeadlineLines.{each_is_taken}
 use Rattle.script_story.proofs.HeadlineTaken.{says_report, says_state}
 use Rattle.script_story.proofs.HeadlineGroups.{IsSoundState, event_line, opened}
@@ -50,134 +50,136 @@ use Rattle.script_story.proofs.HeadlineSettles.{settled_group, shows_join}
 -- ---- right after a settle
 
 -- A settle deletes nothing and publishes nothing.
-module _ (out : Outside) (w behind : World) (is : behind ≡ after_event out w group.Event.Settle) (m : ℕ) (pair : Pair)
+module _ (out : Environment) (w after : World) (is : after ≡ after_event out w group.Event.Settle) (m : ℕ) (pair : Pair)
     (there : m < length w.members) where
-  hidden_same : member_hides (member behind m) pair ≡ member_hides (member w m) pair
+  hidden_same : member_hides (member after m) pair ≡ member_hides (member w m) pair
   hidden_same =
       ap (λ (x : World). member_hides (member x m) pair) is
       ∙ ap (λ (x : Member). member_hides x pair) (member_settled out w m there)
 
-  logs_same : logs behind ≡ logs w
+  logs_same : logs after ≡ logs w
   logs_same = ap logs is ∙ logs_settled out w 0 w.members
 
-  member_same : member behind m ≡ member (after_event out w group.Event.Settle) m
+  member_same : member after m ≡ member (after_event out w group.Event.Settle) m
   member_same = ap (λ (x : World). member x m) is
 
-  listed_same : lists pair (catalogue_at behind m)
+  listed_same : lists pair (catalogue_at after m)
       ≡ lists pair (catalogue_at (after_event out w group.Event.Settle) m)
   listed_same = ap (λ (x : World). lists pair (catalogue_at x m)) is
 
 pub settled_list_held : SettledListWhatIsHeld
-settled_list_held given lines reports r taken report new l m pair there =
-    let out : Outside = outside_of given r.state.keys in
-    let w : World = group_at given r in
-    let behind : World = group_at given new in
-    let is : behind ≡ after_event out w group.Event.Settle = settled_group given r report new l in
-    let law = lists_what_is_held out w (sound_from_start given lines reports r taken).sound m pair there in (
+settled_list_held env lines reports r taken report new l m pair there =
+    let out : Environment = outside_of env r.state.keys in
+    let w : World = group_at env r in
+    let after : World = group_at env new in
+    let is : after ≡ after_event out w group.Event.Settle = settled_group env r report new l in
+    let law = lists_what_is_held out w (sound_from_start env lines reports r taken).sound m pair there in (
       λ listed.
-          let h = law.0 (sym (listed_same out w behind is m pair there) ∙ listed) in
-          let kept : HoldsNoWithdrawal (logs w) (member behind m) pair =
-          subst (λ (x : Member). HoldsNoWithdrawal (logs w) x pair) (sym (member_same out w behind is m pair there))
+          let h = law.0 (sym (listed_same out w after is m pair there) ∙ listed) in
+          let kept : HoldsNoWithdrawal (logs w) (member after m) pair =
+          subst (λ (x : Member). HoldsNoWithdrawal (logs w) x pair) (sym (member_same out w after is m pair there))
           h.2 in
           record {
             held = h.0;
-            undeleted = hidden_same out w behind is m pair there ∙ h.1;
-            not_withdrawn = subst (λ (ls : Logs). HoldsNoWithdrawal ls (member behind m) pair)
-                (sym (logs_same out w behind is m pair there)) kept;
+            undeleted = hidden_same out w after is m pair there ∙ h.1;
+            not_withdrawn = subst (λ (ls : Logs). HoldsNoWithdrawal ls (member after m) pair)
+                (sym (logs_same out w after is m pair there)) kept;
           },
       λ left.
-          let kept : HoldsNoWithdrawal (logs w) (member behind m) pair =
-          subst (λ (ls : Logs). HoldsNoWithdrawal ls (member behind m) pair) (logs_same out w behind is m pair there)
+          let kept : HoldsNoWithdrawal (logs w) (member after m) pair =
+          subst (λ (ls : Logs). HoldsNoWithdrawal ls (member after m) pair) (logs_same out w after is m pair there)
           left.not_withdrawn in
-          listed_same out w behind is m pair there
+          listed_same out w after is m pair there
           ∙ law.1 (
             left.held,
-            sym (hidden_same out w behind is m pair there) ∙ left.undeleted,
-            subst (λ (x : Member). HoldsNoWithdrawal (logs w) x pair) (member_same out w behind is m pair there) kept,
+            sym (hidden_same out w after is m pair there) ∙ left.undeleted,
+            subst (λ (x : Member). HoldsNoWithdrawal (logs w) x pair) (member_same out w after is m pair there) kept,
           ),
     )
 
 -- Only objects are deleted.
-only_objects : (given : Given) (lines reports : List (List ℕ)) (r : Reached) → AreTakenFirst given lines reports r
-    → OnlyObjectsHidden (group_at given r)
-only_objects given lines reports r taken =
-    so_from_start given OnlyObjectsHidden begins_with_objects_hidden
+only_objects : (env : RunEnvironment) (lines reports : List (List ℕ)) (r : Reached) → AreTakenFirst env lines reports r
+    → OnlyObjectsHidden (group_at env r)
+only_objects env lines reports r taken =
+    so_from_start env OnlyObjectsHidden begins_with_objects_hidden
     (λ out w e sound step so. stays_with_objects_hidden out w sound e step so) lines reports r taken
 
 pub settled_list_left : SettledListWhatIsLeft
-settled_list_left given lines reports r taken report new l m pair there =
-    let out : Outside = outside_of given r.state.keys in
-    let w : World = group_at given r in
-    let behind : World = group_at given new in
-    let is : behind ≡ after_event out w group.Event.Settle = settled_group given r report new l in
-    let law = lists_what_is_left out w (sound_from_start given lines reports r taken).sound
-    (only_objects given lines reports r taken) m pair there in (
+settled_list_left env lines reports r taken report new l m pair there =
+    let out : Environment = outside_of env r.state.keys in
+    let w : World = group_at env r in
+    let after : World = group_at env new in
+    let is : after ≡ after_event out w group.Event.Settle = settled_group env r report new l in
+    let law = lists_what_is_left out w (sound_from_start env lines reports r taken).sound
+    (only_objects env lines reports r taken) m pair there in (
       λ listed.
-          let h = law.0 (sym (listed_same out w behind is m pair there) ∙ listed) in
+          let h = law.0 (sym (listed_same out w after is m pair there) ∙ listed) in
           record {
-            joins = subst (λ (ls : Logs). BelongsInJoin ls pair) (sym (logs_same out w behind is m pair there)) h.2;
+            joins = subst (λ (ls : Logs). BelongsInJoin ls pair) (sym (logs_same out w after is m pair there)) h.2;
             held = h.0;
-            undeleted = hidden_same out w behind is m pair there ∙ h.1;
+            undeleted = hidden_same out w after is m pair there ∙ h.1;
           },
       λ left.
-          listed_same out w behind is m pair there
+          listed_same out w after is m pair there
           ∙ law.1 (
             left.held,
-            sym (hidden_same out w behind is m pair there) ∙ left.undeleted,
-            subst (λ (ls : Logs). BelongsInJoin ls pair) (logs_same out w behind is m pair there) left.joins,
+            sym (hidden_same out w after is m pair there) ∙ left.undeleted,
+            subst (λ (ls : Logs). BelongsInJoin ls pair) (logs_same out w after is m pair there) left.joins,
           ),
     )
 
 -- ---- from then on
 
 -- Before the first event nothing is listed.
-none_listed : (given : Given) (s : State) → IsSoundState given s → s.declared.events ≡ false → (m : ℕ) (pair : Pair)
-    → m < length (found_world given s).members → lists pair (catalogue_at (found_world given s) m) ≡ true → ⊥
-none_listed given s sound early m pair there listed =
-    let w : World = found_world given s in
+none_listed : (env : RunEnvironment) (s : State) → IsSoundState env s → s.declared.events ≡ false
+    → (m : ℕ) (pair : Pair)
+    → m < length (found_world env s).members → lists pair (catalogue_at (found_world env s) m) ≡ true → ⊥
+none_listed env s sound early m pair there listed =
+    let w : World = found_world env s in
     let n : ℕ = length s.keys.members.names in
     let published : IsPublished (logs w) pair =
-    ((lists_those (outside_of given s.keys) w sound.sound m pair there).exactly.0 listed).published in
+    ((lists_those (outside_of env s.keys) w sound.sound m pair there).exactly.0 listed).published in
     let none : last_of (logs w) pair.0 ≡ 0 =
-    ap (λ (x : World). last_of (logs x) pair.0) (opened given s (sound.begun early))
+    ap (λ (x : World). last_of (logs x) pair.0) (opened env s (sound.begun early))
     ∙ nothing_published _ (numbers_from 0 n) pair.0 (λ x. refl) in
     omega (arith, none, published.from_one, published.to_last)
 
 pub listed_stay : ListedStay
-listed_stay given before told r first lines reports last taken m pair there listed =
+listed_stay env before reported r first lines reports last taken m pair there listed =
     elim (cases_Bool r.state.declared.events) [
       | inl begun ↦
-          let run : RunsTo given r.state last.state = lines_run given r lines reports last taken sound begun in
-          subst (λ (x : World). StaysListed (group_at given r) x m pair) (sym run.group)
-          (entries_stay (outside_of given r.state.keys) (group_at given r) sound.sound run.events m pair run.taken there
+          let run : RunsTo env r.state last.state = lines_run env r lines reports last taken sound begun in
+          subst (λ (x : World). StaysListed (group_at env r) x m pair) (sym run.group)
+          (entries_stay (outside_of env r.state.keys) (group_at env r) sound.sound run.events m pair run.taken there
           listed)
-      | inr early ↦ absurd (none_listed given r.state sound early m pair there listed)
+      | inr early ↦ absurd (none_listed env r.state sound early m pair there listed)
     ] where
-      sound : IsSoundState given r.state
-      sound = sound_from_start given before told r first
+      sound : IsSoundState env r.state
+      sound = sound_from_start env before reported r first
 
 -- ---- what lines reach
 
--- What is reached behind a line is one.
-one_behind : (given : Given) (r : Reached) (line a b : List ℕ) (new other : Reached) → LineIsTaken given r line a new
-    → LineIsTaken given r line b other → new ≡ other
-one_behind given r line a b new other is too =
+-- What is reached after a line is one.
+one_after : (env : RunEnvironment) (r : Reached) (line a b : List ℕ) (new other : Reached)
+    → LineIsTaken env r line a new
+    → LineIsTaken env r line b other → new ≡ other
+one_after env r line a b new other is too =
     let same : says a new.state ≡ says b other.state = sym is.verdict ∙ too.verdict in
     let report : b ≡ a = says_report b a other.state new.state same in
     let state : other.state ≡ new.state = says_state b a other.state new.state same in
-    is.reached ∙ sym (λ i. reached_behind r line (report i) (state i)) ∙ sym too.reached
+    is.reached ∙ sym (λ i. reached_after r line (report i) (state i)) ∙ sym too.reached
 
-one_reached : (given : Given) (r : Reached) (lines a b : List (List ℕ)) (last other : Reached)
-    → LinesAreTaken given r lines a last → LinesAreTaken given r lines b other → last ≡ other
-one_reached given r [] [] [] last other is too = is ∙ sym too
-one_reached given r [] (x ∷ a) b last other is too = absurd is
-one_reached given r [] [] (y ∷ b) last other is too = absurd too
-one_reached given r (line ∷ lines) [] b last other is too = absurd is
-one_reached given r (line ∷ lines) (x ∷ a) [] last other is too = absurd too
-one_reached given r (line ∷ lines) (x ∷ a) (y ∷ b) last other is too =
-    let same : too.0 ≡ is.0 = one_behind given r line y x too.0 is.0 too.1 is.1 in
-    one_reached given is.0 lines a b last other is.2
-    (subst (λ (next : Reached). LinesAreTaken given next lines b other) same too.2)
+one_reached : (env : RunEnvironment) (r : Reached) (lines a b : List (List ℕ)) (last other : Reached)
+    → LinesAreTaken env r lines a last → LinesAreTaken env r lines b other → last ≡ other
+one_reached env r [] [] [] last other is too = is ∙ sym too
+one_reached env r [] (x ∷ a) b last other is too = absurd is
+one_reached env r [] [] (y ∷ b) last other is too = absurd too
+one_reached env r (line ∷ lines) [] b last other is too = absurd is
+one_reached env r (line ∷ lines) (x ∷ a) [] last other is too = absurd too
+one_reached env r (line ∷ lines) (x ∷ a) (y ∷ b) last other is too =
+    let same : too.0 ≡ is.0 = one_after env r line y x too.0 is.0 too.1 is.1 in
+    one_reached env is.0 lines a b last other is.2
+    (subst (λ (next : Reached). LinesAreTaken env next lines b other) same too.2)
 
 -- ---- labels
 
@@ -204,24 +206,25 @@ number_of (p ∷ ps) (suc m) distinct inside =
 abbrev known_by : World → ℕ → ℕ → ℕ
 known_by w m p = get_or (member w m).known p 0
 
-learns_it : (out : Outside) (w : World) (m : ℕ) (told : List ℕ) (p : ℕ) → m < length w.members
-    → get_or told p 0 ≤ known_by (after_deliver out w m told) m p
-learns_it out w m told p there =
-    let x : Member = learns (drawn out w m) w.moment told (member w m) in
+learns_it : (out : Environment) (w : World) (m : ℕ) (reported : List ℕ) (p : ℕ) → m < length w.members
+    → get_or reported p 0 ≤ known_by (after_deliver out w m reported) m p
+learns_it out w m reported p there =
+    let x : Member = learns (drawn out w m) w.time reported (member w m) in
     let at : get_or (set w.members m x) m no_member ≡ x = get_or-set_same w.members m x no_member there in
-    let joined : get_or (join (member w m).known told) p 0 ≡ max (get_or (member w m).known p 0) (get_or told p 0) =
-    join-at (member w m).known told p in
-    subst (λ (y : Member). get_or told p 0 ≤ get_or y.known p 0) (sym at) (omega (arith, joined))
+    let joined : get_or (join (member w m).known reported) p 0
+    ≡ max (get_or (member w m).known p 0) (get_or reported p 0) =
+    join-at (member w m).known reported p in
+    subst (λ (y : Member). get_or reported p 0 ≤ get_or y.known p 0) (sym at) (omega (arith, joined))
 
-module _ (given : Given) (lines reports : List (List ℕ)) (r : Reached)
-    (taken : AreTakenFirst given lines reports r) where
-  sound : IsSoundState given r.state
-  sound = sound_from_start given lines reports r taken
+module _ (env : RunEnvironment) (lines reports : List (List ℕ)) (r : Reached)
+    (taken : AreTakenFirst env lines reports r) where
+  sound : IsSoundState env r.state
+  sound = sound_from_start env lines reports r taken
 
-  module _ (m p : ℕ) (there : m < length (labels_at r)) (t : IsToldOfAll given lines r m p) where
-    amid : IsTakenAmid given nothing_reached t.before t.line t.others reports r
-    amid = each_is_taken given nothing_reached t.before t.line t.others reports r
-        (subst (λ (ls : List (List ℕ)). AreTakenFirst given ls reports r) t.lines_are taken)
+  module _ (m p : ℕ) (there : m < length (labels_at r)) (t : IsInformedOfAll env lines r m p) where
+    amid : IsTakenAmid env nothing_reached t.before t.line t.others reports r
+    amid = each_is_taken env nothing_reached t.before t.line t.others reports r
+        (subst (λ (ls : List (List ℕ)). AreTakenFirst env ls reports r) t.lines_are taken)
 
     abbrev here : Reached
     here = amid.here
@@ -230,37 +233,37 @@ module _ (given : Given) (lines reports : List (List ℕ)) (r : Reached)
     new = amid.new
 
     same_here : here ≡ t.here
-    same_here = one_reached given nothing_reached t.before amid.told t.told here t.here amid.before_it t.taken
+    same_here = one_reached env nothing_reached t.before amid.reported t.reported here t.here amid.before_it t.taken
 
-    sound_here : IsSoundState given here.state
-    sound_here = sound_from_start given t.before amid.told here amid.before_it
+    sound_here : IsSoundState env here.state
+    sound_here = sound_from_start env t.before amid.reported here amid.before_it
 
-    sound_new : IsSoundState given new.state
-    sound_new = sound_lines given here (t.line ∷ []) (amid.report ∷ []) new (new, amid.it, refl) sound_here
+    sound_new : IsSoundState env new.state
+    sound_new = sound_lines env here (t.line ∷ []) (amid.report ∷ []) new (new, amid.it, refl) sound_here
 
     -- the line's event
     record IsDelivered : Type 0 where
-      group : group_at given new
-          ≡ after_deliver (outside_of given here.state.keys) (group_at given here) m
-          (sent_at (group_at given here) t.sync).vector
-      there_then : m < length (group_at given here).members
-      run : RunsTo given new.state r.state
+      group : group_at env new
+          ≡ after_deliver (outside_of env here.state.keys) (group_at env here) m
+          (sent_at (group_at env here) t.sync).vector
+      there_then : m < length (group_at env here).members
+      run : RunsTo env new.state r.state
 
     delivered : IsDelivered
     unfolding acted_by
     delivered =
         let s : State = here.state in
         let label : List ℕ = label_at (labels_at r) m in
-        let stated = said verb.Deliver (Number t.sync ∷ Text label ∷ []) in
-        let it = stated_taken given s t.line amid.report new.state stated t.stated
-        (taken_line given here t.line amid.report new amid.it) in
+        let stated = statement verb.Deliver (Number t.sync ∷ Text label ∷ []) in
+        let it = stated_taken env s t.line amid.report new.state stated t.stated
+        (taken_line env here t.line amid.report new amid.it) in
         let e : EventValue = EventValue.Deliver t.sync (party_number label it.d.members) in
-        let acts : IsActed given s it.d e amid.report new.state = acts_so given s it.d e amid.report new.state it.is in
+        let acts : IsActed env s it.d e amid.report new.state = acts_so env s it.d e amid.report new.state it.is in
         let declared = event_line s.declared it.d stated it.after in
         let begun : new.state.declared.events ≡ true =
         ap (λ (x : State). x.declared.events) acts.next ∙ ap (λ (x : Declared). x.events) declared.is in
-        let run : RunsTo given new.state r.state =
-        lines_run given new t.others amid.later r amid.behind_it sound_new begun in
+        let run : RunsTo env new.state r.state =
+        lines_run env new t.others amid.later r amid.after_it sound_new begun in
         let members : it.d.members ≡ r.state.declared.members =
         sym (run.members ∙ ap (λ (x : State). x.declared.members) acts.next) in
         let were : it.d.members ≡ s.declared.members = ap (λ (x : Declared). x.members) declared.is in
@@ -269,10 +272,10 @@ module _ (given : Given) (lines reports : List (List ℕ)) (r : Reached)
         let number : party_number label it.d.members ≡ m =
         ap (party_number label) members
         ∙ number_of r.state.declared.members m sound.labels (omega (arith, there, count)) in
-        let w : World = group_at given here in
+        let w : World = group_at env here in
         record {
-          group = ap (found_world given) acts.next
-              ∙ ap (λ (n : ℕ). after_deliver (outside_of given s.keys) w n (sent_at w t.sync).vector) number;
+          group = ap (found_world env) acts.next
+              ∙ ap (λ (n : ℕ). after_deliver (outside_of env s.keys) w n (sent_at w t.sync).vector) number;
           there_then =
               let a : length it.d.members ≡ length s.declared.members = ap length were in
               let b : length it.d.members ≡ length r.state.declared.members = ap length members in
@@ -280,32 +283,33 @@ module _ (given : Given) (lines reports : List (List ℕ)) (r : Reached)
           run = run;
         }
 
-    knows_it : last_of (logs (group_at given r)) p ≤ known_by (group_at given r) m p
+    knows_it : last_of (logs (group_at env r)) p ≤ known_by (group_at env r) m p
     knows_it =
         let d : IsDelivered = delivered in
-        let out : Outside = outside_of given here.state.keys in
-        let w : World = group_at given here in
-        let told : List ℕ = (sent_at w t.sync).vector in
-        let tells : get_or told p 0 ≡ last_of (logs (group_at given r)) p =
-        ap (λ (x : Reached). get_or (sent_at (group_at given x) t.sync).vector p 0) same_here ∙ t.tells in
-        let learnt : get_or told p 0 ≤ known_by (group_at given new) m p =
-        subst (λ (x : World). get_or told p 0 ≤ known_by x m p) (sym d.group) (learns_it out w m told p d.there_then) in
-        let last : AllLast (group_at given new) (group_at given r) =
-        subst (AllLast (group_at given new)) (sym d.run.group)
-        (nothing_taken_back (outside_of given new.state.keys) (group_at given new) sound_new.sound d.run.events
+        let out : Environment = outside_of env here.state.keys in
+        let w : World = group_at env here in
+        let reported : List ℕ = (sent_at w t.sync).vector in
+        let tells : get_or reported p 0 ≡ last_of (logs (group_at env r)) p =
+        ap (λ (x : Reached). get_or (sent_at (group_at env x) t.sync).vector p 0) same_here ∙ t.tells in
+        let learnt : get_or reported p 0 ≤ known_by (group_at env new) m p =
+        subst (λ (x : World). get_or reported p 0 ≤ known_by x m p) (sym d.group)
+        (learns_it out w m reported p d.there_then) in
+        let last : AllLast (group_at env new) (group_at env r) =
+        subst (AllLast (group_at env new)) (sym d.run.group)
+        (nothing_taken_back (outside_of env new.state.keys) (group_at env new) sound_new.sound d.run.events
         d.run.taken) in
         let count : length (labels_at r) ≡ length r.state.declared.members =
         length-map r.state.declared.members party_label in
-        let inside : m < length (group_at given new).members =
+        let inside : m < length (group_at env new).members =
         omega (arith, there, count, sound.many, last.width) in
-        let lasts : known_by (group_at given new) m p ≤ known_by (group_at given r) m p =
+        let lasts : known_by (group_at env new) m p ≤ known_by (group_at env r) m p =
         (last.members m inside).known p in
         omega (arith, tells, learnt, lasts)
 
-pub told_members_join : ToldMembersJoin
-told_members_join given lines reports r taken told wants hides =
-    let sound_r : IsSoundState given r.state = sound given lines reports r taken in
-    let w : World = group_at given r in
+pub informed_members_join : InformedMembersJoin
+informed_members_join env lines reports r taken reported wants hides =
+    let sound_r : IsSoundState env r.state = sound env lines reports r taken in
+    let w : World = group_at env r in
     let count : length (labels_at r) ≡ length r.state.declared.members =
     length-map r.state.declared.members party_label in
     let knows : (m p : ℕ) → m < length w.members → last_of (logs w) p ≤ known_by w m p =
@@ -319,10 +323,10 @@ told_members_join given lines reports r taken told wants hides =
           elim (cases_eq (last_of (logs w) p) 0) [
             | inl none ↦ omega (arith, none)
             | inr some ↦
-                knows_it given lines reports r taken m p label_there
-                (told m p label_there (λ same. other (sym same)) (omega (arith, some)))
+                knows_it env lines reports r taken m p label_there
+                (reported m p label_there (λ same. other (sym same)) (omega (arith, some)))
           ]
     ] in
     let all : AllJoined w = λ m there.
     joins_by_itself (logs w) (member w m) (λ p inside. knows m p there) (hides m there) (wants m there) in
-    shows_join given r sound_r all
+    shows_join env r sound_r all

@@ -14,7 +14,7 @@ use Rattle.repo_object.proofs.CutLemmas.{cut_pieces}
 use Rattle.repo_process.proofs.ProcessLemmas.{length-numbers}
 use Rattle.group_model.specs.Events as group
 use Rattle.group_model.specs.Member.{Member}
-use Rattle.group_model.specs.World.{Outside, World, logs_of}
+use Rattle.group_model.specs.World.{Environment, World, logs_of}
 use Rattle.group_model.specs.Steps.{after_event}
 use Rattle.group_model.specs.Refusals as refusals
 use Rattle.group_model.specs.Refusals.{NamesThose}
@@ -25,7 +25,7 @@ use Rattle.repo_member.proofs.PublicLaws.{logs_begin, none_have_keys, same_name}
 use Rattle.script_lang.specs.declared.verb.Verb.{Verb}
 use Rattle.script_lang.specs.declared.verb.Verb.TheVariants as verb
 use Rattle.script_lang.specs.Kinds.{Value, Text, Number, Named, Octets}
-use Rattle.script_lang.specs.Forms.{Stated, form, said}
+use Rattle.script_lang.specs.Forms.{Stated, form, statement}
 use Rattle.script_lang.specs.Lines.{line_of}
 use Rattle.script_lang.specs.Texts.{AreOf, IsLineText}
 use Rattle.script_lang.specs.Checking as checking
@@ -38,10 +38,11 @@ use Rattle.bench_world.specs.Steps.{IsReady}
 use Rattle.bench_world.proofs.EventRuns.{named_ready}
 use Rattle.repo_watch.specs.Laws.{after_watch_call}
 use Rattle.script_story.specs.Mirrors.{mirror_begins}
-use Rattle.script_story.specs.SaidEvents.{pattern_for, publisher_number, said_by, said_event}
-use Rattle.script_story.specs.Judging.{Given, State, acted_by, acted_if, found_world, group_named, opening_state}
+use Rattle.script_story.specs.StatedEvents.{pattern_for, publisher_number, stated_by, stated_event}
+use Rattle.script_story.specs.Judging.{RunEnvironment, State, acted_by, acted_if, found_world, group_named}
+use Rattle.script_story.specs.Judging.{opening_state}
 use Rattle.script_story.specs.Judging.{outside_of, says, taken_by, with_client, with_client_too, with_group}
-use Rattle.script_story.specs.Judging.{declaring_member, declaring_mirror, mirrors_begin, mirrors_behind, watchers_at}
+use Rattle.script_story.specs.Judging.{declaring_member, declaring_mirror, mirrors_begin, mirrors_after, watchers_at}
 use Rattle.script_story.specs.Judging.{with_member_too, with_mirrors, with_watchers}
 use Rattle.script_story.specs.Story.{Reached, nothing_reached}
 use Rattle.script_story.specs.Headline.{LinesAreTaken, AreTakenFirst, ReachSoundGroups}
@@ -50,11 +51,11 @@ use Rattle.script_story.proofs.Fitting.{AreWritten, client_fits, event_fits, gro
 use Rattle.script_story.proofs.DeclaredGroups.{AreApart, AreOthers, apart_client, apart_member, differ, one_has_too}
 use Rattle.script_story.proofs.Declarations.{client_declares, member_declares, mirror_declares}
 use Rattle.script_story.proofs.HeadlineTaken.{IsMirrored, IsWatched, fetched_so, heard_so, listed_so, says_state}
-use Rattle.script_story.proofs.HeadlineTaken.{told_so}
+use Rattle.script_story.proofs.HeadlineTaken.{reported_so}
 use Rattle.script_story.proofs.HeadlineTaken.{watched_so}
 use Rattle.script_story.proofs.HeadlineGroups.{IsSoundState, declares_group, event_line}
 use Rattle.script_story.proofs.HeadlineGroups.{opened, sound_beginning, sound_from_start, sound_line}
-use Rattle.script_story.proofs.LinesTaken.{LineTaken, acted_said, nothing, stating, taken_line}
+use Rattle.script_story.proofs.LinesTaken.{LineTaken, acted_stated, nothing, stating, taken_line}
 use Rattle.script_story.proofs.HeadlineLimits.{AllWithin, BringsWithin, IsLimited, limited_after}
 use Rattle.svs_vector.specs.Rosters.{has_same_octets}
 
@@ -71,7 +72,7 @@ object_name : (name : List Component) (text : List ℕ) → HasUri name text
 object_name name text read h = read_name_valid name text read h.0 (omega (arith, h.2))
 
 valid_by : (form_verb : Verb) (d : Declared) (values : List Value) → AreWritten (form form_verb).kinds values
-    → AreOf (form form_verb).kinds values → IfSome (said_by form_verb d values) NamesAreValid
+    → AreOf (form form_verb).kinds values → IfSome (stated_by form_verb d values) NamesAreValid
 valid_by verb.Publish d (Text m ∷ Named name ∷ Number size ∷ Octets content ∷ []) words of =
     object_name name words.1.0.0 words.1.0.1 of.1.0
 valid_by verb.Insert d (Text m ∷ Text client ∷ Named name ∷ Number first ∷ Number last ∷ []) words of =
@@ -105,10 +106,10 @@ valid_some : (o : Option EventValue) (e : EventValue) → o ≡ Some e → IfSom
 valid_some o e is h = let P : Option EventValue → Type 0 = λ x. IfSome x NamesAreValid in subst P is h
 
 valid_event : (octets : List ℕ) (d : Declared) (s : Stated) (e : EventValue) → line_of octets ≡ Ok (Some s)
-    → said_event d s ≡ Some e → NamesAreValid e
+    → stated_event d s ≡ Some e → NamesAreValid e
 valid_event octets d s e read says_it =
     let text : IsLineText s octets = (line_texts s octets).0 read in
-    valid_some (said_event d s) e says_it
+    valid_some (stated_event d s) e says_it
     (valid_by s.verb d s.values (written (form s.verb).kinds s.values text.words text.texts) text.ranges)
 
 brings_within : (g : GroupKeys) (n : ℕ) (e : EventValue) → IsReady n e → NamesAreValid e
@@ -168,17 +169,17 @@ new_name d g label node members clients apart =
           (nobody_has (has_same_octets node) label node d.clients (same_name.symm node) both.1);
     }
 
--- The names are those that lines declare, behind the group's line there is a group, and what is published is within
+-- The names are those that lines declare, after the group's line there is a group, and what is published is within
 -- its limits.
-pub record IsKept (given : Given) (s : State) : Type 0 where
+pub record IsKept (env : RunEnvironment) (s : State) : Type 0 where
   pub ungrouped : s.declared.group ≡ false → s.declared.clients ≡ []
   pub members : map party_node s.declared.members ≡ s.keys.members.names
   pub clients : map party_node s.declared.clients ≡ s.keys.clients.names
   pub group : s.declared.group ≡ true → AreGroupKeys s.keys
-  pub limited : s.declared.group ≡ true → IsLimited s.keys (found_world given s)
+  pub limited : s.declared.group ≡ true → IsLimited s.keys (found_world env s)
 
-kept_beginning : (given : Given) → IsKept given opening_state
-kept_beginning given = record {
+kept_beginning : (env : RunEnvironment) → IsKept env opening_state
+kept_beginning env = record {
   ungrouped = λ h. refl;
   members = refl;
   clients = refl;
@@ -198,10 +199,11 @@ opening_insertions f (x ∷ xs) each zero = each x
 opening_insertions f (x ∷ xs) each (suc j) = opening_insertions f xs each j
 
 -- Before the first event nothing is published.
-limited_before : (given : Given) (s : State) → s.world ≡ None → IsGroup s.keys → IsLimited s.keys (found_world given s)
-limited_before given s none is =
+limited_before : (env : RunEnvironment) (s : State) → s.world ≡ None → IsGroup s.keys
+    → IsLimited s.keys (found_world env s)
+limited_before env s none is =
     let n : ℕ = length s.keys.members.names in
-    subst (IsLimited s.keys) (sym (opened given s none)) (record {
+    subst (IsLimited s.keys) (sym (opened env s none)) (record {
       are = subst (AreLogs s.keys) (sym (opening_logs _ 0 n (λ x. refl))) (logs_begin s.keys is);
       insertions = opening_insertions _ (numbers_from 0 n) (λ x number p found. absurd cc);
       issued = λ k d inside. absurd (omega (arith, inside));
@@ -209,10 +211,10 @@ limited_before given s none is =
 
 -- ---- declarations
 
-module _ (given : Given) (s : State) (sound : IsSoundState given s) (kept : IsKept given s) (octets : List ℕ)
+module _ (env : RunEnvironment) (s : State) (sound : IsSoundState env s) (kept : IsKept env s) (octets : List ℕ)
     (d : Declared) (report : List ℕ) (new : State) where
-  kept_group : (values : List Value) → line_of octets ≡ Ok (Some (said verb.Group values))
-      → after_group s.declared ≡ Ok d → with_group s d values ≡ says report new → IsKept given new
+  kept_group : (values : List Value) → line_of octets ≡ Ok (Some (statement verb.Group values))
+      → after_group s.declared ≡ Ok d → with_group s d values ≡ says report new → IsKept env new
   kept_group (Named name ∷ []) read after is =
       let declares = declares_group s.declared d after in
       let next : State = record {
@@ -228,22 +230,22 @@ module _ (given : Given) (s : State) (sound : IsSoundState given s) (kept : IsKe
         clients = none_have_keys;
         apart = All-nil (λ node. AreOthers node []);
       } in
-      let result : IsKept given next = record {
+      let result : IsKept env next = record {
         ungrouped = λ h. absurd (true≢false h);
         members = ap (map party_node) (sound.ungrouped declares.first);
         clients = ap (map party_node) (kept.ungrouped declares.first);
         group = λ h. grouped;
-        limited = λ h. limited_before given next (sound.begun (sound.uneventful declares.first))
+        limited = λ h. limited_before env next (sound.begun (sound.uneventful declares.first))
             (group_of (group_named name) grouped);
       } in
       let same : new ≡ next =
       says_state report [] new _ is ∙ ap (λ (e : Declared). record next { declared = e }) declares.is in
-      subst (IsKept given) (sym same) result
+      subst (IsKept env) (sym same) result
   kept_group values read after is = cc
 
-  kept_member : (values : List Value) → line_of octets ≡ Ok (Some (said verb.Member values))
-      → after_line s.declared (said verb.Member values) ≡ Ok d → declaring_member s d values ≡ says report new
-      → IsKept given new
+  kept_member : (values : List Value) → line_of octets ≡ Ok (Some (statement verb.Member values))
+      → after_line s.declared (statement verb.Member values) ≡ Ok d → declaring_member s d values ≡ says report new
+      → IsKept env new
   kept_member (Text label ∷ Named node ∷ Octets key ∷ []) read after is =
       let m = member_declares s.declared d label node key after in
       let fits = member_fits octets label node key read in
@@ -263,23 +265,23 @@ module _ (given : Given) (s : State) (sound : IsSoundState given s) (kept : IsKe
         clients = group.clients;
         apart = apart_member s.keys.members s.keys.clients node key group.apart free.client;
       } in
-      let result : IsKept given next = record {
+      let result : IsKept env next = record {
         ungrouped = λ h. absurd (true≢false (sym m.0.group ∙ h));
         members = map-append party_node s.declared.members (party label node ∷ [])
             ∙ ap (λ (xs : List (List Component)). xs ++ node ∷ []) kept.members;
         clients = kept.clients;
         group = λ h. grouped;
-        limited = λ h. limited_before given next (sound.begun m.0.early)
+        limited = λ h. limited_before env next (sound.begun m.0.early)
             (group_of (with_member_too node key s.keys) grouped);
       } in
       let same : new ≡ next =
       says_state report [] new _ is ∙ ap (λ (e : Declared). record next { declared = e }) (sym m.1) in
-      subst (IsKept given) (sym same) result
+      subst (IsKept env) (sym same) result
   kept_member values read after is = cc
 
-  kept_client : (values : List Value) → line_of octets ≡ Ok (Some (said verb.Client values))
-      → after_line s.declared (said verb.Client values) ≡ Ok d → with_client s d values ≡ says report new
-      → IsKept given new
+  kept_client : (values : List Value) → line_of octets ≡ Ok (Some (statement verb.Client values))
+      → after_line s.declared (statement verb.Client values) ≡ Ok d → with_client s d values ≡ says report new
+      → IsKept env new
   kept_client (Text label ∷ Named node ∷ Octets key ∷ []) read after is =
       let m = client_declares s.declared d label node key after in
       let fits = client_fits octets label node key read in
@@ -302,22 +304,22 @@ module _ (given : Given) (s : State) (sound : IsSoundState given s) (kept : IsKe
         clients = one_has_too s.keys.clients node key group.clients fits.0 fits.1 free.client few;
         apart = apart_client s.keys.members s.keys.clients node key group.apart free.member;
       } in
-      let result : IsKept given next = record {
+      let result : IsKept env next = record {
         ungrouped = λ h. absurd (true≢false (sym m.0.group ∙ h));
         members = kept.members;
         clients = map-append party_node s.declared.clients (party label node ∷ [])
             ∙ ap (λ (xs : List (List Component)). xs ++ node ∷ []) kept.clients;
         group = λ h. grouped;
-        limited = λ h. limited_before given next (sound.begun m.0.early)
+        limited = λ h. limited_before env next (sound.begun m.0.early)
             (group_of (with_client_too node key s.keys) grouped);
       } in
       let same : new ≡ next =
       says_state report [] new _ is ∙ ap (λ (e : Declared). record next { declared = e }) (sym m.1) in
-      subst (IsKept given) (sym same) result
+      subst (IsKept env) (sym same) result
   kept_client values read after is = cc
 
-  kept_mirror : (values : List Value) → after_line s.declared (said verb.Mirror values) ≡ Ok d
-      → declaring_mirror s d values ≡ says report new → IsKept given new
+  kept_mirror : (values : List Value) → after_line s.declared (statement verb.Mirror values) ≡ Ok d
+      → declaring_mirror s d values ≡ says report new → IsKept env new
   kept_mirror (Text label ∷ publisher ∷ Named prefix ∷ []) after is =
       let both = mirror_declares s.declared d label publisher prefix after in
       let next : State = record {
@@ -328,7 +330,7 @@ module _ (given : Given) (s : State) (sound : IsSoundState given s) (kept : IsKe
         mirrors = s.mirrors
             ++ mirror_begins (length s.keys.members.names) (pattern_for (publisher_number d publisher) prefix) ∷ [];
       } in
-      let result : IsKept given next = record {
+      let result : IsKept env next = record {
         ungrouped = kept.ungrouped;
         members = kept.members;
         clients = kept.clients;
@@ -337,19 +339,19 @@ module _ (given : Given) (s : State) (sound : IsSoundState given s) (kept : IsKe
       } in
       let same : new ≡ next =
       says_state report [] new _ is ∙ ap (λ (e : Declared). record next { declared = e }) (sym both.1) in
-      subst (IsKept given) (sym same) result
+      subst (IsKept env) (sym same) result
   kept_mirror values after is = cc
 
   -- ---- events
 
   kept_event : (stated : Stated) → line_of octets ≡ Ok (Some stated) → after_line s.declared stated ≡ Ok d
       → checking.after_event s.declared stated ≡ Ok d
-      → acted_if given s d (said_event d stated) ≡ says report new → IsKept given new
+      → acted_if env s d (stated_event d stated) ≡ says report new → IsKept env new
   kept_event stated read after taken is =
-      let acts = acted_said given s d stated report new (said_event d stated) refl is in
+      let acts = acted_stated env s d stated report new (stated_event d stated) refl is in
       let e : EventValue = acts.0 in
-      let out : Outside = outside_of given s.keys in
-      let w : World = found_world given s in
+      let out : Environment = outside_of env s.keys in
+      let w : World = found_world env s in
       let event : group.Event = group_event s.keys e in
       let declares = event_line s.declared d stated taken in
       let members : d.members ≡ s.declared.members = ap (λ (x : Declared). x.members) declares.is in
@@ -366,25 +368,25 @@ module _ (given : Given) (s : State) (sound : IsSoundState given s) (kept : IsKe
         keys = s.keys;
         world = Some (after_event out w event);
         watchers = s.watchers;
-        mirrors = mirrors_behind (after_event out w event) e s.mirrors;
+        mirrors = mirrors_after (after_event out w event) e s.mirrors;
       } in
-      let result : IsKept given next = record {
+      let result : IsKept env next = record {
         ungrouped = λ h. absurd (true≢false (sym grouped ∙ h));
         members = ap (map party_node) members ∙ kept.members;
         clients = ap (map party_node) clients ∙ kept.clients;
         group = λ h. kept.group declares.grouped;
         limited = λ h. limited_after s.keys out w event brings ready (kept.limited declares.grouped);
       } in
-      subst (IsKept given) (sym acts.2.next) result
+      subst (IsKept env) (sym acts.2.next) result
 
-  kept_watched : (stated : Stated) → checking.after_event s.declared stated ≡ Ok d → IsWatched given s d new
-      → IsKept given new
+  kept_watched : (stated : Stated) → checking.after_event s.declared stated ≡ Ok d → IsWatched env s d new
+      → IsKept env new
   kept_watched stated taken watched =
       let declares = event_line s.declared d stated taken in
       let members : d.members ≡ s.declared.members = ap (λ (x : Declared). x.members) declares.is in
       let clients : d.clients ≡ s.declared.clients = ap (λ (x : Declared). x.clients) declares.is in
       let grouped : d.group ≡ true = ap (λ (x : Declared). x.group) declares.is ∙ declares.grouped in
-      let result : IsKept given (with_watchers (found_world given s) s d watched.m
+      let result : IsKept env (with_watchers (found_world env s) s d watched.m
       (after_watch_call watched.call (watchers_at s watched.m))) = record {
         ungrouped = λ h. absurd (true≢false (sym grouped ∙ h));
         members = ap (map party_node) members ∙ kept.members;
@@ -392,73 +394,73 @@ module _ (given : Given) (s : State) (sound : IsSoundState given s) (kept : IsKe
         group = λ h. kept.group declares.grouped;
         limited = λ h. kept.limited declares.grouped;
       } in
-      subst (IsKept given) (sym watched.next) result
+      subst (IsKept env) (sym watched.next) result
 
-  kept_mirrored : (stated : Stated) → checking.after_event s.declared stated ≡ Ok d → IsMirrored given s d new
-      → IsKept given new
+  kept_mirrored : (stated : Stated) → checking.after_event s.declared stated ≡ Ok d → IsMirrored env s d new
+      → IsKept env new
   kept_mirrored stated taken mirrored =
       let declares = event_line s.declared d stated taken in
       let members : d.members ≡ s.declared.members = ap (λ (x : Declared). x.members) declares.is in
       let clients : d.clients ≡ s.declared.clients = ap (λ (x : Declared). x.clients) declares.is in
       let grouped : d.group ≡ true = ap (λ (x : Declared). x.group) declares.is ∙ declares.grouped in
-      let result : IsKept given (with_mirrors (found_world given s) s d mirrored.mirrors) = record {
+      let result : IsKept env (with_mirrors (found_world env s) s d mirrored.mirrors) = record {
         ungrouped = λ h. absurd (true≢false (sym grouped ∙ h));
         members = ap (map party_node) members ∙ kept.members;
         clients = ap (map party_node) clients ∙ kept.clients;
         group = λ h. kept.group declares.grouped;
         limited = λ h. kept.limited declares.grouped;
       } in
-      subst (IsKept given) (sym mirrored.next) result
+      subst (IsKept env) (sym mirrored.next) result
 
-  kept_stated : (form_verb : Verb) (values : List Value) → line_of octets ≡ Ok (Some (said form_verb values))
-      → after_line s.declared (said form_verb values) ≡ Ok d
-      → taken_by form_verb given s d (said form_verb values) ≡ says report new → IsKept given new
+  kept_stated : (form_verb : Verb) (values : List Value) → line_of octets ≡ Ok (Some (statement form_verb values))
+      → after_line s.declared (statement form_verb values) ≡ Ok d
+      → taken_by form_verb env s d (statement form_verb values) ≡ says report new → IsKept env new
   unfolding acted_by
   kept_stated verb.Group values read after is = kept_group values read after is
   kept_stated verb.Member values read after is = kept_member values read after is
   kept_stated verb.Client values read after is = kept_client values read after is
   kept_stated verb.Mirror values read after is = kept_mirror values after is
   kept_stated verb.Watch values read after is =
-      kept_watched (said verb.Watch values) after (watched_so given s d values report new is)
+      kept_watched (statement verb.Watch values) after (watched_so env s d values report new is)
   kept_stated verb.Told values read after is =
-      kept_watched (said verb.Told values) after (told_so given s d values report new is)
+      kept_watched (statement verb.Told values) after (reported_so env s d values report new is)
   kept_stated verb.Mdeliver values read after is =
-      kept_mirrored (said verb.Mdeliver values) after (heard_so given s d values report new is)
+      kept_mirrored (statement verb.Mdeliver values) after (heard_so env s d values report new is)
   kept_stated verb.Mfetch values read after is =
-      kept_mirrored (said verb.Mfetch values) after (fetched_so given s d values report new is)
+      kept_mirrored (statement verb.Mfetch values) after (fetched_so env s d values report new is)
   kept_stated verb.Mcatalogue values read after is =
-      kept_mirrored (said verb.Mcatalogue values) after (listed_so given s d values report new is)
-  kept_stated form_verb values read after is = kept_event (said form_verb values) read after after is
+      kept_mirrored (statement verb.Mcatalogue values) after (listed_so env s d values report new is)
+  kept_stated form_verb values read after is = kept_event (statement form_verb values) read after after is
 
 -- ---- lines
 
-kept_line : (given : Given) (s : State) (line report : List ℕ) (new : State) → LineTaken given s line report new
-    → IsSoundState given s → IsKept given s → IsKept given new
-kept_line given s line report new (nothing read same) sound kept = subst (IsKept given) (sym same) kept
-kept_line given s line report new (stating stated d read after is) sound kept =
-    kept_stated given s sound kept line d report new stated.verb stated.values read after is
+kept_line : (env : RunEnvironment) (s : State) (line report : List ℕ) (new : State) → LineTaken env s line report new
+    → IsSoundState env s → IsKept env s → IsKept env new
+kept_line env s line report new (nothing read same) sound kept = subst (IsKept env) (sym same) kept
+kept_line env s line report new (stating stated d read after is) sound kept =
+    kept_stated env s sound kept line d report new stated.verb stated.values read after is
 
-kept_lines : (given : Given) (r : Reached) (lines reports : List (List ℕ)) (last : Reached)
-    → LinesAreTaken given r lines reports last → IsSoundState given r.state → IsKept given r.state
-    → IsKept given last.state
-kept_lines given r [] [] last taken sound kept = subst (λ (x : Reached). IsKept given x.state) (sym taken) kept
-kept_lines given r [] (report ∷ reports) last taken sound kept = absurd taken
-kept_lines given r (line ∷ lines) [] last taken sound kept = absurd taken
-kept_lines given r (line ∷ lines) (report ∷ reports) last taken sound kept =
+kept_lines : (env : RunEnvironment) (r : Reached) (lines reports : List (List ℕ)) (last : Reached)
+    → LinesAreTaken env r lines reports last → IsSoundState env r.state → IsKept env r.state
+    → IsKept env last.state
+kept_lines env r [] [] last taken sound kept = subst (λ (x : Reached). IsKept env x.state) (sym taken) kept
+kept_lines env r [] (report ∷ reports) last taken sound kept = absurd taken
+kept_lines env r (line ∷ lines) [] last taken sound kept = absurd taken
+kept_lines env r (line ∷ lines) (report ∷ reports) last taken sound kept =
     let next : Reached = taken.0 in
-    let it = taken_line given r line report next taken.1 in
-    kept_lines given next lines reports last taken.2 (sound_line given r.state line report next.state it sound)
-    (kept_line given r.state line report next.state it sound kept)
+    let it = taken_line env r line report next taken.1 in
+    kept_lines env next lines reports last taken.2 (sound_line env r.state line report next.state it sound)
+    (kept_line env r.state line report next.state it sound kept)
 
-pub kept_from_start : (given : Given) (lines reports : List (List ℕ)) (r : Reached)
-    → AreTakenFirst given lines reports r
-    → IsKept given r.state
-kept_from_start given lines reports r taken =
-    kept_lines given nothing_reached lines reports r taken (sound_beginning given) (kept_beginning given)
+pub kept_from_start : (env : RunEnvironment) (lines reports : List (List ℕ)) (r : Reached)
+    → AreTakenFirst env lines reports r
+    → IsKept env r.state
+kept_from_start env lines reports r taken =
+    kept_lines env nothing_reached lines reports r taken (sound_beginning env) (kept_beginning env)
 
 pub reach_sound : ReachSoundGroups
-reach_sound given lines reports r taken =
-    let s : IsSoundState given r.state = sound_from_start given lines reports r taken in
+reach_sound env lines reports r taken =
+    let s : IsSoundState env r.state = sound_from_start env lines reports r taken in
     let count : length (map party_label r.state.declared.members) ≡ length r.state.declared.members =
     length-map r.state.declared.members party_label in
     record {
@@ -466,5 +468,5 @@ reach_sound given lines reports r taken =
       members = s.many ∙ sym count;
       names = s.names ∙ sym count;
       labels = s.labels;
-      published = λ is. ((kept_from_start given lines reports r taken).limited is).are;
+      published = λ is. ((kept_from_start env lines reports r taken).limited is).are;
     }

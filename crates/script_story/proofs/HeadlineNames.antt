@@ -1,4 +1,4 @@
--- The report of a line that is taken tells of members alone that lines declared.
+-- The report of a line that is taken reports members alone that lines declared.
 use Rattle.std.proofs.Common.{◌≡◌, ◌∙◌, ℕ, ◌+◌, ◌<◌, Bool, true, false, nat_le, List, [], ◌∷◌, length, map}
 use Rattle.std.proofs.Common.{filter, Option, Some, None, Result, Ok, Err, refl, sym, ap, subst, arith, if◌then◌else◌}
 use Rattle.std.specs.Prelude.{is_some}
@@ -10,11 +10,11 @@ use Rattle.repo_catalog.specs.Entries.{publication_of}
 use Rattle.repo_watch.specs.Watching.{Watching, after_add, after_take, is_news, news_of, watch_of}
 use Rattle.sorted_lists.proofs.Sets.{In, from_map}
 use Rattle.group_model.specs.Publications.{Publication, published, published_entry}
-use Rattle.group_model.specs.World.{Outside, World, catalogue_at, logs}
+use Rattle.group_model.specs.World.{Environment, World, catalogue_at, logs}
 use Rattle.group_model.specs.Refusals as group
 use Rattle.group_model.proofs.Lists.{from_filter}
 use Rattle.group_model.proofs.Parts.{in_published, in_range}
-use Rattle.bench_world.specs.EventValues.{EventValue, telling}
+use Rattle.bench_world.specs.EventValues.{EventValue, event_report}
 use Rattle.bench_world.specs.Steps.{NamesAll}
 use Rattle.bench_world.proofs.Names.{names_all}
 use Rattle.bench_world.proofs.NextParts.{all_from_in}
@@ -34,12 +34,13 @@ use Rattle.script_report.specs.Texts.{watch_text}
 use Rattle.script_report.specs.declared.refusal.Refusal.TheVariants as refusal
 use Rattle.script_report.specs.Labels.{label_at}
 use Rattle.script_story.specs.Mirrors.{Mirroring, is_listed_by, mirror_of, mirrored_entries}
-use Rattle.script_story.specs.SaidEvents.{mirror_number, party_number, pattern_for, publisher_number, said_event}
-use Rattle.script_story.specs.ToldMembers.{TellsOfMembers, ReportsTellOfMembers, mirror_fetches, mirror_hears}
-use Rattle.script_story.specs.ToldMembers.{mirror_lists}
-use Rattle.script_story.specs.ToldMembers.{silent, tells, tells_news, watches}
-use Rattle.script_story.specs.ToldTexts.{news_in, news_text}
-use Rattle.script_story.specs.Judging.{Given, State, acted_by, acted_if, checked, found_world, judged, judged_line}
+use Rattle.script_story.specs.StatedEvents.{mirror_number, party_number, pattern_for, publisher_number, stated_event}
+use Rattle.script_story.specs.InformedMembers.{ReportsOfMembers, ReportsTellOfMembers, mirror_fetches, mirror_hears}
+use Rattle.script_story.specs.InformedMembers.{mirror_lists}
+use Rattle.script_story.specs.InformedMembers.{silent, tells, reports_news, watches}
+use Rattle.script_story.specs.ReportedTexts.{news_in, news_text}
+use Rattle.script_story.specs.Judging.{RunEnvironment, State, acted_by, acted_if, checked, found_world, judged}
+use Rattle.script_story.specs.Judging.{judged_line}
 use Rattle.script_story.specs.Judging.{line_taken, outside_of, read, says, taken_by, with_client, with_group}
 use Rattle.script_story.specs.Judging.{declaring_member, declaring_mirror, fetched_by, heard_by, listed_by, refused}
 use Rattle.script_story.specs.Judging.{told_by, watched_by, watchers_at, with_watchers}
@@ -49,10 +50,10 @@ use Rattle.script_story.proofs.HeadlineLines.{judged_by}
 use Rattle.script_story.proofs.HeadlineTaken.{heard_if_so, says_report, says_state}
 use Rattle.script_story.proofs.HeadlineGroups.{IsSoundState, event_line, sound_beginning}
 use Rattle.script_story.proofs.HeadlineGroups.{sound_lines}
-use Rattle.script_story.proofs.LinesTaken.{acted_said, not_checked}
+use Rattle.script_story.proofs.LinesTaken.{acted_stated, not_checked}
 
 abbrev Tells : State → List ℕ → Type 0
-Tells new report = TellsOfMembers (map party_label new.declared.members) new.declared.mirrors report
+Tells new report = ReportsOfMembers (map party_label new.declared.members) new.declared.mirrors report
 
 -- What holds of all entries holds of those that are news.
 pub news_among : (P : Entry → Type 0) (o : Option Watching) (entries : List Entry) → All P entries
@@ -97,27 +98,28 @@ module _ (s : State) (d : Declared) (report : List ℕ) (new : State) where
 
 -- ---- events
 
-module _ (given : Given) (s : State) (sound : IsSoundState given s) (line : List ℕ) (stated : Stated) (d : Declared)
+module _ (env : RunEnvironment) (s : State) (sound : IsSoundState env s) (line : List ℕ) (stated : Stated)
+    (d : Declared)
     (report : List ℕ) (new : State) (read_as : line_of line ≡ Ok (Some stated))
     (after : after_line s.declared stated ≡ Ok d) where
-  event_tells : checking.after_event s.declared stated ≡ Ok d
-      → acted_if given s d (said_event d stated) ≡ says report new → Tells new report
-  event_tells taken is =
-      let acts = acted_said given s d stated report new (said_event d stated) refl is in
+  event_reports : checking.after_event s.declared stated ≡ Ok d
+      → acted_if env s d (stated_event d stated) ≡ says report new → Tells new report
+  event_reports taken is =
+      let acts = acted_stated env s d stated report new (stated_event d stated) refl is in
       let e : EventValue = acts.0 in
-      let out : Outside = outside_of given s.keys in
-      let w : World = found_world given s in
+      let out : Environment = outside_of env s.keys in
+      let w : World = found_world env s in
       let declares = event_line s.declared d stated taken in
       let count : length d.members ≡ length s.declared.members =
       ap (λ (x : Declared). length x.members) declares.is in
       let fits = event_fits line s.declared d stated e read_as after acts.1 in
-      let all : NamesAll (length d.members) (telling s.keys out w e) =
+      let all : NamesAll (length d.members) (event_report s.keys out w e) =
       names_all (length d.members) s.keys out w (sound.names ∙ sym count) (sound.many ∙ sym count) sound.sound e
       fits.0 in
-      let labelled : NamesAll (length (map party_label d.members)) (telling s.keys out w e) =
-      subst (λ (n : ℕ). NamesAll n (telling s.keys out w e)) (sym (length-map d.members party_label)) all in
+      let labelled : NamesAll (length (map party_label d.members)) (event_report s.keys out w e) =
+      subst (λ (n : ℕ). NamesAll n (event_report s.keys out w e)) (sym (length-map d.members party_label)) all in
       subst (λ (x : State). Tells x report) (sym acts.2.next)
-      (tells (telling s.keys out w e) acts.2.text labelled)
+      (tells (event_report s.keys out w e) acts.2.text labelled)
 
   same_members : checking.after_event s.declared stated ≡ Ok d → d.members ≡ s.declared.members
   same_members taken = ap (λ (x : Declared). x.members) (event_line s.declared d stated taken).is
@@ -125,9 +127,9 @@ module _ (given : Given) (s : State) (sound : IsSoundState given s) (line : List
   as_many : length (map party_label d.members) ≡ length d.members
   as_many = length-map d.members party_label
 
-  watch_tells : (values : List Value) → watched_by (found_world given s) s d values ≡ says report new
+  watch_reports : (values : List Value) → watched_by (found_world env s) s d values ≡ says report new
       → are_members s.declared (labels_in values) ≡ true → d.members ≡ s.declared.members → Tells new report
-  watch_tells (Text m ∷ publisher ∷ Named prefix ∷ []) is known same =
+  watch_reports (Text m ∷ publisher ∷ Named prefix ∷ []) is known same =
       go (nat_le 16 (length (watchers_at s (party_number m d.members)))) is where
         labels : List (List ℕ)
         labels = map party_label d.members
@@ -140,17 +142,17 @@ module _ (given : Given) (s : State) (sound : IsSoundState given s) (line : List
 
         go : (full : Bool) → (if full then refused refusal.Limit
             else says (watch_text (label_at labels number) (length (watchers_at s number) + 1))
-            (with_watchers (found_world given s) s d number (after_add
-            (pattern_for (publisher_number d publisher) prefix) (catalogue_at (found_world given s) number)
+            (with_watchers (found_world env s) s d number (after_add
+            (pattern_for (publisher_number d publisher) prefix) (catalogue_at (found_world env s) number)
             (watchers_at s number)))) ≡ says report new → Tells new report
         go true k = cc
         go false k =
             subst (λ (x : State). Tells x report) (sym (says_state report _ new _ k))
             (watches number (length (watchers_at s number) + 1) (says_report report _ new _ k)
             (omega (arith, there, as_many)))
-  watch_tells values is known same = cc
+  watch_reports values is known same = cc
 
-  news_tell : (values : List Value) → told_by (found_world given s) s d values ≡ says report new
+  news_tell : (values : List Value) → told_by (found_world env s) s d values ≡ says report new
       → are_members s.declared (labels_in values) ≡ true → d.members ≡ s.declared.members → Tells new report
   news_tell (Text m ∷ Number n ∷ []) is known same =
       go (is_some (watch_of n (watchers_at s (party_number m d.members)))) is where
@@ -161,7 +163,7 @@ module _ (given : Given) (s : State) (sound : IsSoundState given s) (line : List
         number = party_number m d.members
 
         w : World
-        w = found_world given s
+        w = found_world env s
 
         there : number < length d.members
         there = number_within m s.declared.members d.members same (and_left (has_label m s.declared.members) _ known)
@@ -175,7 +177,7 @@ module _ (given : Given) (s : State) (sound : IsSoundState given s) (line : List
         publishers : All (λ (e : Entry). e.publisher < length labels) (catalogue_at w number)
         publishers =
             subst (λ (k : ℕ). All (λ (e : Entry). e.publisher < k) (catalogue_at w number)) (sym as_many)
-            (names_all (length d.members) s.keys (outside_of given s.keys) w (sound.names ∙ sym count)
+            (names_all (length d.members) s.keys (outside_of env s.keys) w (sound.names ∙ sym count)
             (sound.many ∙ sym count) sound.sound (EventValue.Catalogue number) there).1
 
         go : (found : Bool) → (if found then says (news_text labels number n news)
@@ -184,7 +186,7 @@ module _ (given : Given) (s : State) (sound : IsSoundState given s) (line : List
         go false k = cc
         go true k =
             subst (λ (x : State). Tells x report) (sym (says_state report _ new _ k))
-            (tells_news number n news (says_report report _ new _ k) (omega (arith, there, as_many))
+            (reports_news number n news (says_report report _ new _ k) (omega (arith, there, as_many))
             (news_among (λ (e : Entry). e.publisher < length labels) (watch_of n (watchers_at s number))
             (catalogue_at w number) publishers))
   news_tell values is known same = cc
@@ -192,33 +194,33 @@ module _ (given : Given) (s : State) (sound : IsSoundState given s) (line : List
   same_mirrors : checking.after_event s.declared stated ≡ Ok d → d.mirrors ≡ s.declared.mirrors
   same_mirrors taken = ap (λ (x : Declared). x.mirrors) (event_line s.declared d stated taken).is
 
-  -- The label is a mirror's behind the line too.
+  -- The label is a mirror's after the line too.
   mirror_known : (label : List ℕ) (rest : List (List ℕ)) → are_mirrors s.declared (label ∷ rest) ≡ true
       → d.mirrors ≡ s.declared.mirrors → is_mirror label d.mirrors ≡ true
   mirror_known label rest known same =
       ap (is_mirror label) same ∙ and_left (is_mirror label s.declared.mirrors) _ known
 
-  heard_tells : (values : List Value) → heard_by (found_world given s) s d values ≡ says report new
+  heard_reports : (values : List Value) → heard_by (found_world env s) s d values ≡ says report new
       → are_mirrors s.declared (labels_in values) ≡ true → d.mirrors ≡ s.declared.mirrors → Tells new report
-  heard_tells (Number k ∷ Text l ∷ []) is known same =
+  heard_reports (Number k ∷ Text l ∷ []) is known same =
       let i : ℕ = mirror_number l d.mirrors in
-      let heard = heard_if_so given s d (group.unless_sent (found_world given s) k) k i l report new is in
+      let heard = heard_if_so env s d (group.unless_sent (found_world env s) k) k i l report new is in
       subst (λ (x : State). Tells x report) (sym heard.mirrored.next)
       (mirror_hears k l heard.text (mirror_known l [] known same))
-  heard_tells values is known same = cc
+  heard_reports values is known same = cc
 
-  fetched_tells : (values : List Value) → fetched_by given (found_world given s) s d values ≡ says report new
+  fetched_reports : (values : List Value) → fetched_by env (found_world env s) s d values ≡ says report new
       → are_mirrors s.declared (labels_in values) ≡ true → d.mirrors ≡ s.declared.mirrors → Tells new report
-  fetched_tells (Text l ∷ Number workers ∷ Number tries ∷ Number loss ∷ []) is known same =
+  fetched_reports (Text l ∷ Number workers ∷ Number tries ∷ Number loss ∷ []) is known same =
       subst (λ (x : State). Tells x report) (sym (says_state report _ new _ is))
       (mirror_fetches l _ _ _ (says_report report _ new _ is) (mirror_known l [] known same))
-  fetched_tells values is known same = cc
+  fetched_reports values is known same = cc
 
-  listed_tells : (values : List Value) → listed_by (found_world given s) s d values ≡ says report new
+  listed_reports : (values : List Value) → listed_by (found_world env s) s d values ≡ says report new
       → are_mirrors s.declared (labels_in values) ≡ true → d.members ≡ s.declared.members
       → d.mirrors ≡ s.declared.mirrors → Tells new report
-  listed_tells (Text l ∷ []) is known members same =
-      let w : World = found_world given s in
+  listed_reports (Text l ∷ []) is known members same =
+      let w : World = found_world env s in
       let m : Mirroring = mirror_of s.mirrors (mirror_number l d.mirrors) in
       let count : length d.members ≡ length s.declared.members = ap (λ (ps : List Party). length ps) members in
       let many : length (logs w) ≡ length (map party_label d.members) =
@@ -226,7 +228,7 @@ module _ (given : Given) (s : State) (sound : IsSoundState given s) (line : List
       subst (λ (x : State). Tells x report) (sym (says_state report _ new _ is))
       (mirror_lists l (mirrored_entries w m) (says_report report _ new _ is) (mirror_known l [] known same)
       (subst (λ (n : ℕ). All (λ (e : Entry). e.publisher < n) (mirrored_entries w m)) many (of_members w m)))
-  listed_tells values is known members same = cc
+  listed_reports values is known members same = cc
 
   known_as : (form : Verb) → stated.verb ≡ form → checking.after_event s.declared stated ≡ Ok d
       → are_known_by form s.declared (labels_in stated.values) ≡ true
@@ -234,38 +236,38 @@ module _ (given : Given) (s : State) (sound : IsSoundState given s) (line : List
       subst (λ (f : Verb). are_known_by f s.declared (labels_in stated.values) ≡ true) same
       (event_line s.declared d stated taken).known
 
-  stated_tells : (form : Verb) → stated.verb ≡ form → after_by s.declared stated form stated.values ≡ Ok d
-      → taken_by form given s d stated ≡ says report new → Tells new report
+  stated_reports : (form : Verb) → stated.verb ≡ form → after_by s.declared stated form stated.values ≡ Ok d
+      → taken_by form env s d stated ≡ says report new → Tells new report
   unfolding acted_by
-  stated_tells verb.Group same taken is = group_silent s d report new stated.values is
-  stated_tells verb.Member same taken is = member_silent s d report new stated.values is
-  stated_tells verb.Client same taken is = client_silent s d report new stated.values is
-  stated_tells verb.Mirror same taken is = mirror_silent s d report new stated.values is
-  stated_tells verb.Watch same taken is =
-      watch_tells stated.values is (known_as verb.Watch same taken) (same_members taken)
-  stated_tells verb.Told same taken is =
+  stated_reports verb.Group same taken is = group_silent s d report new stated.values is
+  stated_reports verb.Member same taken is = member_silent s d report new stated.values is
+  stated_reports verb.Client same taken is = client_silent s d report new stated.values is
+  stated_reports verb.Mirror same taken is = mirror_silent s d report new stated.values is
+  stated_reports verb.Watch same taken is =
+      watch_reports stated.values is (known_as verb.Watch same taken) (same_members taken)
+  stated_reports verb.Told same taken is =
       news_tell stated.values is (known_as verb.Told same taken) (same_members taken)
-  stated_tells verb.Mdeliver same taken is =
-      heard_tells stated.values is (known_as verb.Mdeliver same taken) (same_mirrors taken)
-  stated_tells verb.Mfetch same taken is =
-      fetched_tells stated.values is (known_as verb.Mfetch same taken) (same_mirrors taken)
-  stated_tells verb.Mcatalogue same taken is =
-      listed_tells stated.values is (known_as verb.Mcatalogue same taken) (same_members taken) (same_mirrors taken)
-  stated_tells form same taken is = event_tells taken is
+  stated_reports verb.Mdeliver same taken is =
+      heard_reports stated.values is (known_as verb.Mdeliver same taken) (same_mirrors taken)
+  stated_reports verb.Mfetch same taken is =
+      fetched_reports stated.values is (known_as verb.Mfetch same taken) (same_mirrors taken)
+  stated_reports verb.Mcatalogue same taken is =
+      listed_reports stated.values is (known_as verb.Mcatalogue same taken) (same_members taken) (same_mirrors taken)
+  stated_reports form same taken is = event_reports taken is
 
 -- ---- lines
 
-line_tells : (given : Given) (s : State) (line report : List ℕ) (new : State) → IsSoundState given s
-    → judged given s line ≡ says report new → Tells new report
+line_reports : (env : RunEnvironment) (s : State) (line report : List ℕ) (new : State) → IsSoundState env s
+    → judged env s line ≡ says report new → Tells new report
 unfolding judged judged_line line_taken
-line_tells given s line report new sound h = go (line_of line) refl h where
+line_reports env s line report new sound h = go (line_of line) refl h where
   by_check : (stated : Stated) → line_of line ≡ Ok (Some stated) → (r : Result Declared CheckFault)
-      → after_line s.declared stated ≡ r → checked given s stated r ≡ says report new → Tells new report
+      → after_line s.declared stated ≡ r → checked env s stated r ≡ says report new → Tells new report
   by_check stated is (Ok d) after k =
-      stated_tells given s sound line stated d report new is after stated.verb refl after k
+      stated_reports env s sound line stated d report new is after stated.verb refl after k
   by_check stated is (Err fault) after k = absurd (not_checked fault report new k)
 
-  go : (r : Result (Option Stated) LineFault) → line_of line ≡ r → read given s r ≡ says report new → Tells new report
+  go : (r : Result (Option Stated) LineFault) → line_of line ≡ r → read env s r ≡ says report new → Tells new report
   go (Ok (Some stated)) is k = by_check stated is (after_line s.declared stated) refl k
   go (Ok None) is k = silent (says_report report [] new s k)
   go (Err line_fault.Syntax) is k = cc
@@ -273,7 +275,7 @@ line_tells given s line report new sound h = go (line_of line) refl h where
   go (Err line_fault.NoMemory) is k = cc
 
 pub reports_tell_of_members : ReportsTellOfMembers
-reports_tell_of_members given lines reports r taken line report new it =
-    line_tells given r.state line report new.state
-    (sound_lines given nothing_reached lines reports r taken (sound_beginning given))
-    (judged_by given r line report new.state it.verdict)
+reports_tell_of_members env lines reports r taken line report new it =
+    line_reports env r.state line report new.state
+    (sound_lines env nothing_reached lines reports r taken (sound_beginning env))
+    (judged_by env r line report new.state it.verdict)

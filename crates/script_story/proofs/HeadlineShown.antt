@@ -11,20 +11,20 @@ use Rattle.script_lang.specs.declared.line_fault.LineFault.{LineFault}
 use Rattle.script_lang.specs.declared.verb.Verb.{Verb}
 use Rattle.script_lang.specs.declared.verb.Verb.TheVariants as verb
 use Rattle.script_lang.specs.Kinds.{Number}
-use Rattle.script_lang.specs.Forms.{Stated, said}
+use Rattle.script_lang.specs.Forms.{Stated, statement}
 use Rattle.script_lang.specs.Lines.{line_of}
 use Rattle.script_lang.proofs.Conditions.{and_left, and_right}
 use Rattle.script_story.specs.declared.ending.Ending.{Ending}
 use Rattle.script_story.specs.declared.ending.Ending.TheVariants.{Done}
 use Rattle.repo_io.specs.Lines.{lines}
-use Rattle.script_story.specs.Judging.{Given, Verdict, says, foreign, unjudged}
+use Rattle.script_story.specs.Judging.{RunEnvironment, Verdict, says, foreign, unjudged}
 use Rattle.script_story.specs.Judging as verdict
 use Rattle.script_story.specs.Story.{Reached, Story, judged_next, nothing_reached, story_of}
 use Rattle.script_story.specs.Headline.{LinesAreTaken, AreTakenFirst, EndsBy, EndsWith, IsCatalogueLine, IsJoined}
 use Rattle.script_story.specs.Headline.{IsSameGroup, IsToldBy, Says, changes_nothing, deletes, deletes_nothing}
-use Rattle.script_story.specs.Headline.{group_at, only_tells}
+use Rattle.script_story.specs.Headline.{group_at, only_reports}
 use Rattle.script_story.specs.ShownCatalogues.{CatalogueLinesShow, SettleLinesShow, ShowsCatalogue}
-use Rattle.script_story.proofs.HeadlineLines.{each_is_taken, told_by}
+use Rattle.script_story.proofs.HeadlineLines.{each_is_taken, reported_by}
 use Rattle.script_story.proofs.HeadlineCatalogues.{prints_catalogues}
 use Rattle.script_story.proofs.HeadlineDeletions.{hides_by_deletion_alone}
 use Rattle.script_story.proofs.HeadlineSettles.{lines_tell, settles_join}
@@ -33,10 +33,10 @@ use Rattle.script_story.proofs.HeadlineChecks.{members_hold_checked}
 -- ---- a script that is done
 
 -- All lines of it are taken, and its text is their reports.
-record AllTaken (given : Given) (script : List (List ℕ)) (text : List ℕ) : Type 0 where
+record AllTaken (env : RunEnvironment) (script : List (List ℕ)) (text : List ℕ) : Type 0 where
   reports : List (List ℕ)
   last : Reached
-  taken : AreTakenFirst given script reports last
+  taken : AreTakenFirst env script reports last
   text_is : text ≡ concat reports
 
 not_done : (number : ℕ) (v : Verdict) (text : List ℕ) (ending : Ending) → EndsBy number v text ending → ending ≡ Done
@@ -46,56 +46,57 @@ not_done number (verdict.refused why) text ending ends done = let one = sym ends
 not_done number foreign text ending ends done = let one = sym ends.1 ∙ done in cc
 not_done number unjudged text ending ends done = ends
 
-done_taken : (given : Given) (script : List (List ℕ)) (s : Story) → IsToldBy given nothing_reached script s
-    → s.ending ≡ Done → AllTaken given script s.text
-done_taken given script s told done = go told.others told.lines told.ends where
-  go : (others : List (List ℕ)) → script ≡ told.first ++ others
-      → EndsWith given told.last others told.end s.ending → AllTaken given script s.text
+done_taken : (env : RunEnvironment) (script : List (List ℕ)) (s : Story) → IsToldBy env nothing_reached script s
+    → s.ending ≡ Done → AllTaken env script s.text
+done_taken env script s reported done = go reported.others reported.lines reported.ends where
+  go : (others : List (List ℕ)) → script ≡ reported.first ++ others
+      → EndsWith env reported.last others reported.end s.ending → AllTaken env script s.text
   go [] cut ends =
-      let whole : script ≡ told.first = cut ∙ append-nil told.first in
+      let whole : script ≡ reported.first = cut ∙ append-nil reported.first in
       record {
-        reports = told.reports;
-        last = told.last;
-        taken = subst (λ (ls : List (List ℕ)). AreTakenFirst given ls told.reports told.last) (sym whole) told.taken;
-        text_is = told.text ∙ ap (λ (end : List ℕ). concat told.reports ++ end) ends.0
-            ∙ append-nil (concat told.reports);
+        reports = reported.reports;
+        last = reported.last;
+        taken = subst (λ (ls : List (List ℕ)). AreTakenFirst env ls reported.reports reported.last) (sym whole)
+            reported.taken;
+        text_is = reported.text ∙ ap (λ (end : List ℕ). concat reported.reports ++ end) ends.0
+            ∙ append-nil (concat reported.reports);
       }
   go (line ∷ others) cut ends =
-      absurd (not_done (told.last.lines + 1) (judged_next given told.last line) told.end s.ending ends done)
+      absurd (not_done (reported.last.lines + 1) (judged_next env reported.last line) reported.end s.ending ends done)
 
 pub catalogue_lines_show : CatalogueLinesShow
-catalogue_lines_show given input before line others label done cut stated =
-    let s : Story = story_of given input in
-    let all = done_taken given (lines input) s (told_by given nothing_reached (lines input)) done in
-    let taken : LinesAreTaken given nothing_reached (before ++ line ∷ others) all.reports all.last =
-    subst (λ (ls : List (List ℕ)). LinesAreTaken given nothing_reached ls all.reports all.last) cut all.taken in
-    let amid = each_is_taken given nothing_reached before line others all.reports all.last taken in
-    let it : IsCatalogueLine given amid.here label amid.report amid.new =
+catalogue_lines_show env input before line others label done cut stated =
+    let s : Story = story_of env input in
+    let all = done_taken env (lines input) s (reported_by env nothing_reached (lines input)) done in
+    let taken : LinesAreTaken env nothing_reached (before ++ line ∷ others) all.reports all.last =
+    subst (λ (ls : List (List ℕ)). LinesAreTaken env nothing_reached ls all.reports all.last) cut all.taken in
+    let amid = each_is_taken env nothing_reached before line others all.reports all.last taken in
+    let it : IsCatalogueLine env amid.here label amid.report amid.new =
     record { line = line; stated = stated; taken = amid.it } in
-    let shown = prints_catalogues given before amid.told amid.here amid.before_it label amid.report amid.new it in
+    let shown = prints_catalogues env before amid.reported amid.here amid.before_it label amid.report amid.new it in
     record {
       here = amid.here;
-      reports = amid.told;
+      reports = amid.reported;
       taken = amid.before_it;
       report = amid.report;
       rest = concat amid.later;
       text_is = all.text_is ∙ ap (λ (rs : List (List ℕ)). concat rs) amid.reports_are
-          ∙ concat-append amid.told (amid.report ∷ amid.later);
+          ∙ concat-append amid.reported (amid.report ∷ amid.later);
       shown = shown;
-      checked = members_hold_checked given before amid.told amid.here amid.before_it shown.number shown.there;
+      checked = members_hold_checked env before amid.reported amid.here amid.before_it shown.number shown.there;
     }
 
 -- ---- a settle
 
 -- What changes nothing deletes nothing.
-tells_or_deletes : (form : Verb) → only_tells form ≡ true → not (deletes form) ≡ true
-tells_or_deletes verb.Delete only = cc
-tells_or_deletes verb.Order only = cc
-tells_or_deletes form only = refl
+reports_or_deletes : (form : Verb) → only_reports form ≡ true → not (deletes form) ≡ true
+reports_or_deletes verb.Delete only = cc
+reports_or_deletes verb.Order only = cc
+reports_or_deletes form only = refl
 
 spares : (r : Result (Option Stated) LineFault) → changes_nothing r ≡ true → deletes_nothing r ≡ true
 spares (Ok None) h = refl
-spares (Ok (Some stated)) h = tells_or_deletes stated.verb h
+spares (Ok (Some stated)) h = reports_or_deletes stated.verb h
 spares (Err fault) h = refl
 
 all_spare : (ls : List (List ℕ)) → list_all (λ l. changes_nothing (line_of l)) ls ≡ true
@@ -113,39 +114,40 @@ all_both (a ∷ cs) bs h k =
     and_from (deletes_nothing (line_of a)) _ (and_left (deletes_nothing (line_of a)) _ h)
     (all_both cs bs (and_right (deletes_nothing (line_of a)) _ h) k)
 
-settle_spares : (settle : List ℕ) (workers : ℕ) → Says settle (said verb.Settle (Number workers ∷ []))
+settle_spares : (settle : List ℕ) (workers : ℕ) → Says settle (statement verb.Settle (Number workers ∷ []))
     → deletes_nothing (line_of settle) ≡ true
 settle_spares settle workers stated = ap deletes_nothing stated
 
 -- Right after a `settle` line, where nothing can have been deleted, the catalogues are joined.
-pub joined_behind : (given : Given) (before : List (List ℕ)) (settle : List ℕ) (workers : ℕ)
-    (between reports : List (List ℕ)) (r : Reached) → AreTakenFirst given (before ++ settle ∷ between) reports r
-    → list_all (λ l. deletes_nothing (line_of l)) before ≡ true → Says settle (said verb.Settle (Number workers ∷ []))
-    → list_all (λ l. changes_nothing (line_of l)) between ≡ true → AllJoined (group_at given r)
-joined_behind given before settle workers between reports r taken kept settles between_tells =
-    let amid = each_is_taken given nothing_reached before settle between reports r taken in
-    let tells : IsSameGroup given amid.new r =
-    lines_tell given amid.new between amid.later r amid.behind_it between_tells in
+pub joined_after : (env : RunEnvironment) (before : List (List ℕ)) (settle : List ℕ) (workers : ℕ)
+    (between reports : List (List ℕ)) (r : Reached) → AreTakenFirst env (before ++ settle ∷ between) reports r
+    → list_all (λ l. deletes_nothing (line_of l)) before ≡ true
+    → Says settle (statement verb.Settle (Number workers ∷ []))
+    → list_all (λ l. changes_nothing (line_of l)) between ≡ true → AllJoined (group_at env r)
+joined_after env before settle workers between reports r taken kept settles between_reports =
+    let amid = each_is_taken env nothing_reached before settle between reports r taken in
+    let tells : IsSameGroup env amid.new r =
+    lines_tell env amid.new between amid.later r amid.after_it between_reports in
     let no_deletion : list_all (λ l. deletes_nothing (line_of l)) (before ++ settle ∷ between) ≡ true =
     all_both before (settle ∷ between) kept
     (and_from (deletes_nothing (line_of settle)) _ (settle_spares settle workers settles)
-    (all_spare between between_tells)) in
-    let hidden : NothingHidden (group_at given amid.new) =
+    (all_spare between between_reports)) in
+    let hidden : NothingHidden (group_at env amid.new) =
     subst NothingHidden tells.group
-    (hides_by_deletion_alone given (before ++ settle ∷ between) reports r taken no_deletion) in
-    let joined : IsJoined given amid.new =
-    settles_join given before amid.told amid.here amid.before_it amid.report amid.new
+    (hides_by_deletion_alone env (before ++ settle ∷ between) reports r taken no_deletion) in
+    let joined : IsJoined env amid.new =
+    settles_join env before amid.reported amid.here amid.before_it amid.report amid.new
     (record { line = settle; workers = workers; stated = settles; taken = amid.it }) hidden in
     subst AllJoined (sym tells.group) joined.all
 
 pub settle_lines_show : SettleLinesShow
-settle_lines_show given input before settle workers between line others label done cut kept settles between_tells
+settle_lines_show env input before settle workers between line others label done cut kept settles between_reports
     stated =
     let first : List (List ℕ) = before ++ settle ∷ between in
     let same : first ++ line ∷ others ≡ before ++ settle ∷ (between ++ line ∷ others) =
     append_assoc before (settle ∷ between) (line ∷ others) in
-    let c : ShowsCatalogue given first label (story_of given input).text =
-    catalogue_lines_show given input first line others label done (cut ∙ sym same) stated in
-    let all : AllJoined (group_at given c.here) =
-    joined_behind given before settle workers between c.reports c.here c.taken kept settles between_tells in
+    let c : ShowsCatalogue env first label (story_of env input).text =
+    catalogue_lines_show env input first line others label done (cut ∙ sym same) stated in
+    let all : AllJoined (group_at env c.here) =
+    joined_after env before settle workers between c.reports c.here c.taken kept settles between_reports in
     record { catalogue = c; joined = all c.shown.number c.shown.there }

@@ -15,85 +15,86 @@ use Rattle.script_report.specs.Texts.{mdeliver_text, watch_text}
 use Rattle.script_report.specs.declared.refusal.Refusal.TheVariants as refusal
 use Rattle.script_report.specs.Labels.{label_at}
 use Rattle.script_story.specs.Mirrors.{Mirroring, mirror_fetches, mirror_hears, mirror_of, mirror_settles}
-use Rattle.script_story.specs.SaidEvents.{mirror_number, party_number, pattern_for, publisher_number}
-use Rattle.script_story.specs.ToldTexts.{news_in, news_text}
-use Rattle.script_story.specs.Judging.{Given, State, found_world, refused, says, told_at, told_by, watched_by}
+use Rattle.script_story.specs.StatedEvents.{mirror_number, party_number, pattern_for, publisher_number}
+use Rattle.script_story.specs.ReportedTexts.{news_in, news_text}
+use Rattle.script_story.specs.Judging.{RunEnvironment, State, found_world, refused, says, told_at, told_by, watched_by}
 use Rattle.script_story.specs.Judging.{watchers_at}
-use Rattle.script_story.specs.Judging.{event_refused, fetched_by, heard_by, heard_if, listed_by, mirrors_behind}
+use Rattle.script_story.specs.Judging.{event_refused, fetched_by, heard_by, heard_if, listed_by, mirrors_after}
 use Rattle.script_story.specs.Judging.{with_mirror, with_mirrors, with_watchers}
 
-pub says_report : (report told : List ℕ) (new s : State) → says told s ≡ says report new → report ≡ told
-says_report report told new s h = cc
+pub says_report : (report reported : List ℕ) (new s : State) → says reported s ≡ says report new → report ≡ reported
+says_report report reported new s h = cc
 
-pub says_state : (report told : List ℕ) (new s : State) → says told s ≡ says report new → new ≡ s
-says_state report told new s h = cc
+pub says_state : (report reported : List ℕ) (new s : State) → says reported s ≡ says report new → new ≡ s
+says_state report reported new s h = cc
 
 -- A line of watchers was taken: the group is as it was found, and this was asked of the watchers of one member.
-pub record IsWatched (given : Given) (s : State) (d : Declared) (new : State) : Type 0 where
+pub record IsWatched (env : RunEnvironment) (s : State) (d : Declared) (new : State) : Type 0 where
   pub m : ℕ
   pub call : WatchCall
-  pub next : new ≡ with_watchers (found_world given s) s d m (after_watch_call call (watchers_at s m))
+  pub next : new ≡ with_watchers (found_world env s) s d m (after_watch_call call (watchers_at s m))
 
-pub watched_so : (given : Given) (s : State) (d : Declared) (values : List Value) (report : List ℕ) (new : State)
-    → watched_by (found_world given s) s d values ≡ says report new → IsWatched given s d new
-watched_so given s d (Text label ∷ publisher ∷ Named prefix ∷ []) report new is =
+pub watched_so : (env : RunEnvironment) (s : State) (d : Declared) (values : List Value) (report : List ℕ) (new : State)
+    → watched_by (found_world env s) s d values ≡ says report new → IsWatched env s d new
+watched_so env s d (Text label ∷ publisher ∷ Named prefix ∷ []) report new is =
     go (nat_le 16 (length (watchers_at s m))) is where
       m : ℕ
       m = party_number label d.members
 
       call : WatchCall
-      call = Add (pattern_for (publisher_number d publisher) prefix) (catalogue_at (found_world given s) m)
+      call = Add (pattern_for (publisher_number d publisher) prefix) (catalogue_at (found_world env s) m)
 
       go : (full : Bool) → (if full then refused refusal.Limit
           else says (watch_text (label_at (map party_label d.members) m) (length (watchers_at s m) + 1))
-          (with_watchers (found_world given s) s d m (after_watch_call call (watchers_at s m)))) ≡ says report new
-          → IsWatched given s d new
+          (with_watchers (found_world env s) s d m (after_watch_call call (watchers_at s m)))) ≡ says report new
+          → IsWatched env s d new
       go true k = cc
       go false k = record { m = m; call = call; next = says_state report _ new _ k }
-watched_so given s d values report new is = cc
+watched_so env s d values report new is = cc
 
--- The watcher of a number was told its news.
-pub record IsTold (given : Given) (s : State) (d : Declared) (m number : ℕ) (report : List ℕ)
+-- The watcher of a number was reported its news.
+pub record IsReported (env : RunEnvironment) (s : State) (d : Declared) (m number : ℕ) (report : List ℕ)
     (new : State) : Type 0 where
   pub found : is_some (watch_of number (watchers_at s m)) ≡ true
   pub text : report ≡ news_text (map party_label d.members) m number
-      (news_in (watch_of number (watchers_at s m)) (catalogue_at (found_world given s) m))
-  pub next : new ≡ with_watchers (found_world given s) s d m
-      (after_take number (catalogue_at (found_world given s) m) (watchers_at s m))
+      (news_in (watch_of number (watchers_at s m)) (catalogue_at (found_world env s) m))
+  pub next : new ≡ with_watchers (found_world env s) s d m
+      (after_take number (catalogue_at (found_world env s) m) (watchers_at s m))
 
-pub told_at_so : (given : Given) (s : State) (d : Declared) (m number : ℕ) (report : List ℕ) (new : State)
-    → told_at (found_world given s) s d m number ≡ says report new → IsTold given s d m number report new
-told_at_so given s d m number report new is = go (is_some (watch_of number (watchers_at s m))) refl is where
+pub reported_at_so : (env : RunEnvironment) (s : State) (d : Declared) (m number : ℕ) (report : List ℕ) (new : State)
+    → told_at (found_world env s) s d m number ≡ says report new → IsReported env s d m number report new
+reported_at_so env s d m number report new is = go (is_some (watch_of number (watchers_at s m))) refl is where
   news : List Entry
-  news = news_in (watch_of number (watchers_at s m)) (catalogue_at (found_world given s) m)
+  news = news_in (watch_of number (watchers_at s m)) (catalogue_at (found_world env s) m)
 
   go : (found : Bool) → is_some (watch_of number (watchers_at s m)) ≡ found
-      → (if found then says (news_text (map party_label d.members) m number news) (with_watchers (found_world given s) s
-      d m (after_take number (catalogue_at (found_world given s) m) (watchers_at s m)))
-      else refused refusal.NoSuchWatch) ≡ says report new → IsTold given s d m number report new
+      → (if found then says (news_text (map party_label d.members) m number news) (with_watchers (found_world env s) s
+      d m (after_take number (catalogue_at (found_world env s) m) (watchers_at s m)))
+      else refused refusal.NoSuchWatch) ≡ says report new → IsReported env s d m number report new
   go false there k = cc
   go true there k =
       record { found = there; text = says_report report _ new _ k; next = says_state report _ new _ k }
 
-pub told_so : (given : Given) (s : State) (d : Declared) (values : List Value) (report : List ℕ) (new : State)
-    → told_by (found_world given s) s d values ≡ says report new → IsWatched given s d new
-told_so given s d (Text label ∷ Number number ∷ []) report new is =
+pub reported_so : (env : RunEnvironment) (s : State) (d : Declared) (values : List Value) (report : List ℕ)
+    (new : State)
+    → told_by (found_world env s) s d values ≡ says report new → IsWatched env s d new
+reported_so env s d (Text label ∷ Number number ∷ []) report new is =
     let m : ℕ = party_number label d.members in
-    let told = told_at_so given s d m number report new is in
-    record { m = m; call = Take number (catalogue_at (found_world given s) m); next = told.next }
-told_so given s d values report new is = cc
+    let reported = reported_at_so env s d m number report new is in
+    record { m = m; call = Take number (catalogue_at (found_world env s) m); next = reported.next }
+reported_so env s d values report new is = cc
 
 -- ---- mirrors
 
 -- A line of mirrors was taken: the group and the watchers are as they were found, and there are as many mirrors.
-pub record IsMirrored (given : Given) (s : State) (d : Declared) (new : State) : Type 0 where
+pub record IsMirrored (env : RunEnvironment) (s : State) (d : Declared) (new : State) : Type 0 where
   pub mirrors : List Mirroring
   pub many : length mirrors ≡ length s.mirrors
-  pub next : new ≡ with_mirrors (found_world given s) s d mirrors
+  pub next : new ≡ with_mirrors (found_world env s) s d mirrors
 
-one_mirrored : (given : Given) (s : State) (d : Declared) (i : ℕ) (m : Mirroring) (new : State)
-    → new ≡ with_mirror (found_world given s) s d i m → IsMirrored given s d new
-one_mirrored given s d i m new next =
+one_mirrored : (env : RunEnvironment) (s : State) (d : Declared) (i : ℕ) (m : Mirroring) (new : State)
+    → new ≡ with_mirror (found_world env s) s d i m → IsMirrored env s d new
+one_mirrored env s d i m new next =
     record { mirrors = set s.mirrors i m; many = length-set s.mirrors i m; next = next }
 
 not_heard : (why : group.Refusal) (report : List ℕ) (new : State) → event_refused why ≡ says report new → ⊥
@@ -104,46 +105,46 @@ not_heard group.Refusal.NumbersSpent report new h = cc
 not_heard group.Refusal.Foreign report new h = cc
 not_heard group.Refusal.NoSuchNumber report new h = cc
 
--- A mirror has heard, and that is told.
-pub record HasHeard (given : Given) (s : State) (d : Declared) (k : ℕ) (label report : List ℕ)
+-- A mirror has heard, and that is reported.
+pub record HasHeard (env : RunEnvironment) (s : State) (d : Declared) (k : ℕ) (label report : List ℕ)
     (new : State) : Type 0 where
   pub text : report ≡ mdeliver_text k label
-  pub mirrored : IsMirrored given s d new
+  pub mirrored : IsMirrored env s d new
 
-pub heard_if_so : (given : Given) (s : State) (d : Declared) (o : Option group.Refusal) (k i : ℕ)
-    (label report : List ℕ) (new : State) → heard_if o (found_world given s) s d k i label ≡ says report new
-    → HasHeard given s d k label report new
-heard_if_so given s d (Some why) k i label report new h = absurd (not_heard why report new h)
-heard_if_so given s d None k i label report new h = record {
+pub heard_if_so : (env : RunEnvironment) (s : State) (d : Declared) (o : Option group.Refusal) (k i : ℕ)
+    (label report : List ℕ) (new : State) → heard_if o (found_world env s) s d k i label ≡ says report new
+    → HasHeard env s d k label report new
+heard_if_so env s d (Some why) k i label report new h = absurd (not_heard why report new h)
+heard_if_so env s d None k i label report new h = record {
   text = says_report report _ new _ h;
-  mirrored = one_mirrored given s d i
-      (mirror_hears (sent_at (found_world given s) k).vector (mirror_of s.mirrors i)) new (says_state report _ new _ h);
+  mirrored = one_mirrored env s d i
+      (mirror_hears (sent_at (found_world env s) k).vector (mirror_of s.mirrors i)) new (says_state report _ new _ h);
 }
 
-pub heard_so : (given : Given) (s : State) (d : Declared) (values : List Value) (report : List ℕ) (new : State)
-    → heard_by (found_world given s) s d values ≡ says report new → IsMirrored given s d new
-heard_so given s d (Number k ∷ Text l ∷ []) report new h =
-    (heard_if_so given s d (group.unless_sent (found_world given s) k) k (mirror_number l d.mirrors) l report new
+pub heard_so : (env : RunEnvironment) (s : State) (d : Declared) (values : List Value) (report : List ℕ) (new : State)
+    → heard_by (found_world env s) s d values ≡ says report new → IsMirrored env s d new
+heard_so env s d (Number k ∷ Text l ∷ []) report new h =
+    (heard_if_so env s d (group.unless_sent (found_world env s) k) k (mirror_number l d.mirrors) l report new
     h).mirrored
-heard_so given s d values report new h = cc
+heard_so env s d values report new h = cc
 
-pub fetched_so : (given : Given) (s : State) (d : Declared) (values : List Value) (report : List ℕ) (new : State)
-    → fetched_by given (found_world given s) s d values ≡ says report new → IsMirrored given s d new
-fetched_so given s d (Text l ∷ Number workers ∷ Number tries ∷ Number loss ∷ []) report new h =
+pub fetched_so : (env : RunEnvironment) (s : State) (d : Declared) (values : List Value) (report : List ℕ) (new : State)
+    → fetched_by env (found_world env s) s d values ≡ says report new → IsMirrored env s d new
+fetched_so env s d (Text l ∷ Number workers ∷ Number tries ∷ Number loss ∷ []) report new h =
     let i : ℕ = mirror_number l d.mirrors in
-    one_mirrored given s d i
-    (mirror_fetches given.passes (found_world given s) i tries loss (mirror_of s.mirrors i)) new
+    one_mirrored env s d i
+    (mirror_fetches env.passes (found_world env s) i tries loss (mirror_of s.mirrors i)) new
     (says_state report _ new _ h)
-fetched_so given s d values report new h = cc
+fetched_so env s d values report new h = cc
 
-pub listed_so : (given : Given) (s : State) (d : Declared) (values : List Value) (report : List ℕ) (new : State)
-    → listed_by (found_world given s) s d values ≡ says report new → IsMirrored given s d new
-listed_so given s d (Text l ∷ []) report new h =
+pub listed_so : (env : RunEnvironment) (s : State) (d : Declared) (values : List Value) (report : List ℕ) (new : State)
+    → listed_by (found_world env s) s d values ≡ says report new → IsMirrored env s d new
+listed_so env s d (Text l ∷ []) report new h =
     record { mirrors = s.mirrors; many = refl; next = says_state report _ new _ h }
-listed_so given s d values report new h = cc
+listed_so env s d values report new h = cc
 
--- There are as many behind an event.
-pub many_behind : (w : World) (e : EventValue) (mirrors : List Mirroring)
-    → length (mirrors_behind w e mirrors) ≡ length mirrors
-many_behind w (EventValue.Settle workers) mirrors = length-map mirrors (mirror_settles w)
-many_behind w e mirrors = refl
+-- There are as many after an event.
+pub many_after : (w : World) (e : EventValue) (mirrors : List Mirroring)
+    → length (mirrors_after w e mirrors) ≡ length mirrors
+many_after w (EventValue.Settle workers) mirrors = length-map mirrors (mirror_settles w)
+many_after w e mirrors = refl

@@ -1,4 +1,4 @@
--- What watchers are told over whole stories.
+-- What watchers are given over whole stories.
 use Rattle.std.proofs.Common.{◌≡◌, ◌∙◌, ℕ, ◌<◌, Bool, true, false, ◌||◌, cond, List, [], ◌∷◌, ◌++◌, length, map, Option}
 use Rattle.std.proofs.Common.{Some, refl, sym, ap, subst, arith, get_or-set_same}
 use Rattle.std.specs.Prelude.{is_some}
@@ -9,55 +9,55 @@ use Rattle.sorted_lists.specs.SortedList.{contains}
 use Rattle.repo_catalog.specs.declared.entry.Entry.{Entry}
 use Rattle.repo_catalog.specs.Entries.{entry_of, is_of, lists, publication_of}
 use Rattle.repo_watch.specs.Watching.{Watching, after_take, is_for, news_of, watch_of}
-use Rattle.repo_watch.specs.Laws.{after_watch_calls, tells, was_told}
-use Rattle.repo_watch.proofs.LawLemmas.{all_told, told_once}
+use Rattle.repo_watch.specs.Laws.{after_watch_calls, tells, was_reported}
+use Rattle.repo_watch.proofs.LawLemmas.{all_reported, reported_once}
 use Rattle.group_model.specs.World.{catalogue_at}
 use Rattle.group_model.specs.Laws.{AllJoined}
 use Rattle.script_lang.specs.declared.verb.Verb.TheVariants as verb
 use Rattle.script_lang.specs.Kinds.{Text, Number}
-use Rattle.script_lang.specs.Forms.{Stated, said}
+use Rattle.script_lang.specs.Forms.{Stated, statement}
 use Rattle.script_lang.specs.Checking.{Declared, Party, has_label, party_label}
 use Rattle.script_lang.proofs.Conditions.{and_left}
 use Rattle.script_report.specs.Labels.{label_at}
-use Rattle.script_story.specs.SaidEvents.{party_number}
-use Rattle.script_story.specs.ToldTexts.{labelled_news, news_in}
-use Rattle.script_story.specs.Judging.{Given, State, watchers_at}
+use Rattle.script_story.specs.StatedEvents.{party_number}
+use Rattle.script_story.specs.ReportedTexts.{labelled_news, news_in}
+use Rattle.script_story.specs.Judging.{RunEnvironment, State, watchers_at}
 use Rattle.script_story.specs.Story.{Reached}
 use Rattle.script_story.specs.Headline.{group_at, labels_at}
-use Rattle.script_story.specs.Watchers.{IsToldLine, SettledAreTold, WatchersAreToldAll}
-use Rattle.script_story.specs.Watchers.{WatchersAreToldOnce}
+use Rattle.script_story.specs.Watchers.{IsReportedLine, SettledAreReported, NewsIsReportedWhole}
+use Rattle.script_story.specs.Watchers.{NewsIsReportedOnce}
 use Rattle.script_story.proofs.HeadlineCatalogues.{IsNumberOf, named_by}
 use Rattle.script_story.proofs.HeadlineEvents.{lines_ask, lines_run}
 use Rattle.script_story.proofs.HeadlineGroups.{IsSoundState, event_line, sound_from_start, sound_lines}
 use Rattle.script_story.proofs.LinesTaken.{stated_taken, taken_line}
-use Rattle.script_story.proofs.HeadlineTaken.{told_at_so}
+use Rattle.script_story.proofs.HeadlineTaken.{reported_at_so}
 use Rattle.script_story.proofs.HeadlineListings.{number_of}
-use Rattle.script_story.proofs.HeadlineShown.{joined_behind}
+use Rattle.script_story.proofs.HeadlineShown.{joined_after}
 use Rattle.script_story.proofs.HeadlineNames.{news_pairs}
 
 -- ---- one line
 
--- Behind a `told` line the watcher was told the news of the member with the label.
-record IsToldSo (given : Given) (r : Reached) (label : List ℕ) (number : ℕ) (report : List ℕ)
+-- After a `told` line the watcher was given the news of the member with the label.
+record IsReportedSo (env : RunEnvironment) (r : Reached) (label : List ℕ) (number : ℕ) (report : List ℕ)
     (new : Reached) : Type 0 where
   m : ℕ
   is : m ≡ party_number label r.state.declared.members
   there : m < length r.state.declared.members
   text : report ≡ labelled_news (labels_at r) label number
-      (news_in (watch_of number (watchers_at r.state m)) (catalogue_at (group_at given r) m))
+      (news_in (watch_of number (watchers_at r.state m)) (catalogue_at (group_at env r) m))
   watchers : watchers_at new.state m
-      ≡ after_take number (catalogue_at (group_at given r) m) (watchers_at r.state m)
+      ≡ after_take number (catalogue_at (group_at env r) m) (watchers_at r.state m)
   begun : new.state.declared.events ≡ true
   members : new.state.declared.members ≡ r.state.declared.members
 
-told_line : (given : Given) (r : Reached) (label : List ℕ) (number : ℕ) (report : List ℕ) (new : Reached)
-    → IsSoundState given r.state → IsToldLine given r label number report new
-    → IsToldSo given r label number report new
-told_line given r label number report new sound l =
+reported_line : (env : RunEnvironment) (r : Reached) (label : List ℕ) (number : ℕ) (report : List ℕ) (new : Reached)
+    → IsSoundState env r.state → IsReportedLine env r label number report new
+    → IsReportedSo env r label number report new
+reported_line env r label number report new sound l =
     let s : State = r.state in
-    let stated : Stated = said verb.Told (Text label ∷ Number number ∷ []) in
-    let t = stated_taken given s l.line report new.state stated l.stated
-    (taken_line given r l.line report new l.taken) in
+    let stated : Stated = statement verb.Told (Text label ∷ Number number ∷ []) in
+    let t = stated_taken env s l.line report new.state stated l.stated
+    (taken_line env r l.line report new l.taken) in
     let event = event_line s.declared t.d stated t.after in
     let same : t.d.members ≡ s.declared.members = ap (λ (x : Declared). x.members) event.is in
     let m : ℕ = party_number label t.d.members in
@@ -66,21 +66,21 @@ told_line given r label number report new sound l =
     named_by label s.declared.members (and_left (has_label label s.declared.members) _ event.known) in
     let there : m < length s.declared.members =
     subst (λ (n : ℕ). n < length s.declared.members) (sym is) named.there in
-    let entries : List Entry = catalogue_at (group_at given r) m in
+    let entries : List Entry = catalogue_at (group_at env r) m in
     let news : List Entry = news_in (watch_of number (watchers_at s m)) entries in
-    let told = told_at_so given s t.d m number report new.state t.is in
+    let reported = reported_at_so env s t.d m number report new.state t.is in
     record {
       m = m;
       is = is;
       there = there;
-      text = told.text
+      text = reported.text
           ∙ (λ i. labelled_news (map party_label (same i)) (label_at (map party_label (same i)) (is i)) number news)
           ∙ ap (λ (l : List ℕ). labelled_news (labels_at r) l number news) named.labelled;
-      watchers = ap (λ (x : State). watchers_at x m) told.next
+      watchers = ap (λ (x : State). watchers_at x m) reported.next
           ∙ get_or-set_same s.watchers m (after_take number entries (watchers_at s m)) []
           (omega (arith, there, sound.watched));
-      begun = ap (λ (x : State). x.declared.events) told.next ∙ ap (λ (x : Declared). x.events) event.is;
-      members = ap (λ (x : State). x.declared.members) told.next ∙ same;
+      begun = ap (λ (x : State). x.declared.events) reported.next ∙ ap (λ (x : Declared). x.events) event.is;
+      members = ap (λ (x : State). x.declared.members) reported.next ∙ same;
     }
 
 -- ---- publications of entries
@@ -101,21 +101,21 @@ contains_news o entries pair =
 
 -- ---- the laws
 
-pub watchers_are_told_once : WatchersAreToldOnce
-watchers_are_told_once given lines reports r taken label number first new l between told here behind later last k =
-    let sound : IsSoundState given r.state = sound_from_start given lines reports r taken in
-    let sound_new : IsSoundState given new.state =
-    sound_lines given r (l.line ∷ []) (first ∷ []) new (new, l.taken, refl) sound in
-    let sound_here : IsSoundState given here.state = sound_lines given new between told here behind sound_new in
-    let a = told_line given r label number first new sound l in
-    let b = told_line given here label number later last sound_here k in
-    let run = lines_run given new between told here behind sound_new a.begun in
+pub news_is_reported_once : NewsIsReportedOnce
+news_is_reported_once env lines reports r taken label number first new l between reported here after later last k =
+    let sound : IsSoundState env r.state = sound_from_start env lines reports r taken in
+    let sound_new : IsSoundState env new.state =
+    sound_lines env r (l.line ∷ []) (first ∷ []) new (new, l.taken, refl) sound in
+    let sound_here : IsSoundState env here.state = sound_lines env new between reported here after sound_new in
+    let a = reported_line env r label number first new sound l in
+    let b = reported_line env here label number later last sound_here k in
+    let run = lines_run env new between reported here after sound_new a.begun in
     let members : here.state.declared.members ≡ r.state.declared.members = run.members ∙ a.members in
     let same : b.m ≡ a.m = b.is ∙ ap (party_number label) members ∙ sym a.is in
-    let asked = lines_ask given new between told here behind sound_new a.begun a.m in
+    let asked = lines_ask env new between reported here after sound_new a.begun a.m in
     let ws : List Watching = watchers_at r.state a.m in
-    let es : List Entry = catalogue_at (group_at given r) a.m in
-    let fs : List Entry = catalogue_at (group_at given here) b.m in
+    let es : List Entry = catalogue_at (group_at env r) a.m in
+    let fs : List Entry = catalogue_at (group_at env here) b.m in
     let now : watchers_at here.state b.m ≡ after_watch_calls asked.calls (after_take number es ws) =
     ap (λ (n : ℕ). watchers_at here.state n) same ∙ asked.are ∙ ap (after_watch_calls asked.calls) a.watchers in
     record {
@@ -127,36 +127,37 @@ watchers_are_told_once given lines reports r taken label number first new l betw
       apart = λ pair listed.
           sym (contains_news (watch_of number (watchers_at here.state b.m)) fs pair)
           ∙ ap (λ (xs : List Watching). contains pair_cmp (tells number fs xs) pair) now
-          ∙ told_once ws number es asked.calls fs pair (contains_news (watch_of number ws) es pair ∙ listed);
+          ∙ reported_once ws number es asked.calls fs pair (contains_news (watch_of number ws) es pair ∙ listed);
     }
 
-pub watchers_are_told_all : WatchersAreToldAll
-watchers_are_told_all given lines reports r taken m number watching report new t pair listed others told last behind =
-    let sound : IsSoundState given r.state = sound_from_start given lines reports r taken in
-    let sound_new : IsSoundState given new.state =
-    sound_lines given r (t.line.line ∷ []) (report ∷ []) new (new, t.line.taken, refl) sound in
+pub news_is_reported_whole : NewsIsReportedWhole
+news_is_reported_whole env lines reports r taken m number watching report new t pair listed others reported last after =
+    let sound : IsSoundState env r.state = sound_from_start env lines reports r taken in
+    let sound_new : IsSoundState env new.state =
+    sound_lines env r (t.line.line ∷ []) (report ∷ []) new (new, t.line.taken, refl) sound in
     let parties : List Party = r.state.declared.members in
-    let a = told_line given r t.label number report new sound t.line in
+    let a = reported_line env r t.label number report new sound t.line in
     let there : m < length parties = omega (arith, t.there, length-map parties party_label) in
     let same : a.m ≡ m =
     a.is ∙ ap (λ (l : List ℕ). party_number l parties) (sym t.named) ∙ number_of parties m sound.labels there in
-    let es : List Entry = catalogue_at (group_at given r) m in
+    let es : List Entry = catalogue_at (group_at env r) m in
     let taken_it : watchers_at new.state m ≡ after_take number es (watchers_at r.state m) =
     subst (λ (n : ℕ). watchers_at new.state n
-    ≡ after_take number (catalogue_at (group_at given r) n) (watchers_at r.state n)) same a.watchers in
-    let asked = lines_ask given new others told last behind sound_new a.begun m in
-    ap (λ (ws : List Watching). was_told (watch_of number ws) pair)
+    ≡ after_take number (catalogue_at (group_at env r) n) (watchers_at r.state n)) same a.watchers in
+    let asked = lines_ask env new others reported last after sound_new a.begun m in
+    ap (λ (ws : List Watching). was_reported (watch_of number ws) pair)
     (asked.are ∙ ap (after_watch_calls asked.calls) taken_it)
-    ∙ all_told (watchers_at r.state m) number es asked.calls watching pair t.watcher
+    ∙ all_reported (watchers_at r.state m) number es asked.calls watching pair t.watcher
     (listed_among (filter (is_for watching.pattern) es) pair ∙ listed)
 
-pub settled_are_told : SettledAreTold
-settled_are_told given before settle workers between reports r taken kept settles changes m number watching report new t
+pub settled_are_reported : SettledAreReported
+settled_are_reported env before settle workers between reports r taken kept settles changes m number watching report new
+    t
     pair listed =
-    let sound : IsSoundState given r.state = sound_from_start given (before ++ settle ∷ between) reports r taken in
-    let all : AllJoined (group_at given r) =
-    joined_behind given before settle workers between reports r taken kept settles changes in
-    let there : m < length (group_at given r).members =
+    let sound : IsSoundState env r.state = sound_from_start env (before ++ settle ∷ between) reports r taken in
+    let all : AllJoined (group_at env r) =
+    joined_after env before settle workers between reports r taken kept settles changes in
+    let there : m < length (group_at env r).members =
     omega (arith, t.there, length-map r.state.declared.members party_label, sound.many) in
-    watchers_are_told_all given (before ++ settle ∷ between) reports r taken m number watching report new t pair
+    news_is_reported_whole env (before ++ settle ∷ between) reports r taken m number watching report new t pair
     (ap (λ (es : List Entry). lists pair (filter (is_for watching.pattern) es)) (all m there) ∙ listed) [] [] new refl

@@ -1,4 +1,4 @@
--- The digest of each packet behind a record stands where the record or an index packet lists it.
+-- The digest of each packet after a record stands where the record or an index packet lists it.
 use Rattle.std.proofs.Common.{◌≡◌, ℕ, ◌+◌, ◌-◌, ◌*◌, ◌^◌, ◌/◌, ◌<◌, ◌≤◌, Bool, true, false, cond, not, ◌==◌, ◌||◌}
 use Rattle.std.proofs.Common.{List, [], map, length, take, drop, get_or, min, slice_get, Option, Some, option_map}
 use Rattle.std.proofs.Common.{unwrap_or, inl, inr, refl, ap, ◌∙◌, arith}
@@ -8,7 +8,7 @@ use Rattle.std.proofs.lemmas.Bool.{cases_lt, eqb-true, ne_eqb, lt-leb}
 use Rattle.std.proofs.lemmas.List.{get_or-drop, get_or-take, length-drop, length-take}
 use Rattle.std.proofs.lemmas.Option.{get_or_from_slice_get, slice_get-get_or, slice_get-map, slice_get_within}
 use Rattle.sha2.specs.Sha256.{sha256}
-use Rattle.repo_plan.specs.Parts.{IsShape, index_packets, parent_number, parts_behind, shape_of_segments}
+use Rattle.repo_plan.specs.Parts.{IsShape, index_packets, parent_number, parts_after, shape_of_segments}
 use Rattle.repo_plan.specs.declared.shape.Shape.{Shape}
 use Rattle.repo_plan.proofs.Parents.{by_record, lists_in_turn}
 use Rattle.repo_object.specs.Objects.{IsObject, IsPost, IsPublisher, NamedContents, Post, Publisher, shape_in}
@@ -17,14 +17,14 @@ use Rattle.repo_object.specs.Publication.{listed_by, listed_packets, packet_at, 
 use Rattle.repo_object.specs.Publication.{published_segments}
 use Rattle.repo_object.specs.Verdict.{index_in}
 use Rattle.repo_object.specs.Wants.{listed_in}
-use Rattle.repo_object.proofs.Publications.{index_again, index_digest, packets-length, record_said, segment_part}
-use Rattle.script_story.specs.ListedDigests.{ListsDigest, digests_said, listed_digests}
+use Rattle.repo_object.proofs.Publications.{index_again, index_digest, packets-length, record_stated, segment_part}
+use Rattle.script_story.specs.ListedDigests.{ListsDigest, digests_stated, listed_digests}
 
 -- ---- an object
 
 module _ (by : Publisher) (is_publisher : IsPublisher by) (seq : ℕ) (low : seq < 2 ^ 16) (object : NamedContents)
-    (is_object : IsObject object) (x : ℕ) (behind : 0 < x)
-    (counted : x ≤ parts_behind (shape_of_segments (length object.contents))) (octets : List ℕ)
+    (is_object : IsObject object) (x : ℕ) (after : 0 < x)
+    (counted : x ≤ parts_after (shape_of_segments (length object.contents))) (octets : List ℕ)
     (its : packet_at by seq (Offers object) x ≡ Some octets) where
   abbrev n : ℕ
   n = length object.contents
@@ -45,7 +45,7 @@ module _ (by : Publisher) (is_publisher : IsPublisher by) (seq : ℕ) (low : seq
   sized = record { index = refl; segments = is_object.few }
 
   record_lists : listed_digests by seq (Offers object) 0 ≡ map sha256 (listed_packets by seq object)
-  record_lists = ap digests_said (record_said by is_publisher seq (Offers object) is_object low)
+  record_lists = ap digests_stated (record_stated by is_publisher seq (Offers object) is_object low)
 
   -- where the record lists it
   in_record : k ≡ 0 → slice_get (map sha256 (listed_packets by seq object)) (x - 1) ≡ Some (sha256 octets)
@@ -58,7 +58,7 @@ module _ (by : Publisher) (is_publisher : IsPublisher by) (seq : ℕ) (low : seq
 
   of_index : x ≤ index_packets n → ListsDigest by seq (Offers object) x octets
   of_index below =
-      in_record (by_record shape x below) (index_digest by is_publisher object is_object seq x octets behind below its)
+      in_record (by_record shape x below) (index_digest by is_publisher object is_object seq x octets after below its)
 
   -- ---- a segment
 
@@ -113,19 +113,19 @@ module _ (by : Publisher) (is_publisher : IsPublisher by) (seq : ℕ) (low : seq
 
       listed_there : slice_get (listed_by segments (k - 1)) place ≡ Some octets
       listed_there =
-          let behind : List (List ℕ) = drop ((k - 1) * 200) segments in
+          let after : List (List ℕ) = drop ((k - 1) * 200) segments in
           let whole : (k - 1) * 200 + place ≡ i = omega (arith, around.0) in
           let within_all : i < length segments = slice_get_within segments i octets segment in
-          let long : length (take 200 behind) ≡ min 200 (length segments - (k - 1) * 200) =
-          length-take 200 behind ∙ ap (min 200) (length-drop ((k - 1) * 200) segments) in
+          let long : length (take 200 after) ≡ min 200 (length segments - (k - 1) * 200) =
+          length-take 200 after ∙ ap (min 200) (length-drop ((k - 1) * 200) segments) in
           let near : place < 200 = omega (arith, around.0, around.1, some) in
-          let inside : place < length (take 200 behind) = omega (arith, long, within_all, near, whole) in
-          let found : get_or (take 200 behind) place [] ≡ octets =
-          get_or-take 200 behind place [] near
+          let inside : place < length (take 200 after) = omega (arith, long, within_all, near, whole) in
+          let found : get_or (take 200 after) place [] ≡ octets =
+          get_or-take 200 after place [] near
           ∙ get_or-drop ((k - 1) * 200) segments place []
           ∙ ap (λ (n : ℕ). get_or segments n []) whole
           ∙ get_or_from_slice_get segments i octets [] segment in
-          slice_get-get_or (take 200 behind) place [] inside
+          slice_get-get_or (take 200 after) place [] inside
           ∙ ap (λ (o : List ℕ). let found : Option (List ℕ) = Some o in found) found
 
       in_index : ListsDigest by seq (Offers object) x octets
@@ -156,9 +156,9 @@ module _ (by : Publisher) (is_publisher : IsPublisher by) (seq : ℕ) (low : seq
 -- ---- any publication
 
 pub lists_digest : (by : Publisher) → IsPublisher by → (seq : ℕ) (post : Post) → IsPost seq post → seq < 2 ^ 16
-    → (x : ℕ) → 0 < x → x ≤ parts_behind (shape_in post) → (octets : List ℕ) → packet_at by seq post x ≡ Some octets
+    → (x : ℕ) → 0 < x → x ≤ parts_after (shape_in post) → (octets : List ℕ) → packet_at by seq post x ≡ Some octets
     → ListsDigest by seq post x octets
-lists_digest by is_publisher seq (Offers object) is_post low x behind counted octets its =
-    of_object by is_publisher seq low object is_post x behind counted octets its
-lists_digest by is_publisher seq (Withdraws withdrawn) is_post low x behind counted octets its =
-    absurd (omega (arith, behind, counted))
+lists_digest by is_publisher seq (Offers object) is_post low x after counted octets its =
+    of_object by is_publisher seq low object is_post x after counted octets its
+lists_digest by is_publisher seq (Withdraws withdrawn) is_post low x after counted octets its =
+    absurd (omega (arith, after, counted))

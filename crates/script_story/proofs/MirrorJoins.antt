@@ -10,7 +10,7 @@ use Rattle.svs_vector.proofs.JoinLemmas.{join-at}
 use Rattle.repo_plan.specs.declared.part.Part.{Part}
 use Rattle.sorted_lists.specs.SortedList.{contains}
 use Rattle.sorted_lists.proofs.Sets.{In}
-use Rattle.repo_plan.specs.Parts.{Pair, pair_cmp, pair_of, part_of, parts_behind}
+use Rattle.repo_plan.specs.Parts.{Pair, pair_cmp, pair_of, part_of, parts_after}
 use Rattle.repo_object.specs.Objects.{Post, shape_in, withdraws_number}
 use Rattle.repo_watch.specs.Patterns.{accepts, begins_with, is_publisher}
 use Rattle.group_model.specs.Publications.{Publication, count, is_object, is_unwithdrawn, join_of, last_of, object_in}
@@ -22,7 +22,7 @@ use Rattle.group_model.specs.Sound.{IsSoundGroup, IsSoundMember}
 use Rattle.group_model.specs.Laws.{NothingHidden}
 use Rattle.group_model.proofs.Lists.{all_in, in_at, same_any, same_filter}
 use Rattle.group_model.proofs.Parts.{IsIn, IsPartOf, from_parts_in, in_published, publisher_within}
-use Rattle.group_model.proofs.Settles.{someone, told_by}
+use Rattle.group_model.proofs.Settles.{someone, reported_by}
 use Rattle.repo_mirror.specs.Asked.{is_kept, is_kept_post}
 use Rattle.repo_mirror.specs.Mirrors.{is_entry_accepted}
 use Rattle.repo_mirror.proofs.Joins.{both_filters}
@@ -51,7 +51,7 @@ module _ (w : World) (m : Mirroring) (group : IsSoundGroup w) (clear : NothingHi
       ] in
       someone w.members (member w q.publisher) t (in_at w.members q.publisher no_member publisher)
       (subst (λ (pair : Pair). member_holds (member w q.publisher) (part_of pair t.part) ≡ true) (sym p.pair)
-      (held t.part (subst (λ (o : Post). t.part ≤ parts_behind (shape_in o)) is.post p.counted)))
+      (held t.part (subst (λ (o : Post). t.part ≤ parts_after (shape_in o)) is.post p.counted)))
 
   -- The mirror knows of it.
   known : (q : Publication) → IsIn (logs w) q
@@ -61,7 +61,7 @@ module _ (w : World) (m : Mirroring) (group : IsSoundGroup w) (clear : NothingHi
       let own : get_or (member w q.publisher).known q.publisher 0 ≡ last_of (logs w) q.publisher =
       (group.members q.publisher publisher).own in
       let up : get_or (member w q.publisher).known q.publisher 0 ≤ get_or (settled_vector w) q.publisher 0 =
-      told_by w group q.publisher publisher q.publisher q.publisher publisher in
+      reported_by w group q.publisher publisher q.publisher q.publisher publisher in
       let at = join-at m.known (settled_vector w) q.publisher in
       let last = is.there.to_last in
       omega (arith, own, up, at, last)

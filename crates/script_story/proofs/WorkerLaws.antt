@@ -7,41 +7,41 @@ use Rattle.script_lang.specs.declared.line_fault.LineFault.{LineFault}
 use Rattle.script_lang.specs.declared.verb.Verb.{Verb}
 use Rattle.script_lang.specs.declared.verb.Verb.TheVariants as verb
 use Rattle.script_lang.specs.Kinds.{Value, Text, Number}
-use Rattle.script_lang.specs.Forms.{Stated, said}
+use Rattle.script_lang.specs.Forms.{Stated, statement}
 use Rattle.script_lang.specs.Lines.{line_of}
 use Rattle.script_lang.specs.Limits.{script_lines}
 use Rattle.script_lang.proofs.Conditions.{le_test}
 use Rattle.script_report.specs.declared.refusal.Refusal.TheVariants.{Limit}
 use Rattle.repo_io.specs.Lines.{lines}
-use Rattle.script_story.specs.Judging.{Given, State, Verdict, acted, acted_by, foreign, judged, judged_line}
+use Rattle.script_story.specs.Judging.{RunEnvironment, State, Verdict, acted, acted_by, foreign, judged, judged_line}
 use Rattle.script_story.specs.Judging.{line_taken, opening_state, read, says, unjudged}
 use Rattle.script_story.specs.Judging as verdict
-use Rattle.script_story.specs.Story.{Reached, behind_text, is_within_script, judged_next}
+use Rattle.script_story.specs.Story.{Reached, after_text, is_within_script, judged_next}
 use Rattle.script_story.specs.Story.{story_from, story_of_line, within_report}
 use Rattle.script_story.specs.Workers.{DifferInWorkers, WorkersMakeNoDifference, but_for_workers, with_one_worker}
 use Rattle.repo_io.proofs.LineLaws.{lines_joined}
 
 -- ---- one line
 
-line_alike : (given : Given) (s : State) (form : Verb) (values : List Value)
-    → judged_line given s (said form values) ≡ judged_line given s (said form (with_one_worker form values))
+line_alike : (env : RunEnvironment) (s : State) (form : Verb) (values : List Value)
+    → judged_line env s (statement form values) ≡ judged_line env s (statement form (with_one_worker form values))
 unfolding judged_line line_taken acted_by acted
-line_alike given s verb.Fetch (Text m ∷ Number workers ∷ Number tries ∷ Number loss ∷ []) = refl
-line_alike given s verb.Mfetch (Text l ∷ Number workers ∷ Number tries ∷ Number loss ∷ []) = refl
-line_alike given s verb.Settle (Number workers ∷ []) = refl
-line_alike given s form values = refl
+line_alike env s verb.Fetch (Text m ∷ Number workers ∷ Number tries ∷ Number loss ∷ []) = refl
+line_alike env s verb.Mfetch (Text l ∷ Number workers ∷ Number tries ∷ Number loss ∷ []) = refl
+line_alike env s verb.Settle (Number workers ∷ []) = refl
+line_alike env s form values = refl
 
-read_alike : (given : Given) (s : State) (r : Result (Option Stated) LineFault)
-    → read given s r ≡ read given s (but_for_workers r)
-read_alike given s (Ok (Some line)) = line_alike given s line.verb line.values
-read_alike given s (Ok None) = refl
-read_alike given s (Err fault) = refl
+read_alike : (env : RunEnvironment) (s : State) (r : Result (Option Stated) LineFault)
+    → read env s r ≡ read env s (but_for_workers r)
+read_alike env s (Ok (Some line)) = line_alike env s line.verb line.values
+read_alike env s (Ok None) = refl
+read_alike env s (Err fault) = refl
 
-judged_alike : (given : Given) (s : State) (a b : List ℕ)
-    → but_for_workers (line_of a) ≡ but_for_workers (line_of b) → judged given s a ≡ judged given s b
+judged_alike : (env : RunEnvironment) (s : State) (a b : List ℕ)
+    → but_for_workers (line_of a) ≡ but_for_workers (line_of b) → judged env s a ≡ judged env s b
 unfolding judged
-judged_alike given s a b same =
-    read_alike given s (line_of a) ∙ ap (read given s) same ∙ sym (read_alike given s (line_of b))
+judged_alike env s a b same =
+    read_alike env s (line_of a) ∙ ap (read env s) same ∙ sym (read_alike env s (line_of b))
 
 -- ---- stories
 
@@ -70,24 +70,24 @@ first_alike x y xs ys h = cc
 others_alike : {A : Type 0} (x y : A) (xs ys : List A) → x ∷ xs ≡ y ∷ ys → xs ≡ ys
 others_alike x y xs ys h = cc
 
-module _ (given : Given) where
+module _ (env : RunEnvironment) where
   next_alike : (n m : ℕ) (s : State) (o u : ℕ) (a b : List ℕ) (cs bs : List (List ℕ))
       → o + length (concat (a ∷ cs)) ≤ 16777216 → u + length (concat (b ∷ bs)) ≤ 16777216
       → but_for_workers (line_of a) ≡ but_for_workers (line_of b)
-      → judged_next given (reached_at n o m s) a ≡ judged_next given (reached_at n u m s) b
+      → judged_next env (reached_at n o m s) a ≡ judged_next env (reached_at n u m s) b
   next_alike n m s o u a b cs bs small_a small_b same =
       let within : is_within_script (reached_at n o m s) a ≡ is_within_script (reached_at n u m s) b =
       ap (λ (t : Bool). nat_lt n script_lines && t) (test_within o a cs small_a ∙ sym (test_within u b bs small_b)) in
-      ap (λ (t : Bool). if t then within_report (reached_at n o m s) (judged given s a) else verdict.refused Limit)
+      ap (λ (t : Bool). if t then within_report (reached_at n o m s) (judged env s a) else verdict.refused Limit)
       within
       ∙ ap (λ (v : Verdict). if is_within_script (reached_at n u m s) b then v else verdict.refused Limit)
-      (ap (within_report (reached_at n o m s)) (judged_alike given s a b same)
-      ∙ within_alike n m s o u (judged given s b))
+      (ap (within_report (reached_at n o m s)) (judged_alike env s a b same)
+      ∙ within_alike n m s o u (judged env s b))
 
-  -- Behind lines that differ in workers alone the same is reached, but for how many octets were taken.
+  -- After lines that differ in workers alone the same is reached, but for how many octets were taken.
   stories_alike : (a b : List (List ℕ)) (n m : ℕ) (s : State) (o u : ℕ)
       → o + length (concat a) ≤ 16777216 → u + length (concat b) ≤ 16777216 → DifferInWorkers a b
-      → story_from given (reached_at n o m s) a ≡ story_from given (reached_at n u m s) b
+      → story_from env (reached_at n o m s) a ≡ story_from env (reached_at n u m s) b
   unfolding story_from
   stories_alike [] [] n m s o u small_a small_b same = refl
   stories_alike [] (b ∷ bs) n m s o u small_a small_b same = cc
@@ -96,23 +96,23 @@ module _ (given : Given) where
       let first = first_alike (but_for_workers (line_of a)) (but_for_workers (line_of b)) _ _ same in
       let others : DifferInWorkers cs bs = others_alike (but_for_workers (line_of a)) (but_for_workers (line_of b)) _ _
       same in
-      ap (story_of_line (λ next. story_from given next cs) (reached_at n o m s) a)
+      ap (story_of_line (λ next. story_from env next cs) (reached_at n o m s) a)
       (next_alike n m s o u a b cs bs small_a small_b first)
-      ∙ go (judged_next given (reached_at n u m s) b) (λ report next.
+      ∙ go (judged_next env (reached_at n u m s) b) (λ report next.
       stories_alike cs bs (n + 1) (m + length report) next (o + length a) (u + length b)
       (left_within o a cs small_a) (left_within u b bs small_b) others) where
         go : (v : Verdict)
             → ((report : List ℕ) (next : State)
-            → story_from given (reached_at (n + 1) (o + length a) (m + length report) next) cs
-            ≡ story_from given (reached_at (n + 1) (u + length b) (m + length report) next) bs)
-            → story_of_line (λ next. story_from given next cs) (reached_at n o m s) a v
-            ≡ story_of_line (λ next. story_from given next bs) (reached_at n u m s) b v
-        go (says report next) rest = ap (behind_text report) (rest report next)
+            → story_from env (reached_at (n + 1) (o + length a) (m + length report) next) cs
+            ≡ story_from env (reached_at (n + 1) (u + length b) (m + length report) next) bs)
+            → story_of_line (λ next. story_from env next cs) (reached_at n o m s) a v
+            ≡ story_of_line (λ next. story_from env next bs) (reached_at n u m s) b v
+        go (says report next) rest = ap (after_text report) (rest report next)
         go (verdict.refused why) rest = refl
         go foreign rest = refl
         go unjudged rest = refl
 
 pub workers_make_no_difference : WorkersMakeNoDifference
-workers_make_no_difference given a b small_a small_b same =
-    stories_alike given (lines a) (lines b) 0 0 opening_state 0 0
+workers_make_no_difference env a b small_a small_b same =
+    stories_alike env (lines a) (lines b) 0 0 opening_state 0 0
     (omega (arith, ap length (lines_joined a), small_a)) (omega (arith, ap length (lines_joined b), small_b)) same

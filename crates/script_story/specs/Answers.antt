@@ -1,4 +1,4 @@
--- The status of a story that was told to its end.
+-- The status of a story that was reported to its end.
 use Rattle.script_story.specs.declared.ending.Ending.{Ending}
 use Rattle.script_story.specs.declared.ending.Ending.TheVariants as ending
 use Rattle.repo_io.specs.declared.status.Status.{Status}

@@ -1,6 +1,6 @@
--- What the report of a script says of its group. A story is told by the lines that are taken, each with its own report.
--- What stands in the report of a `catalogue` line is said in the words of the group that the lines before it reach: its
--- members, what they published, hold and have deleted.
+-- What the report of a script says of its group. A story is defined by the lines that are taken, each with its own
+-- report. What stands in the report of a `catalogue` line is said in the words of the group that the lines before it
+-- reach: its members, what they published, hold and have deleted.
 use Rattle.std.specs.Prelude.{ℕ, ◌+◌, ◌≡◌, ◌≤◌, ◌<◌, ◌⊎◌, ◌↔◌, Bool, true, false, not, List, [], ◌∷◌, ◌++◌, map, length}
 use Rattle.std.specs.Prelude.{Option, Some, None, is_some, Result, Ok, Err}
 use Rattle.std.specs.List.{All, IsDistinct, concat, list_all}
@@ -20,7 +20,7 @@ use Rattle.script_lang.specs.declared.line_fault.LineFault.{LineFault}
 use Rattle.script_lang.specs.declared.verb.Verb.{Verb}
 use Rattle.script_lang.specs.declared.verb.Verb.TheVariants as verb
 use Rattle.script_lang.specs.Kinds.{Text, Number}
-use Rattle.script_lang.specs.Forms.{Stated, said}
+use Rattle.script_lang.specs.Forms.{Stated, statement}
 use Rattle.script_lang.specs.Lines.{line_of}
 use Rattle.script_lang.specs.Checking.{party_label}
 use Rattle.script_report.specs.Texts.{catalogue_text, foreign_text}
@@ -28,45 +28,45 @@ use Rattle.script_story.specs.declared.ending.Ending.{Ending}
 use Rattle.script_story.specs.declared.ending.Ending.TheVariants.{Done, Refused, Foreign}
 use Rattle.script_report.specs.Refusals.{refusal_number, refusal_text}
 use Rattle.script_report.specs.Labels.{label_at, publisher_label}
-use Rattle.script_story.specs.Judging.{Given, Verdict, says, foreign, unjudged, found_world}
+use Rattle.script_story.specs.Judging.{RunEnvironment, Verdict, says, foreign, unjudged, found_world}
 use Rattle.script_story.specs.Judging as verdict
-use Rattle.script_story.specs.Story.{Reached, Story, reached_behind, behind_text, judged_next, nothing_reached}
+use Rattle.script_story.specs.Story.{Reached, Story, reached_after, after_text, judged_next, nothing_reached}
 use Rattle.script_story.specs.Story.{story_from}
 
 -- ---- lines that are taken
 
--- A line is taken: it has this report, and this is reached behind it.
-pub record LineIsTaken (given : Given) (r : Reached) (line report : List ℕ) (new : Reached) : Type 0 where
-  pub verdict : judged_next given r line ≡ says report new.state
-  pub reached : new ≡ reached_behind r line report new.state
+-- A line is taken: it has this report, and this is reached after it.
+pub record LineIsTaken (env : RunEnvironment) (r : Reached) (line report : List ℕ) (new : Reached) : Type 0 where
+  pub verdict : judged_next env r line ≡ says report new.state
+  pub reached : new ≡ reached_after r line report new.state
 
--- Lines are taken one after the other: these are their reports, line by line, and this is reached behind the last.
-abbrev pub LinesAreTaken : Given → Reached → List (List ℕ) → List (List ℕ) → Reached → Type 0
-LinesAreTaken given r [] [] last = last ≡ r
-LinesAreTaken given r (line ∷ lines) (report ∷ reports) last =
-    (next : Reached) × LineIsTaken given r line report next × LinesAreTaken given next lines reports last
-LinesAreTaken given r lines reports last = ⊥
+-- Lines are taken one after the other: these are their reports, line by line, and this is reached after the last.
+abbrev pub LinesAreTaken : RunEnvironment → Reached → List (List ℕ) → List (List ℕ) → Reached → Type 0
+LinesAreTaken env r [] [] last = last ≡ r
+LinesAreTaken env r (line ∷ lines) (report ∷ reports) last =
+    (next : Reached) × LineIsTaken env r line report next × LinesAreTaken env next lines reports last
+LinesAreTaken env r lines reports last = ⊥
 
 -- The same of the first lines of a script.
-abbrev pub AreTakenFirst : Given → List (List ℕ) → List (List ℕ) → Reached → Type 0
-AreTakenFirst given lines reports last = LinesAreTaken given nothing_reached lines reports last
+abbrev pub AreTakenFirst : RunEnvironment → List (List ℕ) → List (List ℕ) → Reached → Type 0
+AreTakenFirst env lines reports last = LinesAreTaken env nothing_reached lines reports last
 
--- One line amid those that are taken: what was reached and reported before it, and what comes behind it.
-pub record IsTakenAmid (given : Given) (r : Reached) (before : List (List ℕ)) (line : List ℕ)
+-- One line amid those that are taken: what was reached and reported before it, and what comes after it.
+pub record IsTakenAmid (env : RunEnvironment) (r : Reached) (before : List (List ℕ)) (line : List ℕ)
     (others reports : List (List ℕ)) (last : Reached) : Type 0 where
   pub here : Reached
   pub new : Reached
-  pub told : List (List ℕ)
+  pub reported : List (List ℕ)
   pub report : List ℕ
   pub later : List (List ℕ)
-  pub reports_are : reports ≡ told ++ report ∷ later
-  pub before_it : LinesAreTaken given r before told here
-  pub it : LineIsTaken given here line report new
-  pub behind_it : LinesAreTaken given new others later last
+  pub reports_are : reports ≡ reported ++ report ∷ later
+  pub before_it : LinesAreTaken env r before reported here
+  pub it : LineIsTaken env here line report new
+  pub after_it : LinesAreTaken env new others later last
 
 -- ---- stories
 
--- How a story ends behind a line of this number that comes to this: a taken line ends none, and each line is judged.
+-- How a story ends after a line of this number that comes to this: a taken line ends none, and each line is judged.
 abbrev pub EndsBy : ℕ → Verdict → List ℕ → Ending → Type 0
 EndsBy number (says report next) text ending = ⊥
 EndsBy number (verdict.refused why) text ending =
@@ -76,22 +76,22 @@ EndsBy number unjudged text ending = ⊥
 
 -- How it ends with these lines left: there are none, or the first of them is refused or foreign, and its number is
 -- written.
-abbrev pub EndsWith : Given → Reached → List (List ℕ) → List ℕ → Ending → Type 0
-EndsWith given r [] text ending = (text ≡ []) × (ending ≡ Done)
-EndsWith given r (line ∷ others) text ending = EndsBy (r.lines + 1) (judged_next given r line) text ending
+abbrev pub EndsWith : RunEnvironment → Reached → List (List ℕ) → List ℕ → Ending → Type 0
+EndsWith env r [] text ending = (text ≡ []) × (ending ≡ Done)
+EndsWith env r (line ∷ others) text ending = EndsBy (r.lines + 1) (judged_next env r line) text ending
 
--- A story, told by its lines: the first ones are taken, and the text is their reports and what is written of the next
--- line, which is refused or foreign. The names, keys, world and mirrors are those behind the last line that is taken.
-pub record IsToldBy (given : Given) (r : Reached) (script : List (List ℕ)) (s : Story) : Type 0 where
+-- A story, by its lines: the first ones are taken, and the text is their reports and what is written of the next
+-- line, which is refused or foreign. The names, keys, world and mirrors are those after the last line that is taken.
+pub record IsToldBy (env : RunEnvironment) (r : Reached) (script : List (List ℕ)) (s : Story) : Type 0 where
   pub first : List (List ℕ)
   pub others : List (List ℕ)
   pub reports : List (List ℕ)
   pub last : Reached
   pub end : List ℕ
   pub lines : script ≡ first ++ others
-  pub taken : LinesAreTaken given r first reports last
+  pub taken : LinesAreTaken env r first reports last
   pub number : last.lines ≡ r.lines + length first
-  pub ends : EndsWith given last others end s.ending
+  pub ends : EndsWith env last others end s.ending
   pub text : s.text ≡ concat reports ++ end
   pub keys : s.keys ≡ last.state.keys
   pub world : s.world ≡ last.state.world
@@ -100,21 +100,21 @@ pub record IsToldBy (given : Given) (r : Reached) (script : List (List ℕ)) (s 
 -- ---- the group that is reached
 
 -- With no event yet its members have nothing.
-abbrev pub group_at : Given → Reached → World
-group_at given r = found_world given r.state
+abbrev pub group_at : RunEnvironment → Reached → World
+group_at env r = found_world env r.state
 
 -- The labels of the members, in the order of their numbers.
 abbrev pub labels_at : Reached → List (List ℕ)
 labels_at r = map party_label r.state.declared.members
 
--- A sound group of the declared members, no two under one label. Behind the group's line, what they published is what
+-- A sound group of the declared members, no two under one label. After the group's line, what they published is what
 -- members of that group can publish: objects within the limits, and withdrawals of earlier numbers.
-pub record IsGroupOfLines (given : Given) (r : Reached) : Type 0 where
-  pub sound : IsSoundGroup (group_at given r)
-  pub members : length (group_at given r).members ≡ length (labels_at r)
+pub record IsGroupOfLines (env : RunEnvironment) (r : Reached) : Type 0 where
+  pub sound : IsSoundGroup (group_at env r)
+  pub members : length (group_at env r).members ≡ length (labels_at r)
   pub names : length r.state.keys.members.names ≡ length (labels_at r)
   pub labels : IsDistinct bytes_eq (labels_at r)
-  pub published : r.state.declared.group ≡ true → AreLogs r.state.keys (logs (group_at given r))
+  pub published : r.state.declared.group ≡ true → AreLogs r.state.keys (logs (group_at env r))
 
 -- ---- catalogues
 
@@ -138,11 +138,11 @@ pub record IsToBeListed (w : World) (m : ℕ) (pair : Pair) : Type 0 where
   pub had : (pair.0 ≡ m) ⊎ HoldsAllOf w m pair
   pub not_withdrawn : HoldsNoWithdrawal (logs w) (member w m) pair
 
--- Entries list just that, each once under its publisher and number, in order; and each tells of its object.
+-- Entries list just that, each once under its publisher and number, in order; and each reports its object.
 pub record ListExactly (w : World) (m : ℕ) (entries : List Entry) : Type 0 where
   pub exactly : (pair : Pair) → (lists pair entries ≡ true) ↔ IsToBeListed w m pair
   pub in_order : IsCatalogue entries
-  pub told : All (λ e. e ≡ published_entry (publication_at (logs w) (publication_of e))) entries
+  pub reported : All (λ e. e ≡ published_entry (publication_at (logs w) (publication_of e))) entries
 
 -- Entries are printed under the label of a member, each with the label of its publisher.
 abbrev pub printed_entries : List (List ℕ) → List ℕ → List Entry → List ℕ
@@ -160,43 +160,43 @@ pub record IsCatalogueOf (w : World) (labels : List (List ℕ)) (label report : 
 -- ---- forms of line
 
 -- A `catalogue` line of this label that is taken.
-pub record IsCatalogueLine (given : Given) (r : Reached) (label report : List ℕ) (new : Reached) : Type 0 where
+pub record IsCatalogueLine (env : RunEnvironment) (r : Reached) (label report : List ℕ) (new : Reached) : Type 0 where
   pub line : List ℕ
-  pub stated : Says line (said verb.Catalogue (Text label ∷ []))
-  pub taken : LineIsTaken given r line report new
+  pub stated : Says line (statement verb.Catalogue (Text label ∷ []))
+  pub taken : LineIsTaken env r line report new
 
 -- A `settle` line that is taken.
-pub record IsSettleLine (given : Given) (r : Reached) (report : List ℕ) (new : Reached) : Type 0 where
+pub record IsSettleLine (env : RunEnvironment) (r : Reached) (report : List ℕ) (new : Reached) : Type 0 where
   pub line : List ℕ
   pub workers : ℕ
-  pub stated : Says line (said verb.Settle (Number workers ∷ []))
-  pub taken : LineIsTaken given r line report new
+  pub stated : Says line (statement verb.Settle (Number workers ∷ []))
+  pub taken : LineIsTaken env r line report new
 
--- These forms change nothing of the group: they tell of it, or they are of watchers or of mirrors.
-abbrev pub only_tells : Verb → Bool
-only_tells verb.Sync = true
-only_tells verb.Vector = true
-only_tells verb.Catalogue = true
-only_tells verb.Dump = true
-only_tells verb.Ask = true
-only_tells verb.Watch = true
-only_tells verb.Told = true
-only_tells verb.Mdeliver = true
-only_tells verb.Mfetch = true
-only_tells verb.Mcatalogue = true
-only_tells verb.Summary = true
-only_tells verb.Traffic = true
-only_tells other = false
+-- These forms change nothing of the group: they report it, or they are of watchers or of mirrors.
+abbrev pub only_reports : Verb → Bool
+only_reports verb.Sync = true
+only_reports verb.Vector = true
+only_reports verb.Catalogue = true
+only_reports verb.Dump = true
+only_reports verb.Ask = true
+only_reports verb.Watch = true
+only_reports verb.Told = true
+only_reports verb.Mdeliver = true
+only_reports verb.Mfetch = true
+only_reports verb.Mcatalogue = true
+only_reports verb.Summary = true
+only_reports verb.Traffic = true
+only_reports other = false
 
 -- So does a line that states nothing.
 abbrev pub changes_nothing : Result (Option Stated) LineFault → Bool
 changes_nothing (Ok None) = true
-changes_nothing (Ok (Some stated)) = only_tells stated.verb
+changes_nothing (Ok (Some stated)) = only_reports stated.verb
 changes_nothing (Err fault) = false
 
 -- The group is the same, and so are the labels.
-pub record IsSameGroup (given : Given) (r new : Reached) : Type 0 where
-  pub group : group_at given new ≡ group_at given r
+pub record IsSameGroup (env : RunEnvironment) (r new : Reached) : Type 0 where
+  pub group : group_at env new ≡ group_at env r
   pub labels : labels_at new ≡ labels_at r
 
 -- These forms can delete: an `order` line may bring a command to delete.
@@ -214,58 +214,61 @@ deletes_nothing (Err fault) = true
 
 -- Where the first lines of a script are taken, its story begins with their reports.
 abbrev pub BeginsWithReports : Type 0
-BeginsWithReports = (given : Given) (first others reports : List (List ℕ)) (r : Reached)
-    → AreTakenFirst given first reports r
-    → story_from given nothing_reached (first ++ others) ≡ behind_text (concat reports) (story_from given r others)
+BeginsWithReports = (env : RunEnvironment) (first others reports : List (List ℕ)) (r : Reached)
+    → AreTakenFirst env first reports r
+    → story_from env nothing_reached (first ++ others) ≡ after_text (concat reports) (story_from env r others)
 
 -- Each of the lines that are taken has its report at its place.
 abbrev pub EachIsTaken : Type 0
-EachIsTaken = (given : Given) (r : Reached) (before : List (List ℕ)) (line : List ℕ) (others reports : List (List ℕ))
-    (last : Reached) → LinesAreTaken given r (before ++ line ∷ others) reports last
-    → IsTakenAmid given r before line others reports last
+EachIsTaken = (env : RunEnvironment) (r : Reached) (before : List (List ℕ)) (line : List ℕ)
+    (others reports : List (List ℕ))
+    (last : Reached) → LinesAreTaken env r (before ++ line ∷ others) reports last
+    → IsTakenAmid env r before line others reports last
 
 -- Whatever lines are taken, the group is sound then.
 abbrev pub ReachSoundGroups : Type 0
-ReachSoundGroups = (given : Given) (lines reports : List (List ℕ)) (r : Reached) → AreTakenFirst given lines reports r
-    → IsGroupOfLines given r
+ReachSoundGroups = (env : RunEnvironment) (lines reports : List (List ℕ)) (r : Reached)
+    → AreTakenFirst env lines reports r
+    → IsGroupOfLines env r
 
 -- The lines that change nothing leave the group as it is.
-abbrev pub TellingChangesNothing : Type 0
-TellingChangesNothing = (given : Given) (r : Reached) (line report : List ℕ) (new : Reached)
-    → LineIsTaken given r line report new → changes_nothing (line_of line) ≡ true → IsSameGroup given r new
+abbrev pub ReportChangesNothing : Type 0
+ReportChangesNothing = (env : RunEnvironment) (r : Reached) (line report : List ℕ) (new : Reached)
+    → LineIsTaken env r line report new → changes_nothing (line_of line) ≡ true → IsSameGroup env r new
 
 -- A `catalogue` line prints exactly the objects that the member published or wholly holds, undeleted and not known
 -- withdrawn.
 abbrev pub PrintsCatalogues : Type 0
-PrintsCatalogues = (given : Given) (lines reports : List (List ℕ)) (r : Reached) → AreTakenFirst given lines reports r
-    → (label report : List ℕ) (new : Reached) → IsCatalogueLine given r label report new
-    → IsCatalogueOf (group_at given r) (labels_at r) label report
+PrintsCatalogues = (env : RunEnvironment) (lines reports : List (List ℕ)) (r : Reached)
+    → AreTakenFirst env lines reports r
+    → (label report : List ℕ) (new : Reached) → IsCatalogueLine env r label report new
+    → IsCatalogueOf (group_at env r) (labels_at r) label report
 
--- Behind any lines that change nothing it prints the catalogue as it was before them.
+-- After any lines that change nothing it prints the catalogue as it was before them.
 abbrev pub PrintsLater : Type 0
-PrintsLater = (given : Given) (lines reports : List (List ℕ)) (r : Reached) → AreTakenFirst given lines reports r
-    → (between told : List (List ℕ)) (later : Reached) → LinesAreTaken given r between told later
+PrintsLater = (env : RunEnvironment) (lines reports : List (List ℕ)) (r : Reached) → AreTakenFirst env lines reports r
+    → (between reported : List (List ℕ)) (later : Reached) → LinesAreTaken env r between reported later
     → list_all (λ line. changes_nothing (line_of line)) between ≡ true
-    → (label report : List ℕ) (new : Reached) → IsCatalogueLine given later label report new
-    → IsCatalogueOf (group_at given r) (labels_at r) label report
+    → (label report : List ℕ) (new : Reached) → IsCatalogueLine env later label report new
+    → IsCatalogueOf (group_at env r) (labels_at r) label report
 
 -- Each member's catalogue is the join of all publications, which is every object that none of them withdraws; and that
--- is what `catalogue` lines print, behind any lines that change nothing.
-pub record IsJoined (given : Given) (r : Reached) : Type 0 where
-  pub all : AllJoined (group_at given r)
-  pub shown : (lines reports : List (List ℕ)) (later : Reached) → LinesAreTaken given r lines reports later
+-- is what `catalogue` lines print, after any lines that change nothing.
+pub record IsJoined (env : RunEnvironment) (r : Reached) : Type 0 where
+  pub all : AllJoined (group_at env r)
+  pub shown : (lines reports : List (List ℕ)) (later : Reached) → LinesAreTaken env r lines reports later
       → list_all (λ line. changes_nothing (line_of line)) lines ≡ true
-      → (label report : List ℕ) (new : Reached) → IsCatalogueLine given later label report new
-      → report ≡ printed_entries (labels_at r) label (join_of (logs (group_at given r)))
+      → (label report : List ℕ) (new : Reached) → IsCatalogueLine env later label report new
+      → report ≡ printed_entries (labels_at r) label (join_of (logs (group_at env r)))
 
 -- So it is right after a `settle` line, where nothing is hidden.
 abbrev pub SettlesJoin : Type 0
-SettlesJoin = (given : Given) (lines reports : List (List ℕ)) (r : Reached) → AreTakenFirst given lines reports r
-    → (report : List ℕ) (new : Reached) → IsSettleLine given r report new → NothingHidden (group_at given new)
-    → IsJoined given new
+SettlesJoin = (env : RunEnvironment) (lines reports : List (List ℕ)) (r : Reached) → AreTakenFirst env lines reports r
+    → (report : List ℕ) (new : Reached) → IsSettleLine env r report new → NothingHidden (group_at env new)
+    → IsJoined env new
 
 -- Nothing is hidden where no line can have deleted anything.
 abbrev pub HidesByDeletionAlone : Type 0
-HidesByDeletionAlone = (given : Given) (lines reports : List (List ℕ)) (r : Reached)
-    → AreTakenFirst given lines reports r → list_all (λ line. deletes_nothing (line_of line)) lines ≡ true
-    → NothingHidden (group_at given r)
+HidesByDeletionAlone = (env : RunEnvironment) (lines reports : List (List ℕ)) (r : Reached)
+    → AreTakenFirst env lines reports r → list_all (λ line. deletes_nothing (line_of line)) lines ≡ true
+    → NothingHidden (group_at env r)

@@ -13,9 +13,9 @@ use Rattle.group_model.specs.Publications.{Logs, post_at}
 use Rattle.group_model.specs.Member.{member_holds}
 use Rattle.group_model.specs.World.{World, catalogue_at, logs, member}
 use Rattle.repo_member.specs.Groups.{GroupKeys, publisher_at}
-use Rattle.repo_member.specs.InGroup.{true_packet}
-use Rattle.repo_member.specs.TrueMembers.{true_want}
-use Rattle.script_story.specs.Judging.{Given}
+use Rattle.repo_member.specs.InGroup.{published_packet}
+use Rattle.repo_member.specs.ConsistentMembers.{published_want}
+use Rattle.script_story.specs.Judging.{RunEnvironment}
 use Rattle.script_story.specs.Story.{Reached}
 use Rattle.script_story.specs.Headline.{AreTakenFirst, group_at}
 use Rattle.script_story.specs.ListedDigests.{ListsDigest}
@@ -26,8 +26,8 @@ use Rattle.script_story.specs.ListedDigests.{ListsDigest}
 -- its publisher, and for every part but a record by its digest, which the record or an index packet lists.
 pub record PassesItsChecks (g : GroupKeys) (logs : Logs) (t : Part) : Type 0 where
   pub octets : List ℕ
-  pub its : true_packet g logs t ≡ Some octets
-  pub passes : IsOk (ring_verdict (true_want g logs t) g.members.ring octets)
+  pub its : published_packet g logs t ≡ Some octets
+  pub passes : IsOk (ring_verdict (published_want g logs t) g.members.ring octets)
   pub listed : 0 < t.part → ListsDigest (publisher_at g t.publisher) t.seq (post_at logs (pair_of t)) t.part octets
 
 -- So does that of each part that a member holds.
@@ -36,14 +36,15 @@ HoldsChecked g w m = (t : Part) → member_holds (member w m) t ≡ true → Pas
 
 -- So it is with every member, whatever lines are taken.
 abbrev pub MembersHoldChecked : Type 0
-MembersHoldChecked = (given : Given) (lines reports : List (List ℕ)) (r : Reached) → AreTakenFirst given lines reports r
-    → (m : ℕ) → m < length (group_at given r).members → HoldsChecked r.state.keys (group_at given r) m
+MembersHoldChecked = (env : RunEnvironment) (lines reports : List (List ℕ)) (r : Reached)
+    → AreTakenFirst env lines reports r
+    → (m : ℕ) → m < length (group_at env r).members → HoldsChecked r.state.keys (group_at env r) m
 
 -- ---- what entries tell
 
 -- The packet of a part, where the member holds it. A `dump` line shows it.
 abbrev pub dumped : GroupKeys → World → ℕ → Part → Option (List ℕ)
-dumped g w m t = if member_holds (member w m) t then true_packet g (logs w) t else None
+dumped g w m t = if member_holds (member w m) t then published_packet g (logs w) t else None
 
 -- The contents of the segments of a publication that has so many, as they are dumped, in order. Part 0 is the record.
 -- The index packets come next, `k` of them where `k` is `index_packets segments`, and segment `i`, counted from 0, is
@@ -58,7 +59,7 @@ all_there contents = map (λ content. Some content) contents
 
 -- An entry tells what the dumped segments have: each of them is there, and their contents joined have so many octets
 -- and this digest.
-pub record TellsOfDumped (g : GroupKeys) (w : World) (m : ℕ) (e : Entry) : Type 0 where
+pub record ReportsOfDumped (g : GroupKeys) (w : World) (m : ℕ) (e : Entry) : Type 0 where
   pub contents : List (List ℕ)
   pub there : dumped_contents g w m (publication_of e) e.segments ≡ all_there contents
   pub octets : e.octets ≡ length (concat contents)
@@ -66,7 +67,7 @@ pub record TellsOfDumped (g : GroupKeys) (w : World) (m : ℕ) (e : Entry) : Typ
 
 -- So does each entry of every catalogue, whatever lines are taken.
 abbrev pub EntriesTellOfDumped : Type 0
-EntriesTellOfDumped = (given : Given) (lines reports : List (List ℕ)) (r : Reached)
-    → AreTakenFirst given lines reports r
-    → (m : ℕ) → m < length (group_at given r).members
-    → All (TellsOfDumped r.state.keys (group_at given r) m) (catalogue_at (group_at given r) m)
+EntriesTellOfDumped = (env : RunEnvironment) (lines reports : List (List ℕ)) (r : Reached)
+    → AreTakenFirst env lines reports r
+    → (m : ℕ) → m < length (group_at env r).members
+    → All (ReportsOfDumped r.state.keys (group_at env r) m) (catalogue_at (group_at env r) m)

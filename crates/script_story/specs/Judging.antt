@@ -1,4 +1,4 @@
--- What a line comes to, behind those before it.
+-- What a line comes to, after those before it.
 use Rattle.std.specs.Prelude.{◌≡◌, ◌≢◌, ◌↔◌, ℕ, ◌+◌, Bool, List, [], ◌∷◌, ◌++◌, map, length, slice_index_or}
 use Rattle.std.specs.Prelude.{slice_set, Option, Some, None, is_some, Result, Ok, Err, unwrap_or, nat_le}
 use Rattle.std.specs.Prelude.{if◌then◌else◌}
@@ -16,28 +16,28 @@ use Rattle.script_lang.specs.Checking.{Declared, nothing_declared, after_line, p
 use Rattle.script_report.specs.Texts.{mdeliver_text, mfetch_text, watch_text}
 use Rattle.repo_watch.specs.declared.pattern.Pattern.{Pattern}
 use Rattle.repo_watch.specs.Watching.{Watching, most_watchers, after_add, after_take, watch_of}
-use Rattle.group_model.specs.World.{World, Outside, catalogue_at, opening_world, sent_at}
+use Rattle.group_model.specs.World.{World, Environment, catalogue_at, opening_world, sent_at}
 use Rattle.group_model.specs.Steps.{after_event}
 use Rattle.group_model.specs.Refusals as group
 use Rattle.repo_member.specs.Groups.{GroupKeys, no_nodes, with_node}
 use Rattle.bench_world.specs.Worlds.{drawing}
-use Rattle.bench_world.specs.Serving.{outside}
-use Rattle.bench_world.specs.EventValues.{EventValue, group_event, telling}
+use Rattle.bench_world.specs.Serving.{environment}
+use Rattle.bench_world.specs.EventValues.{EventValue, group_event, event_report}
 use Rattle.script_report.specs.declared.refusal.Refusal.{Refusal}
 use Rattle.script_report.specs.declared.refusal.Refusal.TheVariants as refusal
 use Rattle.script_report.specs.Labels.{label_at}
 use Rattle.script_story.specs.Mirrors.{Mirroring, asked_by, attempts_made, gets, mirror_begins, mirror_fetches}
 use Rattle.script_story.specs.Mirrors.{mirror_hears, mirror_of, mirror_settles, mirrored_entries}
-use Rattle.script_story.specs.SaidEvents.{mirror_number, party_number, pattern_for, publisher_number, said_event}
-use Rattle.script_story.specs.ToldTexts.{listing_text, news_in, news_text, told_text}
+use Rattle.script_story.specs.StatedEvents.{mirror_number, party_number, pattern_for, publisher_number, stated_event}
+use Rattle.script_story.specs.ReportedTexts.{listing_text, news_in, news_text, reported_text}
 
 -- What no line says: the draws, and which attempts the network passes.
-pub record Given : Type 0 where
+pub record RunEnvironment : Type 0 where
   pub draw : ℕ → ℕ → ℕ
   pub passes : ℕ → ℕ → ℕ → ℕ → ℕ → ℕ → Bool
 
-abbrev pub given_by : (ℕ → ℕ → ℕ) → (ℕ → ℕ → ℕ → ℕ → ℕ → ℕ → Bool) → Given
-given_by draw passes = record { draw = draw; passes = passes }
+abbrev pub env_by : (ℕ → ℕ → ℕ) → (ℕ → ℕ → ℕ → ℕ → ℕ → ℕ → Bool) → RunEnvironment
+env_by draw passes = record { draw = draw; passes = passes }
 
 -- What the lines so far came to: what they declared, the names and keys of the group, the group itself once there was
 -- an event, the watchers of each member, and the mirrors. No event of the group changes watchers, and a settle alone
@@ -65,15 +65,15 @@ pub data Verdict : Type 0 where
 
 -- ---- events
 
-abbrev pub outside_of : Given → GroupKeys → Outside
-outside_of given keys = outside keys given.draw given.passes
+abbrev pub outside_of : RunEnvironment → GroupKeys → Environment
+outside_of env keys = environment keys env.draw env.passes
 
 -- The world that an event finds: the members have nothing before the first.
 abbrev pub begun_world : (ℕ → ℕ → ℕ) → State → World
 begun_world draw s = unwrap_or s.world (opening_world (drawing draw) (length s.keys.members.names))
 
-abbrev pub found_world : Given → State → World
-found_world given s = begun_world given.draw s
+abbrev pub found_world : RunEnvironment → State → World
+found_world env s = begun_world env.draw s
 
 abbrev pub event_refused : group.Refusal → Verdict
 event_refused group.Refusal.NoSuchPacket = refused refusal.NoSuchPacket
@@ -83,26 +83,26 @@ event_refused group.Refusal.NoSuchNumber = refused refusal.NoSuchNumber
 event_refused group.Refusal.NumbersSpent = refused refusal.NumbersSpent
 event_refused group.Refusal.Foreign = foreign
 
--- Behind a settle each mirror gains what members hold. No other event changes them.
-abbrev pub mirrors_behind : World → EventValue → List Mirroring → List Mirroring
-mirrors_behind w (EventValue.Settle workers) mirrors = map (mirror_settles w) mirrors
-mirrors_behind w e mirrors = mirrors
+-- After a settle each mirror gains what members hold. No other event changes them.
+abbrev pub mirrors_after : World → EventValue → List Mirroring → List Mirroring
+mirrors_after w (EventValue.Settle workers) mirrors = map (mirror_settles w) mirrors
+mirrors_after w e mirrors = mirrors
 
--- An event that is taken is a step of the group, and its report is what is told of it.
-abbrev pub stepped : Outside → State → Declared → World → EventValue → Option group.Refusal → Verdict
+-- An event that is taken is a step of the group, and its report is what is reported of it.
+abbrev pub stepped : Environment → State → Declared → World → EventValue → Option group.Refusal → Verdict
 stepped out s d w e (Some why) = event_refused why
-stepped out s d w e None = says (told_text (map party_label d.members) (telling s.keys out w e)) (record {
+stepped out s d w e None = says (reported_text (map party_label d.members) (event_report s.keys out w e)) (record {
   declared = d;
   keys = s.keys;
   world = Some (after_event out w (group_event s.keys e));
   watchers = s.watchers;
-  mirrors = mirrors_behind (after_event out w (group_event s.keys e)) e s.mirrors;
+  mirrors = mirrors_after (after_event out w (group_event s.keys e)) e s.mirrors;
 })
 
 -- The event is carried out where the lines declare so much.
-unfoldable pub acted : Given → State → Declared → EventValue → Verdict
-acted given s d e = stepped (outside_of given s.keys) s d (found_world given s) e
-    (group.refusal (outside_of given s.keys) (found_world given s) (group_event s.keys e))
+unfoldable pub acted : RunEnvironment → State → Declared → EventValue → Verdict
+acted env s d e = stepped (outside_of env s.keys) s d (found_world env s) e
+    (group.refusal (outside_of env s.keys) (found_world env s) (group_event s.keys e))
 
 -- ---- watchers
 
@@ -113,7 +113,7 @@ watchers_of all m = slice_index_or all m []
 abbrev pub watchers_at : State → ℕ → List Watching
 watchers_at s m = watchers_of s.watchers m
 
--- A member has these watchers from now on. The line is an event, and so there is a world behind it.
+-- A member has these watchers from now on. The line is an event, and so there is a world after it.
 abbrev pub with_watchers : World → State → Declared → ℕ → List Watching → State
 with_watchers w s d m watchers = record {
   declared = d;
@@ -123,14 +123,14 @@ with_watchers w s d m watchers = record {
   mirrors = s.mirrors;
 }
 
--- A member gets one watcher more, which counts as told what the member lists. The 17th is refused.
+-- A member gets one watcher more, which counts as reported what the member lists. The 17th is refused.
 abbrev pub watched : World → State → Declared → ℕ → Pattern → Verdict
 watched w s d m pattern =
     if nat_le most_watchers (length (watchers_at s m)) then refused refusal.Limit
     else says (watch_text (label_at (map party_label d.members) m) (length (watchers_at s m) + 1))
     (with_watchers w s d m (after_add pattern (catalogue_at w m) (watchers_at s m)))
 
--- The watcher of a number is told what the member lists that it asks for and was not told. There has to be one.
+-- The watcher of a number is reported what the member lists that it asks for and was not reported. There must be one.
 abbrev pub told_at : World → State → Declared → ℕ → ℕ → Verdict
 told_at w s d m number =
     if is_some (watch_of number (watchers_at s m))
@@ -150,7 +150,7 @@ told_by w s d _ = unjudged
 
 -- ---- mirrors
 
--- Mirrors are so from now on. The line is an event, and so there is a world behind it.
+-- Mirrors are so from now on. The line is an event, and so there is a world after it.
 abbrev pub with_mirrors : World → State → Declared → List Mirroring → State
 with_mirrors w s d mirrors =
     record { declared = d; keys = s.keys; world = Some w; watchers = s.watchers; mirrors = mirrors }
@@ -168,12 +168,12 @@ abbrev pub mirror_heard : World → State → Declared → ℕ → ℕ → List 
 mirror_heard w s d k i label = heard_if (group.unless_sent w k) w s d k i label
 
 -- A mirror fetches of members what it wants.
-abbrev pub mirror_fetched : Given → World → State → Declared → ℕ → List ℕ → (tries loss : ℕ) → Verdict
-mirror_fetched given w s d i label tries loss = says
+abbrev pub mirror_fetched : RunEnvironment → World → State → Declared → ℕ → List ℕ → (tries loss : ℕ) → Verdict
+mirror_fetched env w s d i label tries loss = says
     (mfetch_text label (length (asked_by w (mirror_of s.mirrors i)))
-    (length (gets given.passes w i tries loss (mirror_of s.mirrors i)))
-    (attempts_made given.passes w i tries loss (mirror_of s.mirrors i)))
-    (with_mirror w s d i (mirror_fetches given.passes w i tries loss (mirror_of s.mirrors i)))
+    (length (gets env.passes w i tries loss (mirror_of s.mirrors i)))
+    (attempts_made env.passes w i tries loss (mirror_of s.mirrors i)))
+    (with_mirror w s d i (mirror_fetches env.passes w i tries loss (mirror_of s.mirrors i)))
 
 -- A mirror's catalogue is listed.
 abbrev pub mirror_listed : World → State → Declared → ℕ → List ℕ → Verdict
@@ -185,10 +185,10 @@ abbrev pub heard_by : World → State → Declared → List Value → Verdict
 heard_by w s d (Number k ∷ Text l ∷ []) = mirror_heard w s d k (mirror_number l d.mirrors) l
 heard_by w s d _ = unjudged
 
-abbrev pub fetched_by : Given → World → State → Declared → List Value → Verdict
-fetched_by given w s d (Text l ∷ Number workers ∷ Number tries ∷ Number loss ∷ []) =
-    mirror_fetched given w s d (mirror_number l d.mirrors) l tries loss
-fetched_by given w s d _ = unjudged
+abbrev pub fetched_by : RunEnvironment → World → State → Declared → List Value → Verdict
+fetched_by env w s d (Text l ∷ Number workers ∷ Number tries ∷ Number loss ∷ []) =
+    mirror_fetched env w s d (mirror_number l d.mirrors) l tries loss
+fetched_by env w s d _ = unjudged
 
 abbrev pub listed_by : World → State → Declared → List Value → Verdict
 listed_by w s d (Text l ∷ []) = mirror_listed w s d (mirror_number l d.mirrors) l
@@ -254,28 +254,28 @@ declaring_mirror s d (Text label ∷ publisher ∷ Named prefix ∷ []) = says [
 })
 declaring_mirror s d _ = unjudged
 
-abbrev pub acted_if : Given → State → Declared → Option EventValue → Verdict
-acted_if given s d (Some e) = acted given s d e
-acted_if given s d None = unjudged
+abbrev pub acted_if : RunEnvironment → State → Declared → Option EventValue → Verdict
+acted_if env s d (Some e) = acted env s d e
+acted_if env s d None = unjudged
 
-unfoldable pub acted_by : Given → State → Declared → Stated → Verdict
-acted_by given s d line = acted_if given s d (said_event d line)
+unfoldable pub acted_by : RunEnvironment → State → Declared → Stated → Verdict
+acted_by env s d line = acted_if env s d (stated_event d line)
 
 -- What a line does that nothing before it refuses.
-abbrev pub taken_by : Verb → Given → State → Declared → Stated → Verdict
-taken_by verb.Group given s d line = with_group s d line.values
-taken_by verb.Member given s d line = declaring_member s d line.values
-taken_by verb.Client given s d line = with_client s d line.values
-taken_by verb.Mirror given s d line = declaring_mirror s d line.values
-taken_by verb.Watch given s d line = watched_by (found_world given s) s d line.values
-taken_by verb.Told given s d line = told_by (found_world given s) s d line.values
-taken_by verb.Mdeliver given s d line = heard_by (found_world given s) s d line.values
-taken_by verb.Mfetch given s d line = fetched_by given (found_world given s) s d line.values
-taken_by verb.Mcatalogue given s d line = listed_by (found_world given s) s d line.values
-taken_by _ given s d line = acted_by given s d line
+abbrev pub taken_by : Verb → RunEnvironment → State → Declared → Stated → Verdict
+taken_by verb.Group env s d line = with_group s d line.values
+taken_by verb.Member env s d line = declaring_member s d line.values
+taken_by verb.Client env s d line = with_client s d line.values
+taken_by verb.Mirror env s d line = declaring_mirror s d line.values
+taken_by verb.Watch env s d line = watched_by (found_world env s) s d line.values
+taken_by verb.Told env s d line = told_by (found_world env s) s d line.values
+taken_by verb.Mdeliver env s d line = heard_by (found_world env s) s d line.values
+taken_by verb.Mfetch env s d line = fetched_by env (found_world env s) s d line.values
+taken_by verb.Mcatalogue env s d line = listed_by (found_world env s) s d line.values
+taken_by _ env s d line = acted_by env s d line
 
-unfoldable pub line_taken : Given → State → Declared → Stated → Verdict
-line_taken given s d line = taken_by line.verb given s d line
+unfoldable pub line_taken : RunEnvironment → State → Declared → Stated → Verdict
+line_taken env s d line = taken_by line.verb env s d line
 
 abbrev pub check_refused : CheckFault → Verdict
 check_refused check_fault.NoGroup = refused refusal.NoGroup
@@ -286,34 +286,34 @@ check_refused check_fault.Limit = refused refusal.Limit
 check_refused check_fault.TooLarge = refused refusal.TooLarge
 check_refused check_fault.NoMemory = unjudged
 
-abbrev pub checked : Given → State → Stated → Result Declared CheckFault → Verdict
-checked given s line (Ok d) = line_taken given s d line
-checked given s line (Err fault) = check_refused fault
+abbrev pub checked : RunEnvironment → State → Stated → Result Declared CheckFault → Verdict
+checked env s line (Ok d) = line_taken env s d line
+checked env s line (Err fault) = check_refused fault
 
 -- What a line comes to that octets are.
-unfoldable pub judged_line : Given → State → Stated → Verdict
-judged_line given s line = checked given s line (after_line s.declared line)
+unfoldable pub judged_line : RunEnvironment → State → Stated → Verdict
+judged_line env s line = checked env s line (after_line s.declared line)
 
 -- What octets are that no line is: the order of the tests is that of reading, then of what was declared, then of
 -- the group.
-abbrev pub read : Given → State → Result (Option Stated) LineFault → Verdict
-read given s (Ok (Some line)) = judged_line given s line
-read given s (Ok None) = says [] s
-read given s (Err line_fault.Syntax) = refused refusal.Syntax
-read given s (Err line_fault.Limit) = refused refusal.Limit
-read given s (Err line_fault.NoMemory) = unjudged
+abbrev pub read : RunEnvironment → State → Result (Option Stated) LineFault → Verdict
+read env s (Ok (Some line)) = judged_line env s line
+read env s (Ok None) = says [] s
+read env s (Err line_fault.Syntax) = refused refusal.Syntax
+read env s (Err line_fault.Limit) = refused refusal.Limit
+read env s (Err line_fault.NoMemory) = unjudged
 
 -- What the octets of a line come to, its line feed among them.
-unfoldable pub judged : Given → State → List ℕ → Verdict
-judged given s octets = read given s (line_of octets)
+unfoldable pub judged : RunEnvironment → State → List ℕ → Verdict
+judged env s octets = read env s (line_of octets)
 
 -- ---- what is promised
 
 -- No line is left unjudged.
 abbrev pub EachLineIsJudged : Type 0
-EachLineIsJudged = (given : Given) (s : State) (octets : List ℕ) → judged given s octets ≢ unjudged
+EachLineIsJudged = (env : RunEnvironment) (s : State) (octets : List ℕ) → judged env s octets ≢ unjudged
 
--- Syntax is told of a line exactly where the grammar refuses it.
+-- Syntax is reported of a line exactly where the grammar refuses it.
 abbrev pub SyntaxIsOfTheGrammar : Type 0
-SyntaxIsOfTheGrammar = (given : Given) (s : State) (octets : List ℕ)
-    → (judged given s octets ≡ refused refusal.Syntax) ↔ (line_of octets ≡ Err line_fault.Syntax)
+SyntaxIsOfTheGrammar = (env : RunEnvironment) (s : State) (octets : List ℕ)
+    → (judged env s octets ≡ refused refusal.Syntax) ↔ (line_of octets ≡ Err line_fault.Syntax)

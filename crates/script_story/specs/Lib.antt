@@ -1,12 +1,12 @@
 pub mod RefusalTexts
-pub mod ToldTexts
-pub mod SaidEvents
+pub mod ReportedTexts
+pub mod StatedEvents
 pub mod Mirrors
 pub mod Judging
 pub mod Story
 pub mod Answers
 pub mod Headline
-pub mod ToldMembers
+pub mod InformedMembers
 pub mod Listings
 pub mod ListedDigests
 pub mod HeldPackets

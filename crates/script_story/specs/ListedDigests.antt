@@ -8,19 +8,19 @@ use Rattle.repo_plan.specs.Parts.{most_listed, parent_number}
 use Rattle.repo_object.specs.Objects.{Post, Publisher, shape_in}
 use Rattle.repo_object.specs.Publication.{RecordSays, packet_at}
 use Rattle.repo_object.specs.Publication.RecordSays.{Lists, WithdrawsNumber}
-use Rattle.repo_object.specs.Verdict.{index_in, said_in}
+use Rattle.repo_object.specs.Verdict.{index_in, stated_in}
 use Rattle.repo_object.specs.Wants.{listed_in}
 
 -- Those of a record. That of a withdrawal lists none.
-abbrev pub digests_said : Option RecordSays → List (List ℕ)
-digests_said (Some (Lists listed)) = listed.digests
-digests_said (Some (WithdrawsNumber seq)) = []
-digests_said None = []
+abbrev pub digests_stated : Option RecordSays → List (List ℕ)
+digests_stated (Some (Lists listed)) = listed.digests
+digests_stated (Some (WithdrawsNumber seq)) = []
+digests_stated None = []
 
 -- Those of part `x`, which is the record or an index packet.
 abbrev pub listed_digests : Publisher → ℕ → Post → ℕ → List (List ℕ)
 listed_digests by seq post x =
-    if x == 0 then digests_said (option_and_then said_in (packet_at by seq post 0))
+    if x == 0 then digests_stated (option_and_then stated_in (packet_at by seq post 0))
     else unwrap_or
     (option_and_then (λ octets. index_in octets (listed_in (shape_in post).segments (x - 1))) (packet_at by seq post x))
     []

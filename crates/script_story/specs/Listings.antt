@@ -1,4 +1,4 @@
--- What members list: right after a settle, whatever was deleted; from then on; and where all are told of all.
+-- What members list: right after a settle, whatever was deleted; from then on; and where all know of all.
 use Rattle.std.specs.Prelude.{ℕ, ◌≡◌, ◌≢◌, ◌<◌, ◌↔◌, true, false, List, [], ◌∷◌, ◌++◌, length, slice_index}
 use Rattle.repo_plan.specs.Parts.{Pair}
 use Rattle.repo_catalog.specs.Entries.{lists}
@@ -11,75 +11,77 @@ use Rattle.group_model.specs.Lasting.{StaysListed}
 use Rattle.group_model.specs.Laws.{NothingHidden, NothingWanted}
 use Rattle.script_lang.specs.declared.verb.Verb.TheVariants as verb
 use Rattle.script_lang.specs.Kinds.{Text, Number}
-use Rattle.script_lang.specs.Forms.{said}
+use Rattle.script_lang.specs.Forms.{statement}
 use Rattle.script_report.specs.Labels.{label_at}
-use Rattle.script_story.specs.Judging.{Given}
+use Rattle.script_story.specs.Judging.{RunEnvironment}
 use Rattle.script_story.specs.Story.{Reached}
 use Rattle.script_story.specs.Headline.{AreTakenFirst, IsJoined, IsSettleLine, LinesAreTaken, Says, group_at, labels_at}
 
 -- ---- right after a settle
 
--- What a member is to list behind a settle: an object of which the members held every part between them before it, that
+-- What a member is to list after a settle: an object of which the members held every part between them before it, that
 -- the member hasn't deleted, and of whose withdrawals it holds no record.
-pub record IsLeftToList (before behind : World) (m : ℕ) (pair : Pair) : Type 0 where
+pub record IsLeftToList (before after : World) (m : ℕ) (pair : Pair) : Type 0 where
   pub held : IsHeldAmong before pair
-  pub undeleted : member_hides (member behind m) pair ≡ false
-  pub not_withdrawn : HoldsNoWithdrawal (logs behind) (member behind m) pair
+  pub undeleted : member_hides (member after m) pair ≡ false
+  pub not_withdrawn : HoldsNoWithdrawal (logs after) (member after m) pair
 
 -- Right after a `settle` line each member lists just that.
 abbrev pub SettledListWhatIsHeld : Type 0
-SettledListWhatIsHeld = (given : Given) (lines reports : List (List ℕ)) (r : Reached)
-    → AreTakenFirst given lines reports r → (report : List ℕ) (new : Reached) → IsSettleLine given r report new
-    → (m : ℕ) (pair : Pair) → m < length (group_at given r).members
-    → (lists pair (catalogue_at (group_at given new) m) ≡ true)
-    ↔ IsLeftToList (group_at given r) (group_at given new) m pair
+SettledListWhatIsHeld = (env : RunEnvironment) (lines reports : List (List ℕ)) (r : Reached)
+    → AreTakenFirst env lines reports r → (report : List ℕ) (new : Reached) → IsSettleLine env r report new
+    → (m : ℕ) (pair : Pair) → m < length (group_at env r).members
+    → (lists pair (catalogue_at (group_at env new) m) ≡ true)
+    ↔ IsLeftToList (group_at env r) (group_at env new) m pair
 
 -- The same in the words of the join: the object belongs in the join of all publications, so that no publication
 -- withdraws it.
-pub record IsLeftOfJoin (before behind : World) (m : ℕ) (pair : Pair) : Type 0 where
-  pub joins : BelongsInJoin (logs behind) pair
+pub record IsLeftOfJoin (before after : World) (m : ℕ) (pair : Pair) : Type 0 where
+  pub joins : BelongsInJoin (logs after) pair
   pub held : IsHeldAmong before pair
-  pub undeleted : member_hides (member behind m) pair ≡ false
+  pub undeleted : member_hides (member after m) pair ≡ false
 
 -- That is what each member lists too: no withdrawal is ever deleted, so each of them comes to all in a settle.
 abbrev pub SettledListWhatIsLeft : Type 0
-SettledListWhatIsLeft = (given : Given) (lines reports : List (List ℕ)) (r : Reached)
-    → AreTakenFirst given lines reports r → (report : List ℕ) (new : Reached) → IsSettleLine given r report new
-    → (m : ℕ) (pair : Pair) → m < length (group_at given r).members
-    → (lists pair (catalogue_at (group_at given new) m) ≡ true)
-    ↔ IsLeftOfJoin (group_at given r) (group_at given new) m pair
+SettledListWhatIsLeft = (env : RunEnvironment) (lines reports : List (List ℕ)) (r : Reached)
+    → AreTakenFirst env lines reports r → (report : List ℕ) (new : Reached) → IsSettleLine env r report new
+    → (m : ℕ) (pair : Pair) → m < length (group_at env r).members
+    → (lists pair (catalogue_at (group_at env new) m) ≡ true)
+    ↔ IsLeftOfJoin (group_at env r) (group_at env new) m pair
 
 -- ---- from then on
 
--- What a member lists it lists behind any further lines that are taken, with the same object, unless it has deleted it
+-- What a member lists it lists after any further lines that are taken, with the same object, unless it has deleted it
 -- by then or holds the record of a withdrawal of it.
 abbrev pub ListedStay : Type 0
-ListedStay = (given : Given) (before told : List (List ℕ)) (r : Reached) → AreTakenFirst given before told r
-    → (lines reports : List (List ℕ)) (last : Reached) → LinesAreTaken given r lines reports last
-    → (m : ℕ) (pair : Pair) → m < length (group_at given r).members
-    → lists pair (catalogue_at (group_at given r) m) ≡ true
-    → StaysListed (group_at given r) (group_at given last) m pair
+ListedStay = (env : RunEnvironment) (before reported : List (List ℕ)) (r : Reached)
+    → AreTakenFirst env before reported r
+    → (lines reports : List (List ℕ)) (last : Reached) → LinesAreTaken env r lines reports last
+    → (m : ℕ) (pair : Pair) → m < length (group_at env r).members
+    → lists pair (catalogue_at (group_at env r) m) ≡ true
+    → StaysListed (group_at env r) (group_at env last) m pair
 
 -- ---- where all are told of all
 
--- One of these lines delivers to a member, by its label, a sync Interest that tells of all that another publishes in
+-- One of these lines delivers to a member, by its label, a sync Interest that reports all that another publishes in
 -- them: in the place of that one its vector has the number of the last publication.
-pub record IsToldOfAll (given : Given) (lines : List (List ℕ)) (last : Reached) (m p : ℕ) : Type 0 where
+pub record IsInformedOfAll (env : RunEnvironment) (lines : List (List ℕ)) (last : Reached) (m p : ℕ) : Type 0 where
   pub before : List (List ℕ)
   pub line : List ℕ
   pub others : List (List ℕ)
   pub lines_are : lines ≡ before ++ line ∷ others
-  pub told : List (List ℕ)
+  pub reported : List (List ℕ)
   pub here : Reached
-  pub taken : AreTakenFirst given before told here
+  pub taken : AreTakenFirst env before reported here
   pub sync : ℕ
-  pub stated : Says line (said verb.Deliver (Number sync ∷ Text (label_at (labels_at last) m) ∷ []))
-  pub tells : slice_index (sent_at (group_at given here) sync).vector p ≡ last_of (logs (group_at given last)) p
+  pub stated : Says line (statement verb.Deliver (Number sync ∷ Text (label_at (labels_at last) m) ∷ []))
+  pub tells : slice_index (sent_at (group_at env here) sync).vector p ≡ last_of (logs (group_at env last)) p
 
--- Where each member is told of all that each other has published, if it has published at all, and nothing is wanted or
--- hidden in the end, each catalogue is the join of all publications, and is printed so, with no settle.
-abbrev pub ToldMembersJoin : Type 0
-ToldMembersJoin = (given : Given) (lines reports : List (List ℕ)) (r : Reached) → AreTakenFirst given lines reports r
-    → ((m p : ℕ) → m < length (labels_at r) → m ≢ p → 0 < last_of (logs (group_at given r)) p
-    → IsToldOfAll given lines r m p)
-    → NothingWanted (group_at given r) → NothingHidden (group_at given r) → IsJoined given r
+-- Where each member is informed of all that each other has published, if it has published at all, and nothing is wanted
+-- or hidden in the end, each catalogue is the join of all publications, and is printed so, with no settle.
+abbrev pub InformedMembersJoin : Type 0
+InformedMembersJoin = (env : RunEnvironment) (lines reports : List (List ℕ)) (r : Reached)
+    → AreTakenFirst env lines reports r
+    → ((m p : ℕ) → m < length (labels_at r) → m ≢ p → 0 < last_of (logs (group_at env r)) p
+    → IsInformedOfAll env lines r m p)
+    → NothingWanted (group_at env r) → NothingHidden (group_at env r) → IsJoined env r

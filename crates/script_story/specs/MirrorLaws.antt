@@ -6,7 +6,7 @@ use Rattle.script_lang.specs.declared.line_fault.LineFault.{LineFault}
 use Rattle.script_lang.specs.declared.verb.Verb.{Verb}
 use Rattle.script_lang.specs.declared.verb.Verb.TheVariants as verb
 use Rattle.script_lang.specs.Kinds.{Text, Number}
-use Rattle.script_lang.specs.Forms.{Stated, said}
+use Rattle.script_lang.specs.Forms.{Stated, statement}
 use Rattle.script_lang.specs.Lines.{line_of}
 use Rattle.repo_catalog.specs.declared.entry.Entry.{Entry}
 use Rattle.group_model.specs.Publications.{join_of}
@@ -14,16 +14,16 @@ use Rattle.group_model.specs.Laws.{NothingHidden}
 use Rattle.group_model.specs.World.{logs}
 use Rattle.repo_mirror.specs.Mirrors.{is_entry_accepted}
 use Rattle.script_story.specs.Mirrors.{Mirroring, mirror_of, mirrored_entries}
-use Rattle.script_story.specs.ToldTexts.{listing_text}
-use Rattle.script_story.specs.Judging.{Given}
+use Rattle.script_story.specs.ReportedTexts.{listing_text}
+use Rattle.script_story.specs.Judging.{RunEnvironment}
 use Rattle.script_story.specs.Story.{Reached}
-use Rattle.script_story.specs.Headline.{AreTakenFirst, LineIsTaken, Says, group_at, labels_at, only_tells}
+use Rattle.script_story.specs.Headline.{AreTakenFirst, LineIsTaken, Says, group_at, labels_at, only_reports}
 
 -- An `mcatalogue` line of this label that is taken.
-pub record IsMirrorLine (given : Given) (r : Reached) (label report : List ℕ) (new : Reached) : Type 0 where
+pub record IsMirrorLine (env : RunEnvironment) (r : Reached) (label report : List ℕ) (new : Reached) : Type 0 where
   pub line : List ℕ
-  pub stated : Says line (said verb.Mcatalogue (Text label ∷ []))
-  pub taken : LineIsTaken given r line report new
+  pub stated : Says line (statement verb.Mcatalogue (Text label ∷ []))
+  pub taken : LineIsTaken env r line report new
 
 -- The report lists these entries, which depend on the mirror with this label.
 pub record ListsOfMirror (r : Reached) (label report : List ℕ) (entries : Mirroring → List Entry) : Type 0 where
@@ -35,15 +35,16 @@ pub record ListsOfMirror (r : Reached) (label report : List ℕ) (entries : Mirr
 -- An `mcatalogue` line prints exactly the objects that the mirror's pattern is for and of which it holds every part,
 -- and no withdrawal.
 abbrev pub MirrorsAreListed : Type 0
-MirrorsAreListed = (given : Given) (lines reports : List (List ℕ)) (r : Reached) → AreTakenFirst given lines reports r
-    → (label report : List ℕ) (new : Reached) → IsMirrorLine given r label report new
-    → ListsOfMirror r label report (mirrored_entries (group_at given r))
+MirrorsAreListed = (env : RunEnvironment) (lines reports : List (List ℕ)) (r : Reached)
+    → AreTakenFirst env lines reports r
+    → (label report : List ℕ) (new : Reached) → IsMirrorLine env r label report new
+    → ListsOfMirror r label report (mirrored_entries (group_at env r))
 
 -- These forms change nothing of the group, and nothing of its mirrors.
 abbrev pub only_shows : Verb → Bool
 only_shows verb.Mdeliver = false
 only_shows verb.Mfetch = false
-only_shows form = only_tells form
+only_shows form = only_reports form
 
 -- So does a line that states nothing.
 abbrev pub shows_alone : Result (Option Stated) LineFault → Bool
@@ -51,13 +52,13 @@ shows_alone (Ok None) = true
 shows_alone (Ok (Some stated)) = only_shows stated.verb
 shows_alone (Err fault) = false
 
--- Behind a `settle` line, where nothing is hidden and the lines between change nothing of group and mirrors, these are
+-- After a `settle` line, where nothing is hidden and the lines between change nothing of group and mirrors, these are
 -- just the objects of the join of all publications that the mirror's pattern is for.
 abbrev pub MirrorsListTheirJoin : Type 0
-MirrorsListTheirJoin = (given : Given) (before : List (List ℕ)) (settle : List ℕ) (workers : ℕ)
-    (between reports : List (List ℕ)) (r : Reached) → AreTakenFirst given (before ++ settle ∷ between) reports r
-    → NothingHidden (group_at given r) → Says settle (said verb.Settle (Number workers ∷ []))
+MirrorsListTheirJoin = (env : RunEnvironment) (before : List (List ℕ)) (settle : List ℕ) (workers : ℕ)
+    (between reports : List (List ℕ)) (r : Reached) → AreTakenFirst env (before ++ settle ∷ between) reports r
+    → NothingHidden (group_at env r) → Says settle (statement verb.Settle (Number workers ∷ []))
     → list_all (λ line. shows_alone (line_of line)) between ≡ true
-    → (label report : List ℕ) (new : Reached) → IsMirrorLine given r label report new
+    → (label report : List ℕ) (new : Reached) → IsMirrorLine env r label report new
     → ListsOfMirror r label report
-    (λ (m : Mirroring). filter (is_entry_accepted m.pattern) (join_of (logs (group_at given r))))
+    (λ (m : Mirroring). filter (is_entry_accepted m.pattern) (join_of (logs (group_at env r))))

@@ -20,7 +20,7 @@ use Rattle.group_model.specs.Steps.{settled_vector}
 use Rattle.repo_mirror.specs.Asked.{is_kept}
 use Rattle.repo_mirror.specs.Mirrors.{is_object_accepted, mirror_holds}
 use Rattle.repo_mirror.specs.MirrorState.{MirrorState}
-use Rattle.repo_mirror.specs.TrueMirrors.{mirror_in_group}
+use Rattle.repo_mirror.specs.ConsistentMirrors.{mirror_in_group}
 
 -- A mirror, as its group sees it.
 pub record Mirroring : Type 0 where
@@ -34,9 +34,9 @@ abbrev pub mirror_begins : ℕ → Pattern → Mirroring
 mirror_begins members pattern =
     record { pattern = pattern; known = replicate members 0; holds = λ t. false; tries = λ t. 0 }
 
--- It is told a vector.
+-- It is given a vector.
 abbrev pub mirror_hears : List ℕ → Mirroring → Mirroring
-mirror_hears told m = record m { known = join m.known told }
+mirror_hears reported m = record m { known = join m.known reported }
 
 -- The mirror with its packets, as its group sees it.
 abbrev pub mirror_as : MirrorState → Mirroring

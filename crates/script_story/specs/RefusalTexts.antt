@@ -50,7 +50,7 @@ packet_fault_text (packet.Critical typ at) = codes "Critical " ++ (decimal typ +
 packet_fault_text (packet.Missing named) = codes "Missing " ++ field_word named
 packet_fault_text (packet.BadField named at) = codes "BadField " ++ (field_word named ++ (codes " " ++ decimal at))
 
--- A member is told by its label. No octets are refused for want of memory, and no report has a text for it.
+-- A member is given by its label. No octets are refused when memory runs out, and no report has a text for it.
 abbrev pub vector_fault_text : List (List ℕ) → VectorFault → List ℕ
 vector_fault_text labels (vector.BadVector at) = codes "BadVector " ++ decimal at
 vector_fault_text labels (vector.NumberTooLarge m number) =
@@ -69,7 +69,7 @@ sync_refusal_text labels sync.NoMemory = []
 
 abbrev pub hear_refusal_text : List (List ℕ) → HearRefusal → List ℕ
 hear_refusal_text labels (hear.Sync refusal) = sync_refusal_text labels refusal
-hear_refusal_text labels (hear.OwnNumberAhead own told) = codes "OwnNumberAhead"
+hear_refusal_text labels (hear.OwnNumberAhead own reported) = codes "OwnNumberAhead"
 hear_refusal_text labels hear.NoMemory = []
 
 abbrev pub part_refusal_text : PartRefusal → List ℕ

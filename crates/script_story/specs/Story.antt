@@ -1,4 +1,4 @@
--- What a script comes to: the text of its report, its end, and the group behind its last line.
+-- What a script comes to: the text of its report, its end, and the group after its last line.
 use Rattle.std.specs.Prelude.{◌≡◌, ℕ, ◌+◌, Bool, ◌&&◌, List, [], ◌∷◌, ◌++◌, length, Option, None, nat_lt, nat_le}
 use Rattle.std.specs.Prelude.{if◌then◌else◌}
 use Rattle.script_lang.specs.Limits.{script_lines, script_octets}
@@ -13,7 +13,8 @@ use Rattle.script_report.specs.declared.refusal.Refusal.TheVariants.{Limit, TooL
 use Rattle.script_report.specs.Refusals.{refusal_number, refusal_text}
 use Rattle.repo_io.specs.Lines.{lines}
 use Rattle.script_story.specs.Mirrors.{Mirroring}
-use Rattle.script_story.specs.Judging.{Given, State, Verdict, no_group, opening_state, judged, says, foreign, unjudged}
+use Rattle.script_story.specs.Judging.{RunEnvironment, State, Verdict, no_group, opening_state, judged, says, foreign}
+use Rattle.script_story.specs.Judging.{unjudged}
 use Rattle.script_story.specs.Judging as verdict
 
 -- ---- what the lines so far came to
@@ -28,9 +29,9 @@ pub record Reached : Type 0 where
 abbrev pub nothing_reached : Reached
 nothing_reached = record { lines = 0; octets = 0; reported = 0; state = opening_state }
 
--- The same behind one more line, which had this report.
-abbrev pub reached_behind : Reached → List ℕ → List ℕ → State → Reached
-reached_behind r line report next = record {
+-- The same after one more line, which had this report.
+abbrev pub reached_after : Reached → List ℕ → List ℕ → State → Reached
+reached_after r line report next = record {
   lines = r.lines + 1;
   octets = r.octets + length line;
   reported = r.reported + length report;
@@ -52,13 +53,13 @@ within_report r foreign = foreign
 within_report r unjudged = unjudged
 
 -- What the next line comes to.
-abbrev pub judged_next : Given → Reached → List ℕ → Verdict
-judged_next given r line =
-    if is_within_script r line then within_report r (judged given r.state line) else verdict.refused Limit
+abbrev pub judged_next : RunEnvironment → Reached → List ℕ → Verdict
+judged_next env r line =
+    if is_within_script r line then within_report r (judged env r.state line) else verdict.refused Limit
 
 -- ---- the whole
 
--- The text of a report, how the script ends, and behind the last line that was taken the names and keys of the group,
+-- The text of a report, how the script ends, and after the last line that was taken the names and keys of the group,
 -- its world once there was an event, and its mirrors.
 pub record Story : Type 0 where
   pub text : List ℕ
@@ -68,32 +69,32 @@ pub record Story : Type 0 where
   pub mirrors : List Mirroring
 
 -- A text, and then a story.
-abbrev pub behind_text : List ℕ → Story → Story
-behind_text text s = record s { text = text ++ s.text }
+abbrev pub after_text : List ℕ → Story → Story
+after_text text s = record s { text = text ++ s.text }
 
 -- A story that ends here, with this text.
 abbrev pub ended : State → List ℕ → Ending → Story
 ended s text ending =
     record { text = text; ending = ending; keys = s.keys; world = s.world; mirrors = s.mirrors }
 
--- The story of a line and of those behind it. A line that is refused or foreign ends it. One that no row judges would
+-- The story of a line and of those after it. A line that is refused or foreign ends it. One that no row judges would
 -- end it as refused under 0, which is the number of no refusal.
 abbrev pub story_of_line : (Reached → Story) → Reached → List ℕ → Verdict → Story
-story_of_line others r line (says report next) = behind_text report (others (reached_behind r line report next))
+story_of_line others r line (says report next) = after_text report (others (reached_after r line report next))
 story_of_line others r line (verdict.refused why) =
     ended r.state (refusal_text (r.lines + 1) why) (Refused (r.lines + 1) (refusal_number why))
 story_of_line others r line foreign = ended r.state (foreign_text (r.lines + 1)) (Foreign (r.lines + 1))
 story_of_line others r line unjudged = ended r.state [] (Refused (r.lines + 1) 0)
 
 -- The story of lines that follow those so far.
-unfoldable pub story_from : Given → Reached → List (List ℕ) → Story
-story_from given r [] = ended r.state [] Done
-story_from given r (line ∷ others) =
-    story_of_line (λ next. story_from given next others) r line (judged_next given r line)
+unfoldable pub story_from : RunEnvironment → Reached → List (List ℕ) → Story
+story_from env r [] = ended r.state [] Done
+story_from env r (line ∷ others) =
+    story_of_line (λ next. story_from env next others) r line (judged_next env r line)
 
 -- The story of an input.
-abbrev pub story_of : Given → List ℕ → Story
-story_of given input = story_from given nothing_reached (lines input)
+abbrev pub story_of : RunEnvironment → List ℕ → Story
+story_of env input = story_from env nothing_reached (lines input)
 
 -- The story of what is no script: there is no group in it.
 abbrev pub plain_story : List ℕ → Ending → Story
@@ -104,6 +105,6 @@ abbrev pub refused : Refusal → Story
 refused why = plain_story (refusal_text 1 why) (Refused 1 (refusal_number why))
 
 -- A script reports this text, and ends so.
-pub record Reports (given : Given) (script text : List ℕ) (ending : Ending) : Type 0 where
-  pub text_is : (story_of given script).text ≡ text
-  pub ending_is : (story_of given script).ending ≡ ending
+pub record Reports (env : RunEnvironment) (script text : List ℕ) (ending : Ending) : Type 0 where
+  pub text_is : (story_of env script).text ≡ text
+  pub ending_is : (story_of env script).ending ≡ ending

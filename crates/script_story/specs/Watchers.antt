@@ -1,30 +1,30 @@
--- What watchers are told over whole stories.
+-- What watchers are given over whole stories.
 use Rattle.std.specs.Prelude.{ℕ, ◌≡◌, ◌<◌, true, false, List, [], ◌∷◌, ◌++◌, length, Some}
 use Rattle.std.specs.List.{filter, list_all}
 use Rattle.repo_plan.specs.Parts.{Pair}
 use Rattle.repo_catalog.specs.declared.entry.Entry.{Entry}
 use Rattle.repo_catalog.specs.Entries.{lists}
 use Rattle.repo_watch.specs.Watching.{Watching, is_for, watch_of}
-use Rattle.repo_watch.specs.Laws.{was_told}
+use Rattle.repo_watch.specs.Laws.{was_reported}
 use Rattle.group_model.specs.Publications.{join_of}
 use Rattle.group_model.specs.World.{catalogue_at, logs}
 use Rattle.script_lang.specs.declared.verb.Verb.TheVariants as verb
 use Rattle.script_lang.specs.Kinds.{Text, Number}
-use Rattle.script_lang.specs.Forms.{said}
+use Rattle.script_lang.specs.Forms.{statement}
 use Rattle.script_lang.specs.Lines.{line_of}
 use Rattle.script_report.specs.Labels.{label_at}
-use Rattle.script_story.specs.ToldTexts.{labelled_news}
-use Rattle.script_story.specs.Judging.{Given, watchers_at}
+use Rattle.script_story.specs.ReportedTexts.{labelled_news}
+use Rattle.script_story.specs.Judging.{RunEnvironment, watchers_at}
 use Rattle.script_story.specs.Story.{Reached}
 use Rattle.script_story.specs.Headline.{AreTakenFirst, LineIsTaken, LinesAreTaken, Says, changes_nothing}
 use Rattle.script_story.specs.Headline.{deletes_nothing, group_at, labels_at}
 
 -- A `told` line of this label and number that is taken.
-pub record IsToldLine (given : Given) (r : Reached) (label : List ℕ) (number : ℕ) (report : List ℕ)
+pub record IsReportedLine (env : RunEnvironment) (r : Reached) (label : List ℕ) (number : ℕ) (report : List ℕ)
     (new : Reached) : Type 0 where
   pub line : List ℕ
-  pub stated : Says line (said verb.Told (Text label ∷ Number number ∷ []))
-  pub taken : LineIsTaken given r line report new
+  pub stated : Says line (statement verb.Told (Text label ∷ Number number ∷ []))
+  pub taken : LineIsTaken env r line report new
 
 -- Two reports tell the watcher of a number of entries, and no publication has an entry in both.
 pub record TellApart (labels : List (List ℕ)) (label : List ℕ) (number : ℕ) (first later : List ℕ) : Type 0 where
@@ -35,45 +35,45 @@ pub record TellApart (labels : List (List ℕ)) (label : List ℕ) (number : ℕ
   pub apart : (pair : Pair) → lists pair entries ≡ true → lists pair others ≡ false
 
 -- So do any two `told` lines of a watcher, whatever lines stand between them.
-abbrev pub WatchersAreToldOnce : Type 0
-WatchersAreToldOnce = (given : Given) (lines reports : List (List ℕ)) (r : Reached)
-    → AreTakenFirst given lines reports r → (label : List ℕ) (number : ℕ) (first : List ℕ) (new : Reached)
-    → IsToldLine given r label number first new → (between told : List (List ℕ)) (here : Reached)
-    → LinesAreTaken given new between told here → (later : List ℕ) (last : Reached)
-    → IsToldLine given here label number later last → TellApart (labels_at r) label number first later
+abbrev pub NewsIsReportedOnce : Type 0
+NewsIsReportedOnce = (env : RunEnvironment) (lines reports : List (List ℕ)) (r : Reached)
+    → AreTakenFirst env lines reports r → (label : List ℕ) (number : ℕ) (first : List ℕ) (new : Reached)
+    → IsReportedLine env r label number first new → (between reported : List (List ℕ)) (here : Reached)
+    → LinesAreTaken env new between reported here → (later : List ℕ) (last : Reached)
+    → IsReportedLine env here label number later last → TellApart (labels_at r) label number first later
 
 -- A `told` line of a member's watcher, which is this one then.
-pub record IsToldTo (given : Given) (r : Reached) (m number : ℕ) (watching : Watching) (report : List ℕ)
+pub record IsReportedTo (env : RunEnvironment) (r : Reached) (m number : ℕ) (watching : Watching) (report : List ℕ)
     (new : Reached) : Type 0 where
   pub label : List ℕ
-  pub line : IsToldLine given r label number report new
+  pub line : IsReportedLine env r label number report new
   pub there : m < length (labels_at r)
   pub named : label_at (labels_at r) m ≡ label
   pub watcher : watch_of number (watchers_at r.state m) ≡ Some watching
 
--- The watcher of a member was told the publication, or counts it as told.
-abbrev pub IsAmongTold : Reached → ℕ → ℕ → Pair → Type 0
-IsAmongTold r m number pair = was_told (watch_of number (watchers_at r.state m)) pair ≡ true
+-- The watcher of a member was given the publication, or counts it as reported.
+abbrev pub IsAmongReported : Reached → ℕ → ℕ → Pair → Type 0
+IsAmongReported r m number pair = was_reported (watch_of number (watchers_at r.state m)) pair ≡ true
 
--- Behind a `told` line everything in the member's catalogue that the watcher asks for is told, and stays so.
-abbrev pub WatchersAreToldAll : Type 0
-WatchersAreToldAll = (given : Given) (lines reports : List (List ℕ)) (r : Reached)
-    → AreTakenFirst given lines reports r → (m number : ℕ) (watching : Watching) (report : List ℕ) (new : Reached)
-    → IsToldTo given r m number watching report new
-    → (pair : Pair) → lists pair (filter (is_for watching.pattern) (catalogue_at (group_at given r) m)) ≡ true
-    → (others told : List (List ℕ)) (last : Reached) → LinesAreTaken given new others told last
-    → IsAmongTold last m number pair
+-- After a `told` line everything in the member's catalogue that the watcher asks for is reported, and stays so.
+abbrev pub NewsIsReportedWhole : Type 0
+NewsIsReportedWhole = (env : RunEnvironment) (lines reports : List (List ℕ)) (r : Reached)
+    → AreTakenFirst env lines reports r → (m number : ℕ) (watching : Watching) (report : List ℕ) (new : Reached)
+    → IsReportedTo env r m number watching report new
+    → (pair : Pair) → lists pair (filter (is_for watching.pattern) (catalogue_at (group_at env r) m)) ≡ true
+    → (others reported : List (List ℕ)) (last : Reached) → LinesAreTaken env new others reported last
+    → IsAmongReported last m number pair
 
--- So where a `told` line stands right behind a `settle` line, and no line can have deleted anything, everything in the
--- join of all publications that the watcher asks for is told.
-abbrev pub SettledAreTold : Type 0
-SettledAreTold = (given : Given) (before : List (List ℕ)) (settle : List ℕ) (workers : ℕ)
+-- So where a `told` line stands right after a `settle` line, and no line can have deleted anything, everything in the
+-- join of all publications that the watcher asks for is reported.
+abbrev pub SettledAreReported : Type 0
+SettledAreReported = (env : RunEnvironment) (before : List (List ℕ)) (settle : List ℕ) (workers : ℕ)
     (between reports : List (List ℕ)) (r : Reached)
-    → AreTakenFirst given (before ++ settle ∷ between) reports r
+    → AreTakenFirst env (before ++ settle ∷ between) reports r
     → list_all (λ line. deletes_nothing (line_of line)) before ≡ true
-    → Says settle (said verb.Settle (Number workers ∷ []))
+    → Says settle (statement verb.Settle (Number workers ∷ []))
     → list_all (λ line. changes_nothing (line_of line)) between ≡ true
     → (m number : ℕ) (watching : Watching) (report : List ℕ) (new : Reached)
-    → IsToldTo given r m number watching report new
-    → (pair : Pair) → lists pair (filter (is_for watching.pattern) (join_of (logs (group_at given r)))) ≡ true
-    → IsAmongTold new m number pair
+    → IsReportedTo env r m number watching report new
+    → (pair : Pair) → lists pair (filter (is_for watching.pattern) (join_of (logs (group_at env r)))) ≡ true
+    → IsAmongReported new m number pair

@@ -5,10 +5,10 @@ use Rattle.script_lang.specs.declared.line_fault.LineFault.{LineFault}
 use Rattle.script_lang.specs.declared.verb.Verb.{Verb}
 use Rattle.script_lang.specs.declared.verb.Verb.TheVariants as verb
 use Rattle.script_lang.specs.Kinds.{Value, Text, Number}
-use Rattle.script_lang.specs.Forms.{Stated, said}
+use Rattle.script_lang.specs.Forms.{Stated, statement}
 use Rattle.script_lang.specs.Lines.{line_of}
 use Rattle.repo_io.specs.Lines.{lines}
-use Rattle.script_story.specs.Judging.{Given}
+use Rattle.script_story.specs.Judging.{RunEnvironment}
 use Rattle.script_story.specs.Story.{story_of}
 
 -- The values of a line, with one worker in place of so many.
@@ -22,7 +22,7 @@ with_one_worker form values = values
 
 -- What a line is read as, with one worker in place of so many.
 abbrev pub but_for_workers : Result (Option Stated) LineFault → Result (Option Stated) LineFault
-but_for_workers (Ok (Some line)) = Ok (Some (said line.verb (with_one_worker line.verb line.values)))
+but_for_workers (Ok (Some line)) = Ok (Some (statement line.verb (with_one_worker line.verb line.values)))
 but_for_workers (Ok None) = Ok None
 but_for_workers (Err fault) = Err fault
 
@@ -33,5 +33,5 @@ DifferInWorkers a b = map (λ line. but_for_workers (line_of line)) a ≡ map (�
 -- Two inputs that differ in nothing else, and have no more octets than a script may have, have the same story: the same
 -- text, end and group.
 abbrev pub WorkersMakeNoDifference : Type 0
-WorkersMakeNoDifference = (given : Given) (a b : List ℕ) → length a ≤ script_octets → length b ≤ script_octets
-    → DifferInWorkers (lines a) (lines b) → story_of given a ≡ story_of given b
+WorkersMakeNoDifference = (env : RunEnvironment) (a b : List ℕ) → length a ≤ script_octets → length b ≤ script_octets
+    → DifferInWorkers (lines a) (lines b) → story_of env a ≡ story_of env b

@@ -1,40 +1,40 @@
 ghost use Rattle.std.specs.Prelude.{ℕ, List};
 ghost use Rattle.script_story.specs.Headline.{BeginsWithReports, EachIsTaken, HidesByDeletionAlone, IsToldBy};
 ghost use Rattle.script_story.specs.Headline.{PrintsCatalogues, PrintsLater, ReachSoundGroups, SettlesJoin};
-ghost use Rattle.script_story.specs.Headline.{TellingChangesNothing};
+ghost use Rattle.script_story.specs.Headline.{ReportChangesNothing};
 ghost use Rattle.script_story.specs.HeldPackets.{EntriesTellOfDumped, MembersHoldChecked};
-ghost use Rattle.script_story.specs.Judging.{Given};
+ghost use Rattle.script_story.specs.Judging.{RunEnvironment};
 ghost use Rattle.script_report.specs.Labels.{MembersHaveLabels};
 ghost use Rattle.repo_io.specs.Lines.{lines};
 ghost use Rattle.script_story.specs.Listings.{ListedStay, SettledListWhatIsHeld, SettledListWhatIsLeft};
-ghost use Rattle.script_story.specs.Listings.{ToldMembersJoin};
+ghost use Rattle.script_story.specs.Listings.{InformedMembersJoin};
 ghost use Rattle.script_story.specs.ShownCatalogues.{CatalogueLinesShow, SettleLinesShow};
 ghost use Rattle.script_story.specs.Story.{nothing_reached, story_of};
-ghost use Rattle.script_story.specs.ToldMembers.{ReportsTellOfMembers};
+ghost use Rattle.script_story.specs.InformedMembers.{ReportsTellOfMembers};
 ghost use Rattle.script_story.specs.MirrorLaws.{MirrorsAreListed, MirrorsListTheirJoin};
-ghost use Rattle.script_story.specs.Watchers.{SettledAreTold, WatchersAreToldAll, WatchersAreToldOnce};
+ghost use Rattle.script_story.specs.Watchers.{SettledAreReported, NewsIsReportedWhole, NewsIsReportedOnce};
 ghost use Rattle.script_story.specs.Workers.{WorkersMakeNoDifference};
 
-/// The story of an input is told by its lines: the first of them are taken one after the other, their reports are its
+/// The story of an input is known by its lines: the first of them are taken one after the other, their reports are its
 /// text, and the next line, if there is one, is refused or foreign. Each line that is taken has its report at its
-/// place. However the script goes on behind lines that are taken, its story begins with their reports.
+/// place. However the script goes on after lines that are taken, its story begins with their reports.
 pub fn stories_are_their_lines()
-    ensures told { (given : Given) (input : List ℕ)
-        → IsToldBy given nothing_reached (lines input) (story_of given input) }
+    ensures reported { (env : RunEnvironment) (input : List ℕ)
+        → IsToldBy env nothing_reached (lines input) (story_of env input) }
     ensures each { EachIsTaken }
     ensures begins { BeginsWithReports }
 {}
 
-/// Behind any lines that are taken the group is sound, its members are those that the lines declared, no two under one
-/// label, and what they published is within the limits of publications. Lines that only tell of the group, and those of
+/// After any lines that are taken the group is sound, its members are those that the lines declared, no two under one
+/// label, and what they published is within the limits of publications. Lines that only report the group, and those of
 /// watchers and of mirrors, leave it as it is.
 pub fn lines_reach_sound_groups()
     ensures sound { ReachSoundGroups }
-    ensures unchanged { TellingChangesNothing }
+    ensures unchanged { ReportChangesNothing }
 {}
 
 /// In every story a printed catalogue lists exactly the objects that the member published or wholly holds, undeleted
-/// and not known withdrawn, each once under its publisher and number, in order, with what it tells of the object. Until
+/// and not known withdrawn, each once under its publisher and number, in order, with what it says of the object. Until
 /// a line changes something the same is printed.
 pub fn printed_catalogues_list_what_is_held()
     ensures held { PrintsCatalogues }
@@ -70,11 +70,11 @@ pub fn listed_objects_stay_listed()
     ensures { ListedStay }
 {}
 
-/// Where lines deliver to each member, for each other that published, a sync Interest that tells of its last
+/// Where lines deliver to each member, for each other that published, a sync Interest that reports its last
 /// publication, and in the end nothing is wanted or deleted, every member's catalogue is the join of all publications,
 /// and is printed so, without any `settle` line.
-pub fn told_members_join_without_a_settle()
-    ensures { ToldMembersJoin }
+pub fn informed_members_join_without_a_settle()
+    ensures { InformedMembersJoin }
 {}
 
 /// In every story the packet of each part that a member holds passes for the want of that part: by its name, its
@@ -85,7 +85,7 @@ pub fn held_parts_passed_their_checks()
 {}
 
 /// In every story each entry of a catalogue tells what the dumped segments of its publication have: their contents,
-/// joined, have the entry's number of octets, and their SHA-256 is its digest. Behind the record, which is part 0, come
+/// joined, have the entry's number of octets, and their SHA-256 is its digest. After the record, which is part 0, come
 /// the index packets, one for each 200 segments where there are more than 200, and then the segments.
 pub fn entries_tell_what_dumps_show()
     ensures { EntriesTellOfDumped }
@@ -100,18 +100,18 @@ pub fn catalogue_lines_show_what_is_held()
     ensures settled { SettleLinesShow }
 {}
 
-/// In every story no two `told` lines of a watcher tell of one publication, whatever lines stand between them: also
+/// In every story no two `told` lines of a watcher report one publication, whatever lines stand between them: also
 /// restarts, deletions and withdrawals.
-pub fn watchers_are_told_once()
-    ensures { WatchersAreToldOnce }
+pub fn news_is_reported_once()
+    ensures { NewsIsReportedOnce }
 {}
 
 /// In every story a `told` line leaves nothing untold of what the member lists and the watcher asks for, and it stays
-/// told. Right after a `settle` line, where no line was taken that can delete, that is everything that the watcher asks
-/// for in the join of all publications, less what was withdrawn.
-pub fn watchers_are_told_all()
-    ensures all { WatchersAreToldAll }
-    ensures settled { SettledAreTold }
+/// reported. Right after a `settle` line, where no line was taken that can delete, that is everything that the watcher
+/// asks for in the join of all publications, less what was withdrawn.
+pub fn news_is_reported_whole()
+    ensures all { NewsIsReportedWhole }
+    ensures settled { SettledAreReported }
 {}
 
 /// Two inputs that are read as the same lines, but for how many workers their `fetch`, `mfetch` and `settle` lines ask
@@ -121,7 +121,7 @@ pub fn workers_make_no_difference()
 {}
 
 /// An `mcatalogue` line prints exactly the objects that the mirror's pattern is for, of which it holds every part and
-/// no withdrawal. Behind a `settle` line, where nothing is hidden and the lines between change nothing of group and
+/// no withdrawal. After a `settle` line, where nothing is hidden and the lines between change nothing of group and
 /// mirrors, that is what its pattern is for of the join of all publications. Nothing is hidden where no line was taken
 /// that can delete: [`a_settle_line_joins`].
 pub fn mirrors_list_what_they_ask_for()

@@ -1,9 +1,9 @@
 ghost use Rattle.std.specs.Prelude.{[], ◌++◌, codes};
 ghost use Rattle.script_story.specs.declared.ending.Ending.TheVariants.{Done, Refused};
-ghost use Rattle.script_story.specs.Judging.{EachLineIsJudged, Given, SyntaxIsOfTheGrammar};
+ghost use Rattle.script_story.specs.Judging.{EachLineIsJudged, RunEnvironment, SyntaxIsOfTheGrammar};
 ghost use Rattle.script_story.specs.Story.{Reports};
 
-/// What every line comes to is told, and it is Syntax exactly where the grammar refuses the line.
+/// What every line comes to is reported, and it is Syntax exactly where the grammar refuses the line.
 pub fn syntax_is_of_the_grammar()
     ensures judged { EachLineIsJudged }
     ensures syntax { SyntaxIsOfTheGrammar }
@@ -11,30 +11,30 @@ pub fn syntax_is_of_the_grammar()
 
 /// What small scripts report, worked out, whatever the draws and the network are.
 pub fn small_stories()
-    ensures nothing { (given : Given) → Reports given [] [] Done }
-    ensures no_group { (given : Given)
-        → Reports given (codes "settle 1\n") (codes "refused 1 9 NoGroup\n") (Refused 1 9) }
-    ensures group_alone { (given : Given) → Reports given (codes "group /g\r\nsettle 1\n\n  # moment\nadvance 5")
+    ensures nothing { (env : RunEnvironment) → Reports env [] [] Done }
+    ensures no_group { (env : RunEnvironment)
+        → Reports env (codes "settle 1\n") (codes "refused 1 9 NoGroup\n") (Refused 1 9) }
+    ensures group_alone { (env : RunEnvironment) → Reports env (codes "group /g\r\nsettle 1\n\n  # moment\nadvance 5")
         (codes "settle syncs 0 kept 0\nadvance now 5\n") Done }
-    ensures nobody { (given : Given)
-        → Reports given (codes "group /g\nmember alice /alice 6b31\nvector alice\nvector bob\nsummary\n")
+    ensures nobody { (env : RunEnvironment)
+        → Reports env (codes "group /g\nmember alice /alice 6b31\nvector alice\nvector bob\nsummary\n")
         (codes "vector alice alice=0\nrefused 4 2 UnknownLabel\n") (Refused 4 2) }
-    ensures published { (given : Given)
-        → Reports given (codes "group /g\nmember alice /alice 6b31\nmember bob /bob 6b32\n"
+    ensures published { (env : RunEnvironment)
+        → Reports env (codes "group /g\nmember alice /alice 6b31\nmember bob /bob 6b32\n"
         ++ codes
         "publish alice /doc 1 text:abc\ndeliver 1 bob\nvector bob\nclaim bob 1\ncatalogue bob\ndeliver 2 bob\n")
         (codes "publish alice 1 segments 3 sync 1\ndeliver 1 bob steady\nvector bob alice=1 bob=0\n"
         ++ codes "claim bob 1 part alice 1 0\ncatalogue bob 0\nrefused 9 5 NoSuchPacket\n") (Refused 9 5) }
-    ensures withdrawn { (given : Given)
-        → Reports given (codes "group /g\nmember alice /alice 6b31\npublish alice /doc 1 text:\nwithdraw alice 1\n"
+    ensures withdrawn { (env : RunEnvironment)
+        → Reports env (codes "group /g\nmember alice /alice 6b31\npublish alice /doc 1 text:\nwithdraw alice 1\n"
         ++ codes "catalogue alice\nwithdraw alice 1\n")
         (codes "publish alice 1 segments 0 sync 1\nwithdraw alice 2 of 1 sync 2\ncatalogue alice 0\n"
         ++ codes "refused 6 14 NoSuchNumber\n") (Refused 6 14) }
-    ensures watched { (given : Given)
-        → Reports given (codes "group /g\nmember alice /alice 6b31\nwatch alice * /\ntold alice 1\ntold alice 2\n")
+    ensures watched { (env : RunEnvironment)
+        → Reports env (codes "group /g\nmember alice /alice 6b31\nwatch alice * /\ntold alice 1\ntold alice 2\n")
         (codes "watch alice 1\ntold alice 1 0\nrefused 5 15 NoSuchWatch\n") (Refused 5 15) }
-    ensures mirrored { (given : Given)
-        → Reports given (codes "group /g\nmember alice /alice 6b31\nmirror mia alice /doc\npublish alice /doc 1 text:\n"
+    ensures mirrored { (env : RunEnvironment)
+        → Reports env (codes "group /g\nmember alice /alice 6b31\nmirror mia alice /doc\npublish alice /doc 1 text:\n"
         ++ codes "mdeliver 1 mia\nmcatalogue mia\nsettle 1\nmcatalogue mia\nmfetch mia 1 1 0\nmdeliver 3 mia\n")
         (codes "publish alice 1 segments 0 sync 1\nmdeliver 1 mia\nmcatalogue mia 0\nsettle syncs 1 kept 0\n"
         ++ codes "mcatalogue mia 1\nentry alice 1 /doc segments 0 octets 0 sha256 "
@@ -44,7 +44,7 @@ pub fn small_stories()
 
 /// One publication that reaches two catalogues, worked out.
 pub fn first_story()
-    ensures { (given : Given) → Reports given
+    ensures { (env : RunEnvironment) → Reports env
         (codes "group /g\nmember alice /alice 6b31\nmember bob /bob 6b32\npublish alice /doc 10 text:abc\nsettle 2\n"
         ++ codes "catalogue alice\ncatalogue bob\ntraffic\n")
         (codes "publish alice 1 segments 1 sync 1\nsettle syncs 2 kept 2\n"

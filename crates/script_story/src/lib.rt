@@ -1,5 +1,5 @@
-//! What a script comes to, its story, and what holds of every story. A story is told line by line, by values: it has no
-//! packets, no buffers and no workers.
+//! What a script comes to, its story, and what holds of every story. A story is defined line by line, by values: it has
+//! no packets, no buffers and no workers.
 //!
 //! What is promised of it: `docs/promises/script_story.md`.
 #![tactic(auto)]
@@ -11,10 +11,10 @@ mod laws;
 pub use ending::Ending;
 pub use headline::{
     a_settle_line_joins, catalogue_lines_show_what_is_held, entries_tell_what_dumps_show,
-    held_parts_passed_their_checks, lines_reach_sound_groups, listed_objects_stay_listed,
-    mirrors_list_what_they_ask_for, printed_catalogues_list_what_is_held,
+    held_parts_passed_their_checks, informed_members_join_without_a_settle,
+    lines_reach_sound_groups, listed_objects_stay_listed, mirrors_list_what_they_ask_for,
+    news_is_reported_once, news_is_reported_whole, printed_catalogues_list_what_is_held,
     printed_labels_are_declared, settled_catalogues_list_what_was_held, stories_are_their_lines,
-    told_members_join_without_a_settle, watchers_are_told_all, watchers_are_told_once,
     workers_make_no_difference,
 };
 pub use laws::{first_story, small_stories, syntax_is_of_the_grammar};

@@ -197,11 +197,11 @@ module _ {K V : Type 0} {R : K → K → Ordering} (o : IsTotalOrder R) where
 
   -- ---- in front of what is behind
 
-  with_front : (k : K) (v : V) (es fs : List (K × V)) → IsBefore R k (keys fs)
+  with_prefix : (k : K) (v : V) (es fs : List (K × V)) → IsBefore R k (keys fs)
       → with_value R k v (es ++ fs) ≡ with_value R k v es ++ fs
-  with_front k v [] [] b = refl
-  with_front k v [] (x ∷ fs) b = ap (λ c. by_order c ((k, v) ∷ x ∷ fs) ((k, v) ∷ fs) (x ∷ with_value R k v fs)) b.0
-  with_front k v (e ∷ es) fs b = go (with_front k v es fs b) (R k e.0) where
+  with_prefix k v [] [] b = refl
+  with_prefix k v [] (x ∷ fs) b = ap (λ c. by_order c ((k, v) ∷ x ∷ fs) ((k, v) ∷ fs) (x ∷ with_value R k v fs)) b.0
+  with_prefix k v (e ∷ es) fs b = go (with_prefix k v es fs b) (R k e.0) where
     go : with_value R k v (es ++ fs) ≡ with_value R k v es ++ fs → (c : Ordering)
         → by_order c ((k, v) ∷ e ∷ es ++ fs) ((k, v) ∷ es ++ fs) (e ∷ with_value R k v (es ++ fs))
         ≡ by_order c ((k, v) ∷ e ∷ es) ((k, v) ∷ es) (e ∷ with_value R k v es) ++ fs
@@ -209,11 +209,11 @@ module _ {K V : Type 0} {R : K → K → Ordering} (o : IsTotalOrder R) where
     go i Equal = refl
     go i Greater = ap (λ (zs : List (K × V)). e ∷ zs) i
 
-  without_front : (k : K) (es fs : List (K × V)) → IsBefore R k (keys fs)
+  without_prefix : (k : K) (es fs : List (K × V)) → IsBefore R k (keys fs)
       → without_key R k (es ++ fs) ≡ without_key R k es ++ fs
-  without_front k [] [] b = refl
-  without_front k [] (x ∷ fs) b = ap (λ c. by_order c (x ∷ fs) fs (x ∷ without_key R k fs)) b.0
-  without_front k (e ∷ es) fs b = go (without_front k es fs b) (R k e.0) where
+  without_prefix k [] [] b = refl
+  without_prefix k [] (x ∷ fs) b = ap (λ c. by_order c (x ∷ fs) fs (x ∷ without_key R k fs)) b.0
+  without_prefix k (e ∷ es) fs b = go (without_prefix k es fs b) (R k e.0) where
     go : without_key R k (es ++ fs) ≡ without_key R k es ++ fs → (c : Ordering)
         → by_order c (e ∷ es ++ fs) (es ++ fs) (e ∷ without_key R k (es ++ fs))
         ≡ by_order c (e ∷ es) es (e ∷ without_key R k es) ++ fs
@@ -221,13 +221,13 @@ module _ {K V : Type 0} {R : K → K → Ordering} (o : IsTotalOrder R) where
     go i Equal = refl
     go i Greater = ap (λ (zs : List (K × V)). e ∷ zs) i
 
-  last_front : (k : K) (es fs : List (K × V)) → IsBefore R k (keys fs) → last_up_to R k (es ++ fs) ≡ last_up_to R k es
-  last_front k [] [] b = refl
-  last_front k [] (x ∷ fs) b =
+  last_prefix : (k : K) (es fs : List (K × V)) → IsBefore R k (keys fs) → last_up_to R k (es ++ fs) ≡ last_up_to R k es
+  last_prefix k [] [] b = refl
+  last_prefix k [] (x ∷ fs) b =
       let here : Option (K × V) = Some (unwrap_or (last_up_to R k fs) x) in ap (λ c. by_order c None here here) b.0
-  last_front k (e ∷ es) fs b =
+  last_prefix k (e ∷ es) fs b =
       ap (λ (z : Option (K × V)). by_order (R k e.0) None (Some (unwrap_or z e)) (Some (unwrap_or z e)))
-      (last_front k es fs b)
+      (last_prefix k es fs b)
 
   first_here : (k : K) (es fs : List (K × V)) (y : K × V) → first_from R k es ≡ Some y
       → first_from R k (es ++ fs) ≡ Some y
@@ -251,9 +251,9 @@ module _ {K V : Type 0} {R : K → K → Ordering} (o : IsTotalOrder R) where
     go i Equal p = absurd cc
     go i Greater p = i p
 
-  first_behind : (k : K) (x : K × V) (fs : List (K × V)) → IsBefore R k (keys (x ∷ fs))
+  first_after : (k : K) (x : K × V) (fs : List (K × V)) → IsBefore R k (keys (x ∷ fs))
       → first_from R k (x ∷ fs) ≡ Some x
-  first_behind k x fs b = ap (λ c. by_order c (Some x) (Some x) (first_from R k fs)) b.0
+  first_after k x fs b = ap (λ c. by_order c (Some x) (Some x) (first_from R k fs)) b.0
 
   -- ---- lengths
 
@@ -303,7 +303,7 @@ module _ {K V : Type 0} {R : K → K → Ordering} (o : IsTotalOrder R) where
         → joined (set bs i c) ≡ with_value R k v (joined bs)
     with_place k v [] i c d p l h = absurd (omega arith)
     with_place k v (b ∷ bs) zero c d p l h =
-        ap (λ (zs : List (K × V)). zs ++ joined bs) h ∙ sym (with_front k v b.items (joined bs) p)
+        ap (λ (zs : List (K × V)). zs ++ joined bs) h ∙ sym (with_prefix k v b.items (joined bs) p)
     with_place k v (b ∷ bs) (suc i) c d p l h =
         ap (λ (zs : List (K × V)). b.items ++ zs) (with_place k v bs i c d p.2 (omega arith) h)
         ∙ sym (past_with k v b.items (joined bs) p.0)
@@ -313,7 +313,7 @@ module _ {K V : Type 0} {R : K → K → Ordering} (o : IsTotalOrder R) where
         → joined (set bs i c) ≡ without_key R k (joined bs)
     without_place k [] i c d p l h = absurd (omega arith)
     without_place k (b ∷ bs) zero c d p l h =
-        ap (λ (zs : List (K × V)). zs ++ joined bs) h ∙ sym (without_front k b.items (joined bs) p)
+        ap (λ (zs : List (K × V)). zs ++ joined bs) h ∙ sym (without_prefix k b.items (joined bs) p)
     without_place k (b ∷ bs) (suc i) c d p l h =
         ap (λ (zs : List (K × V)). b.items ++ zs) (without_place k bs i c d p.2 (omega arith) h)
         ∙ sym (past_without k b.items (joined bs) p.0)
@@ -321,7 +321,7 @@ module _ {K V : Type 0} {R : K → K → Ordering} (o : IsTotalOrder R) where
     pub last_place : (k : K) (bs : List (Vec (K × V) A)) (i : ℕ) (d : Vec (K × V) A) → IsPlace R k bs i
         → i < length bs → last_up_to R k (get_or bs i d).items ≡ last_up_to R k (joined bs)
     last_place k [] i d p l = absurd (omega arith)
-    last_place k (b ∷ bs) zero d p l = sym (last_front k b.items (joined bs) p)
+    last_place k (b ∷ bs) zero d p l = sym (last_prefix k b.items (joined bs) p)
     last_place k (b ∷ bs) (suc i) d p l =
         last_place k bs i d p.2 (omega arith) ∙ sym (past_last k b.items (joined bs) p.0 p.1)
 
@@ -353,28 +353,28 @@ module _ {K V : Type 0} {R : K → K → Ordering} (o : IsTotalOrder R) where
           go : (es : List (K × V)) → 0 < length es → IsBefore R k (keys (es ++ joined bs))
               → slice_get es 0 ≡ first_from R k (es ++ joined bs)
           go [] n q = absurd (omega arith)
-          go (x ∷ es) n q = sym (first_behind k x (es ++ joined bs) q)
+          go (x ∷ es) n q = sym (first_after k x (es ++ joined bs) q)
     first_next k (b ∷ bs) (suc i) d p f l h =
         first_next k bs i d p.2 (filled_blocks bs f.1) (omega arith) h ∙ sym (past_first k b.items (joined bs) p.0)
 
   -- ---- a search finds it
 
-  rises_fronts : (es fs : List (K × V)) → Rises R (keys (es ++ fs)) → Rises R (keys es)
-  rises_fronts [] fs r = tt
-  rises_fronts (e ∷ es) fs r = (before_front e.0 es r.0, rises_fronts es fs r.1) where
-    before_front : (k : K) (xs : List (K × V)) → IsBefore R k (keys (xs ++ fs)) → IsBefore R k (keys xs)
-    before_front k [] b = tt
-    before_front k (x ∷ xs) b = (b.0, before_front k xs b.1)
+  rises_prefixes : (es fs : List (K × V)) → Rises R (keys (es ++ fs)) → Rises R (keys es)
+  rises_prefixes [] fs r = tt
+  rises_prefixes (e ∷ es) fs r = (before_prefix e.0 es r.0, rises_prefixes es fs r.1) where
+    before_prefix : (k : K) (xs : List (K × V)) → IsBefore R k (keys (xs ++ fs)) → IsBefore R k (keys xs)
+    before_prefix k [] b = tt
+    before_prefix k (x ∷ xs) b = (b.0, before_prefix k xs b.1)
 
-  rises_behind : (es fs : List (K × V)) → Rises R (keys (es ++ fs)) → Rises R (keys fs)
-  rises_behind [] fs r = r
-  rises_behind (e ∷ es) fs r = rises_behind es fs r.1
+  rises_after : (es fs : List (K × V)) → Rises R (keys (es ++ fs)) → Rises R (keys fs)
+  rises_after [] fs r = r
+  rises_after (e ∷ es) fs r = rises_after es fs r.1
 
-  before_behind : (y : K) (es fs : List (K × V)) → IsBefore R y (keys (es ++ fs)) → IsBefore R y (keys fs)
-  before_behind y [] fs b = b
-  before_behind y (e ∷ es) fs b = before_behind y es fs b.1
+  before_after : (y : K) (es fs : List (K × V)) → IsBefore R y (keys (es ++ fs)) → IsBefore R y (keys fs)
+  before_after y [] fs b = b
+  before_after y (e ∷ es) fs b = before_after y es fs b.1
 
-  -- a key that the first of what is behind is not above is above all in front
+  -- a key that the first of what is after is not above is above all in front
   all_before : (k : K) (es fs : List (K × V)) (x : K × V) → Rises R (keys (es ++ x ∷ fs)) → is_le (R x.0 k) ≡ true
       → AreBefore R es k
   all_before k [] fs x r h = tt
@@ -410,8 +410,8 @@ module _ {K V : Type 0} {R : K → K → Ordering} (o : IsTotalOrder R) where
     pub block_rises : (bs : List (Vec (K × V) A)) (i : ℕ) (d : Vec (K × V) A) → Rises R (keys (joined bs))
         → i < length bs → Rises R (keys (get_or bs i d).items)
     block_rises [] i d r l = absurd (omega arith)
-    block_rises (b ∷ bs) zero d r l = rises_fronts b.items (joined bs) r
-    block_rises (b ∷ bs) (suc i) d r l = block_rises bs i d (rises_behind b.items (joined bs) r) (omega arith)
+    block_rises (b ∷ bs) zero d r l = rises_prefixes b.items (joined bs) r
+    block_rises (b ∷ bs) (suc i) d r l = block_rises bs i d (rises_after b.items (joined bs) r) (omega arith)
 
     -- a key before all of these is before one that some block's first key is not above
     before_later : (k y : K) (bs : List (Vec (K × V) A)) (j : ℕ) (d : Vec (K × V) A) → IsBefore R y (keys (joined bs))
@@ -423,7 +423,7 @@ module _ {K V : Type 0} {R : K → K → Ordering} (o : IsTotalOrder R) where
       go [] n q p = absurd (omega arith)
       go (e ∷ es) n q p = before_here o k e.0 (R e.0 k) refl p y q.0
     before_later k y (c ∷ cs) (suc j) d b f l h =
-        before_later k y cs j d (before_behind y c.items (joined cs) b) f.2 (omega arith) h
+        before_later k y cs j d (before_after y c.items (joined cs) b) f.2 (omega arith) h
 
     pub parted : (k : K) (bs : List (Vec (K × V) A)) → Rises R (keys (joined bs)) → AreBlocks bs
         → IsPartitionedBy (λ b. begins_up_to R k b.items) bs
@@ -433,10 +433,10 @@ module _ {K V : Type 0} {R : K → K → Ordering} (o : IsTotalOrder R) where
       go : (es : List (K × V)) → Rises R (keys (es ++ joined bs)) → begins_up_to R k es ≡ true
       go [] q = refl
       go (e ∷ es) q =
-          ap is_le (before_later k e.0 bs j d (before_behind e.0 es (joined bs) q.0) f.1 (omega arith) h)
+          ap is_le (before_later k e.0 bs j d (before_after e.0 es (joined bs) q.0) f.1 (omega arith) h)
     parted k (b ∷ bs) r f (suc i) zero d l n h = absurd (omega arith)
     parted k (b ∷ bs) r f (suc i) (suc j) d l n h =
-        parted k bs (rises_behind b.items (joined bs) r) (filled_blocks bs f.1) i j d (omega arith) (omega arith) h
+        parted k bs (rises_after b.items (joined bs) r) (filled_blocks bs f.1) i j d (omega arith) (omega arith) h
 
     pub placed : (k : K) (bs : List (Vec (K × V) A)) (n i : ℕ) → Rises R (keys (joined bs)) → AreBlocks bs
         → n ≤ length bs → AllWithin (λ b. begins_up_to R k b.items ≡ true) bs 0 n
@@ -444,7 +444,7 @@ module _ {K V : Type 0} {R : K → K → Ordering} (o : IsTotalOrder R) where
     placed k [] n i r f l below above e = tt
     placed k (b ∷ []) n zero r f l below above e = tt
     placed k (b ∷ c ∷ cs) n zero r f l below above e =
-        go c.items (rises_behind b.items (joined (c ∷ cs)) r) (above 1 b (omega arith) (omega arith)) where
+        go c.items (rises_after b.items (joined (c ∷ cs)) r) (above 1 b (omega arith) (omega arith)) where
           go : (es : List (K × V)) → Rises R (keys (es ++ joined cs)) → begins_up_to R k es ≡ false
               → IsBefore R k (keys (es ++ joined cs))
           go [] q h = absurd cc
@@ -454,7 +454,7 @@ module _ {K V : Type 0} {R : K → K → Ordering} (o : IsTotalOrder R) where
         let here = go c.items f.1.0 r (below 1 b (omega arith) (omega arith)) in (
           here.0,
           here.1,
-          placed k (c ∷ cs) (n - 1) i (rises_behind b.items (joined (c ∷ cs)) r) (filled_blocks (c ∷ cs) f.1)
+          placed k (c ∷ cs) (n - 1) i (rises_after b.items (joined (c ∷ cs)) r) (filled_blocks (c ∷ cs) f.1)
               (omega arith)
               (λ j d m t. below (suc j) d (omega arith) (omega arith))
               (λ j d m t. above (suc j) d (omega arith) (omega arith)) (omega arith),

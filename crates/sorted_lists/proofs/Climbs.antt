@@ -15,7 +15,7 @@ use Rattle.sorted_lists.specs.Climbing.{Climbs, IsPlaceOf}
 use Rattle.sorted_lists.proofs.Orders.{Exact, greater_back}
 use Rattle.sorted_lists.proofs.Sets.{in_append, append_left, append_right}
 use Rattle.sorted_lists.proofs.RunOrder.{Le, lt_le, le_itself, le_trans, le_lt_trans}
-use Rattle.sorted_lists.proofs.Members.{at_drop, in_at, in_front, in_back, in_filtered, same_then, same_is}
+use Rattle.sorted_lists.proofs.Members.{at_drop, in_at, in_prefix, in_back, in_filtered, same_then, same_is}
 use Rattle.sorted_lists.proofs.Members.{same_middle, same_more, same_taken, same_whole}
 
 less_where : (x : Ordering) → is_lt x ≡ true → x ≡ Less
@@ -69,16 +69,16 @@ module _ {A K : Type 0} {R : K → K → Ordering} (e : Exact R) (key : A → K)
   pairs_climb (x ∷ xs) c (suc i) (suc j) d l m = pairs_climb xs c.1 i j d (omega arith) (omega arith)
 
   -- what stands from a place on is what stands there, or comes after that
-  behind_place : (xs : List A) (i : ℕ) (x : A) → slice_get xs i ≡ Some x → Rising xs → (y : A) → In y (drop i xs)
+  after_place : (xs : List A) (i : ℕ) (x : A) → slice_get xs i ≡ Some x → Rising xs → (y : A) → In y (drop i xs)
       → Le e (key x) (key y)
-  behind_place [] i x is c y j = absurd cc
-  behind_place (z ∷ xs) zero x is c y j =
+  after_place [] i x is c y j = absurd cc
+  after_place (z ∷ xs) zero x is c y j =
       let same : z ≡ x = cc in
       subst (λ (w : A). Le e (key w) (key y)) same (elim (let k : (y ≡ z) ⊎ In y xs = j in k) [
         | inl own ↦ subst (λ (w : A). Le e (key z) (key w)) (sym own) (le_itself e (key z))
         | inr k ↦ c.0 y k
       ])
-  behind_place (z ∷ xs) (suc i) x is c y j = behind_place xs i x is c.1 y j
+  after_place (z ∷ xs) (suc i) x is c y j = after_place xs i x is c.1 y j
 
   -- ---- a search
 
@@ -97,44 +97,44 @@ module _ {A K : Type 0} {R : K → K → Ordering} (e : Exact R) (key : A → K)
       → IsPlaceOf R key xs k place
   placed xs k place within point = record {
     within = within;
-    before = λ x i. less_where _ (in_front (λ y. is_lt (R (key y) k) ≡ true) xs place within point.0 x i);
-    behind = λ x i. not_less (key x) k (in_back (λ y. is_lt (R (key y) k) ≡ false) xs place point.1 x i);
+    before = λ x i. less_where _ (in_prefix (λ y. is_lt (R (key y) k) ≡ true) xs place within point.0 x i);
+    after = λ x i. not_less (key x) k (in_back (λ y. is_lt (R (key y) k) ≡ false) xs place point.1 x i);
   }
 
   -- a key has its place in front of what does not come before it
-  pub place_in_front : (xs : List A) (k : K) (i place : ℕ) (x : A) → Rising xs → slice_get xs i ≡ Some x
+  pub place_in_prefix : (xs : List A) (k : K) (i place : ℕ) (x : A) → Rising xs → slice_get xs i ≡ Some x
       → is_lt (R (key x) k) ≡ false → IsPlaceOf R key (take i xs) k place → IsPlaceOf R key xs k place
-  place_in_front xs k i place x c is low at =
+  place_in_prefix xs k i place x c is low at =
       subst (λ (ys : List A). IsPlaceOf R key ys k place) (take-append-drop i xs) (record {
-        within = omega (arith, at.within, length-append front back);
-        before = λ y j. at.before y (subst (In y) (take-append-le place front back at.within) j);
-        behind = λ y j.
-            elim (in_append (drop place front) back y (subst (In y) (drop-append-le place front back at.within) j)) [
-              | inl h ↦ at.behind y h
-              | inr h ↦ le_trans e k (key x) (key y) (not_less (key x) k low) (behind_place xs i x is c y h)
+        within = omega (arith, at.within, length-append prefix back);
+        before = λ y j. at.before y (subst (In y) (take-append-le place prefix back at.within) j);
+        after = λ y j.
+            elim (in_append (drop place prefix) back y (subst (In y) (drop-append-le place prefix back at.within) j)) [
+              | inl h ↦ at.after y h
+              | inr h ↦ le_trans e k (key x) (key y) (not_less (key x) k low) (after_place xs i x is c y h)
             ];
       })
     where
-      front : List A
-      front = take i xs
+      prefix : List A
+      prefix = take i xs
 
       back : List A
       back = drop i xs
 
   -- ---- one more
 
-  climbs_with : (front back : List A) (x : A) → Rising (front ++ back)
-      → ((y : A) → In y front → Le e (key y) (key x)) → ((y : A) → In y back → Le e (key x) (key y))
-      → Rising (front ++ x ∷ back)
+  climbs_with : (prefix back : List A) (x : A) → Rising (prefix ++ back)
+      → ((y : A) → In y prefix → Le e (key y) (key x)) → ((y : A) → In y back → Le e (key x) (key y))
+      → Rising (prefix ++ x ∷ back)
   climbs_with [] back x c below above = (above, c)
-  climbs_with (y ∷ front) back x c below above =
-      (each, climbs_with front back x c.1 (λ z i. below z (inr i)) above) where
-        each : (z : A) → In z (front ++ x ∷ back) → Le e (key y) (key z)
-        each z i = elim (in_append front (x ∷ back) z i) [
-          | inl j ↦ c.0 z (append_left front back z j)
+  climbs_with (y ∷ prefix) back x c below above =
+      (each, climbs_with prefix back x c.1 (λ z i. below z (inr i)) above) where
+        each : (z : A) → In z (prefix ++ x ∷ back) → Le e (key y) (key z)
+        each z i = elim (in_append prefix (x ∷ back) z i) [
+          | inl j ↦ c.0 z (append_left prefix back z j)
           | inr j ↦ elim (let h : (z ≡ x) ⊎ In z back = j in h) [
             | inl own ↦ subst (λ (w : A). Le e (key y) (key w)) (sym own) (below y (inl refl))
-            | inr h ↦ c.0 z (append_right front back z h)
+            | inr h ↦ c.0 z (append_right prefix back z h)
           ]
         ]
 
@@ -142,7 +142,7 @@ module _ {A K : Type 0} {R : K → K → Ordering} (e : Exact R) (key : A → K)
       → Rising (insert xs place x)
   climbs_inserted xs x place c at =
       climbs_with (take place xs) (drop place xs) x (subst Rising (sym (take-append-drop place xs)) c)
-      (λ y i. lt_le e (key y) (key x) (at.before y i)) at.behind
+      (λ y i. lt_le e (key y) (key x) (at.before y i)) at.after
 
   -- ---- merging
 
@@ -167,43 +167,43 @@ module _ {A K : Type 0} {R : K → K → Ordering} (e : Exact R) (key : A → K)
       → IsPlaceOf R key rest (key (get_or more i d)) place → Merging old more merged rest i
       → Merging old more ((merged ++ take place rest) ++ get_or more i d ∷ []) (drop place rest) (i + 1)
   merging_more old more merged rest i place d l climbs at m = record {
-    in_order = subst Rising (sym joined) (climbs_with front back x (subst Rising (sym whole) m.in_order) below above);
-    low = λ y q j k. elim (in_append front (x ∷ []) y j) [
+    in_order = subst Rising (sym joined) (climbs_with prefix back x (subst Rising (sym whole) m.in_order) below above);
+    low = λ y q j k. elim (in_append prefix (x ∷ []) y j) [
       | inl h ↦ le_trans e (key y) (key x) (key q) (below y h) (next q k)
       | inr h ↦ elim h [
         | inl own ↦ subst (λ (w : A). Le e (key w) (key q)) (sym own) (next q k)
         | inr n ↦ absurd n
       ]
     ];
-    same = same_taken old more i d l (same_then (same_is ((front ++ x ∷ []) ++ back) (front ++ x ∷ back) joined)
-        (same_then (same_middle front x back) (same_more x (same_is (front ++ back) (merged ++ rest) whole)))) m.same;
+    same = same_taken old more i d l (same_then (same_is ((prefix ++ x ∷ []) ++ back) (prefix ++ x ∷ back) joined)
+        (same_then (same_middle prefix x back) (same_more x (same_is (prefix ++ back) (merged ++ rest) whole)))) m.same;
   }
     where
       x : A
       x = get_or more i d
 
-      front : List A
-      front = merged ++ take place rest
+      prefix : List A
+      prefix = merged ++ take place rest
 
       back : List A
       back = drop place rest
 
-      joined : (front ++ x ∷ []) ++ back ≡ front ++ x ∷ back
-      joined = append_assoc front (x ∷ []) back
+      joined : (prefix ++ x ∷ []) ++ back ≡ prefix ++ x ∷ back
+      joined = append_assoc prefix (x ∷ []) back
 
-      whole : front ++ back ≡ merged ++ rest
+      whole : prefix ++ back ≡ merged ++ rest
       whole =
           append_assoc merged (take place rest) (drop place rest)
           ∙ ap (λ (r : List A). merged ++ r) (take-append-drop place rest)
 
-      below : (y : A) → In y front → Le e (key y) (key x)
+      below : (y : A) → In y prefix → Le e (key y) (key x)
       below y j = elim (in_append merged (take place rest) y j) [
         | inl h ↦ m.low y x h (at_drop more i d l)
         | inr h ↦ lt_le e (key y) (key x) (at.before y h)
       ]
 
       above : (y : A) → In y back → Le e (key x) (key y)
-      above y j = at.behind y j
+      above y j = at.after y j
 
       -- what is still to come does not come before it
       next : (q : A) → In q (drop (i + 1) more) → Le e (key x) (key q)

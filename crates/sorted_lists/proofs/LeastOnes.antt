@@ -12,7 +12,7 @@ use Rattle.sorted_lists.specs.Members.{In, HaveSame}
 use Rattle.sorted_lists.specs.Least.{Passes, IsFirstBy, IsFirstThat, lesser_by}
 use Rattle.sorted_lists.proofs.Orders.{Exact, greater_back}
 use Rattle.sorted_lists.proofs.Sets.{in_append, append_left, append_right}
-use Rattle.sorted_lists.proofs.RunOrder.{Lt, Le, lt_le, le_itself, le_trans, lt_not_le, le_split, behind_head}
+use Rattle.sorted_lists.proofs.RunOrder.{Lt, Le, lt_le, le_itself, le_trans, lt_not_le, le_split, after_head}
 use Rattle.sorted_lists.proofs.RunOrder.{unique}
 
 -- of two keys neither comes before the other
@@ -142,7 +142,7 @@ module _ {K V : Type 0} {R : K → K → Ordering} (e : Exact R) where
       there = (inl refl, h);
       least = λ y i. elim (let j : (y ≡ x) ⊎ In y es = i.0 in j) [
         | inl same ↦ subst (λ (z : K × V). Le e x.0 z.0) (sym same) (le_itself e x.0)
-        | inr j ↦ lt_le e x.0 y.0 (behind_head e x es r y j)
+        | inr j ↦ lt_le e x.0 y.0 (after_head e x es r y j)
       ];
     }
     go false h f first =

@@ -33,13 +33,13 @@ module _ {A : Type 0} where
   some_first (y ∷ ys) x h = let same : y ≡ x = cc in ap (λ (z : A). z ∷ ys) same
 
   -- what holds at the places before one, or from it on, holds of what stands there
-  pub in_front : (P : A → Type 0) (xs : List A) (n : ℕ) → n ≤ length xs → AllWithin P xs 0 n → (x : A)
+  pub in_prefix : (P : A → Type 0) (xs : List A) (n : ℕ) → n ≤ length xs → AllWithin P xs 0 n → (x : A)
       → In x (take n xs) → P x
-  in_front P xs zero l h x i = absurd i
-  in_front P [] (suc n) l h x i = absurd i
-  in_front P (y ∷ ys) (suc n) l h x (inl e) = subst P (sym e) (h 0 y (omega arith) (omega arith))
-  in_front P (y ∷ ys) (suc n) l h x (inr i) =
-      in_front P ys n (omega arith) (λ k d a b. h (suc k) d (omega arith) (omega arith)) x i
+  in_prefix P xs zero l h x i = absurd i
+  in_prefix P [] (suc n) l h x i = absurd i
+  in_prefix P (y ∷ ys) (suc n) l h x (inl e) = subst P (sym e) (h 0 y (omega arith) (omega arith))
+  in_prefix P (y ∷ ys) (suc n) l h x (inr i) =
+      in_prefix P ys n (omega arith) (λ k d a b. h (suc k) d (omega arith) (omega arith)) x i
 
   pub in_back : (P : A → Type 0) (xs : List A) (n : ℕ) → AllWithin P xs n (length xs) → (x : A) → In x (drop n xs) → P x
   in_back P [] zero h x i = absurd i

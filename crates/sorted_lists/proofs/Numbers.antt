@@ -15,10 +15,10 @@ use Rattle.sorted_lists.specs.SortedList.{first_from}
 use Rattle.sorted_lists.specs.Runs.{Number, Run, next, number_cmp, AreRuns, AreOfOne, IsRuns, has, start_at, end_at}
 use Rattle.sorted_lists.proofs.Sets.{In, eq_same, eq_itself}
 use Rattle.sorted_lists.proofs.RunOrder.{IsLast, last_is, IsFirst, first_is, none_from_on, has_in, IsIn, has_from}
-use Rattle.sorted_lists.proofs.RunOrder.{le_trans, lt_not_le, in_without, without_in, behind_head}
+use Rattle.sorted_lists.proofs.RunOrder.{le_trans, lt_not_le, in_without, without_in, after_head}
 use Rattle.sorted_lists.proofs.MapChanges.{length-without, rises_without}
 use Rattle.sorted_lists.proofs.Orders.{Exact, less_back, nat_same, nat_itself, then_second, nat_less}
-use Rattle.sorted_lists.proofs.RunLists.{Follows, runs_rise, are_runs, not_empty, apart, gap_behind, Start, End}
+use Rattle.sorted_lists.proofs.RunLists.{Follows, runs_rise, are_runs, not_empty, apart, gap_after, Start, End}
 use Rattle.sorted_lists.proofs.RunLists.{start_found, end_found, longer_runs, longer_has}
 use Rattle.sorted_lists.proofs.TwoOrders.{nat_le}
 
@@ -174,7 +174,7 @@ module _ {P : Type 0} {R : P → P → Ordering} (o : IsTotalOrder R) (exact : I
         from = omega (arith, size);
         gap =
             subst (λ (p : P). has (number_cmp R) es (p, y.1.1 + 1) ≡ false) (sym same)
-            (gap_behind follow es a q y l.is_in);
+            (gap_after follow es a q y l.is_in);
         before = λ m c d. has_in exact_numbers es (q.0, m) y l.is_in
             (le_trans exact_numbers y.0 q (q.0, m) l.within (size_le q.0 q.1 m c))
             (subst (λ (p : P). is_le (number_cmp R (p, m) y.1) ≡ true) (sym same)
@@ -200,7 +200,7 @@ module _ {P : Type 0} {R : P → P → Ordering} (o : IsTotalOrder R) (exact : I
         ∙ ap (λ (w : Run P). let o : Option (Number P) = Some w.1 in o) (sym s)
     value_in (x ∷ xs) u y (inr i) =
         ap (λ c. cond (is_eq c) (Some x.1) (value_of (number_cmp R) xs y.0))
-        (less_back exact_numbers.total x.0 y.0 (behind_head exact_numbers x xs u y i))
+        (less_back exact_numbers.total x.0 y.0 (after_head exact_numbers x xs u y i))
         ∙ value_in xs u.1 y i
 
     pub shorter : (y : Run P) → In y es → length (without_key (number_cmp R) y.0 es) < length es

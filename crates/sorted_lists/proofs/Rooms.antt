@@ -7,10 +7,10 @@ use Rattle.sorted_lists.specs.BlockMap.{over, room, half, full, IsKept, AreBlock
 use Rattle.sorted_lists.proofs.Blocks.{filled_blocks}
 
 module _ {K V A : Type 0} where
-  over_front : (b : Vec (K × V) A) (bs : List (Vec (K × V) A)) → 0 < length bs
+  over_prefix : (b : Vec (K × V) A) (bs : List (Vec (K × V) A)) → 0 < length bs
       → over (b ∷ bs) ≡ (length b.items - half) + over bs
-  over_front b [] l = absurd (omega arith)
-  over_front b (c ∷ bs) l = refl
+  over_prefix b [] l = absurd (omega arith)
+  over_prefix b (c ∷ bs) l = refl
 
   -- a block has so many more entries at most
   pub over_more : (bs : List (Vec (K × V) A)) (i n : ℕ) (c d : Vec (K × V) A) → i < length bs
@@ -22,7 +22,7 @@ module _ {K V A : Type 0} where
   over_more (b ∷ e ∷ bs) (suc i) n c d l h =
       omega (
         arith,
-        over_front b (set (e ∷ bs) i c) (omega (arith, length-set (e ∷ bs) i c)),
+        over_prefix b (set (e ∷ bs) i c) (omega (arith, length-set (e ∷ bs) i c)),
         over_more (e ∷ bs) i n c d (omega arith) h,
       )
 
@@ -40,13 +40,13 @@ module _ {K V A : Type 0} where
       let len = length-insert (set (y ∷ bs) i b) (suc i) c (omega (arith, length-set (y ∷ bs) i b)) in
       omega (
         arith,
-        over_front x (insert (set (y ∷ bs) i b) (suc i) c) (omega (arith, len)),
-        over_split (y ∷ bs) i b c d (omega arith) f s (behind k),
+        over_prefix x (insert (set (y ∷ bs) i b) (suc i) c) (omega (arith, len)),
+        over_split (y ∷ bs) i b c d (omega arith) f s (after k),
       )
     where
-      behind : IsKept (length (x ∷ y ∷ bs)) (suc i) (length b.items) → IsKept (length (y ∷ bs)) i (length b.items)
-      behind (inl h) = inl h
-      behind (inr h) = inr (h.0, omega (arith, h.1))
+      after : IsKept (length (x ∷ y ∷ bs)) (suc i) (length b.items) → IsKept (length (y ∷ bs)) i (length b.items)
+      after (inl h) = inl h
+      after (inr h) = inr (h.0, omega (arith, h.1))
 
   -- a block goes
   pub over_remove : (bs : List (Vec (K × V) A)) (i : ℕ) → i < length bs → over (remove bs i) ≤ over bs + half
@@ -59,7 +59,7 @@ module _ {K V A : Type 0} where
   over_remove (b ∷ c ∷ d ∷ bs) (suc i) l =
       omega (
         arith,
-        over_front b (remove (c ∷ d ∷ bs) i) (omega (arith, length-remove (c ∷ d ∷ bs) i (omega arith))),
+        over_prefix b (remove (c ∷ d ∷ bs) i) (omega (arith, length-remove (c ∷ d ∷ bs) i (omega arith))),
         over_remove (c ∷ d ∷ bs) i (omega arith),
       )
 

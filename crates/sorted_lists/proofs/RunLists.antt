@@ -14,7 +14,7 @@ use Rattle.sorted_lists.proofs.Sets.{eq_same, eq_itself}
 use Rattle.sorted_lists.proofs.MapChanges.{rises_without, without_absent}
 use Rattle.sorted_lists.proofs.RunOrder.{tri, lt_le, le_itself, lt_irrefl, le_split, lt_trans, lt_le_trans}
 use Rattle.sorted_lists.proofs.RunOrder.{le_lt_trans, le_trans, lt_not_le, in_with, with_has, with_in, in_without}
-use Rattle.sorted_lists.proofs.RunOrder.{without_in, unique, behind_head, IsLast, none_up_to, last_is, IsFirst}
+use Rattle.sorted_lists.proofs.RunOrder.{without_in, unique, after_head, IsLast, none_up_to, last_is, IsFirst}
 use Rattle.sorted_lists.proofs.RunOrder.{none_from_on, first_is, has_in, IsIn, has_from}
 
 -- what a key and the next one are to each other
@@ -53,7 +53,7 @@ module _ {K : Type 0} {R : K → K → Ordering} {next : K → K} (f : Follows R
       subst (λ (w : K × K). Below (next w.1) b.0) (sym s)
       (each_before f.exact.total (next x.1) (keys xs) t.1 b.0 (in_map (λ (z : K × K). z.0) xs b j))
   apart (x ∷ xs) t a b (inr i) (inl u) p =
-      let back : Below x.0 a.0 = behind_head f.exact x xs (runs_rise (x ∷ xs) t) a i in
+      let back : Below x.0 a.0 = after_head f.exact x xs (runs_rise (x ∷ xs) t) a i in
       absurd (lt_irrefl f.exact x.0 (lt_trans f.exact x.0 a.0 x.0 back (subst (λ (w : K × K). Below a.0 w.0) u p)))
   apart (x ∷ xs) t a b (inr i) (inr j) p = apart xs t.2 a b i j p
 
@@ -65,7 +65,7 @@ module _ {K : Type 0} {R : K → K → Ordering} {next : K → K} (f : Follows R
     before_each f.exact.total (next x.1) (keys xs) (λ y i.
         let r : (b : K × K) × (In b xs) × (y ≡ b.0) = from_map (λ (z : K × K). z.0) xs y i in
         subst (λ (w : K). Below (next x.1) w) (sym r.2)
-        (h x r.0 (inl refl) (inr r.1) (behind_head f.exact x xs u r.0 r.1))),
+        (h x r.0 (inl refl) (inr r.1) (after_head f.exact x xs u r.0 r.1))),
     are_runs xs u.1 (λ r i. n r (inr i)) (λ a b i j. h a b (inr i) (inr j)),
   )
 
@@ -131,8 +131,8 @@ module _ {K : Type 0} {R : K → K → Ordering} {next : K → K} (f : Follows R
       l : IsFirst f.exact q es y
       l = first_is f.exact q es rises y h
 
-      behind : Below q y.0
-      behind = elim (le_split f.exact q y.0 l.above) [
+      after : Below q y.0
+      after = elim (le_split f.exact q y.0 l.above) [
         | inl b ↦ b
         | inr s ↦
             absurd (not_in y l.is_in (subst (λ (w : K). UpTo w q) s (le_itself f.exact q))
@@ -140,7 +140,7 @@ module _ {K : Type 0} {R : K → K → Ordering} {next : K → K} (f : Follows R
       ]
 
       far : Below (next q) y.0
-      far = elim (le_split f.exact (next q) y.0 (f.step q y.0 behind)) [ inl b ↦ b | inr s ↦ absurd (n (sym s)) ]
+      far = elim (le_split f.exact (next q) y.0 (f.step q y.0 after)) [ inl b ↦ b | inr s ↦ absurd (n (sym s)) ]
 
       go : (r : K × K) → In r es → Below q r.0 → Below (next q) r.0
       go r i p = elim (l.others r i) [
@@ -270,12 +270,12 @@ module _ {K : Type 0} {R : K → K → Ordering} {next : K → K} (f : Follows R
 
       new_from : (x : K) → UpTo s x → UpTo x t → (x ≡ q) ⊎ (has R es x ≡ true)
       new_from x l u = elim (tri f.exact x q) [
-        | inl b ↦ inr (front start b)
+        | inl b ↦ inr (prefix start b)
         | inr c ↦ elim c [ inl e ↦ inl e | inr g ↦ inr (back end g) ]
       ] where
-        front : Start es q s → Below x q → has R es x ≡ true
-        front (begins e n) b = absurd (lt_not_le f.exact x q b (subst (λ (w : K). UpTo w x) e l))
-        front (goes_on r i e g) b =
+        prefix : Start es q s → Below x q → has R es x ≡ true
+        prefix (begins e n) b = absurd (lt_not_le f.exact x q b (subst (λ (w : K). UpTo w x) e l))
+        prefix (goes_on r i e g) b =
             let within : UpTo x r.1 = elim (tri f.exact x r.1) [
               | inl c ↦ lt_le f.exact x r.1 c
               | inr c ↦ elim c [
@@ -373,7 +373,7 @@ module _ {K : Type 0} {R : K → K → Ordering} {next : K → K} (f : Follows R
           (λ s.
           true≢false (sym (subst (λ (w : K). eq_by_cmp R (next q) w ≡ true) (sym s) (eq_itself f.exact (next q))) ∙ p))
 
-    -- where no run touches it from behind, none begins at the next key
+    -- where no run touches it from after, none begins at the next key
     pub whole_none : first_from R q es ≡ None → without_key R (next q) es ≡ es
     whole_none h = go (ends_none h) where
       go : End es q q → without_key R (next q) es ≡ es
@@ -437,9 +437,9 @@ module _ {K : Type 0} {R : K → K → Ordering} {next : K → K} (f : Follows R
             | inr b ↦ absurd (lt_not_le f.exact q m.run.0 b m.above)
           ]
 
-    -- the key behind the run's last is in none
-    pub gap_behind : (y : K × K) → In y es → has R es (next y.1) ≡ false
-    gap_behind y i = false_from_ne_true (has R es (next y.1)) (λ p. go (has_from f.exact es (next y.1) p)) where
+    -- the key after the run's last is in none
+    pub gap_after : (y : K × K) → In y es → has R es (next y.1) ≡ false
+    gap_after y i = false_from_ne_true (has R es (next y.1)) (λ p. go (has_from f.exact es (next y.1) p)) where
       go : IsIn f.exact es (next y.1) → ⊥
       go m = elim (tri f.exact y.0 m.run.0) [
         | inl b ↦ lt_not_le f.exact (next y.1) m.run.0 (apart es a y m.run i m.is_in b) m.above

@@ -17,7 +17,7 @@ use Rattle.sorted_lists.proofs.Sets.{before_each, each_before}
 use Rattle.sorted_lists.proofs.Ranges.{from_numbers, in_numbers}
 use Rattle.sorted_lists.proofs.RunOrder.{has_in, has_from, IsIn, le_split, lt_le, le_itself, lt_trans}
 use Rattle.sorted_lists.proofs.RunOrder.{lt_le_trans, le_lt_trans}
-use Rattle.sorted_lists.proofs.RunLists.{Follows, not_empty, gap_behind}
+use Rattle.sorted_lists.proofs.RunLists.{Follows, not_empty, gap_after}
 use Rattle.sorted_lists.proofs.Numbers.{exact_numbers, follow, thing_le, squeezed, size_le, le_size}
 
 module _ {P : Type 0} {R : P → P → Ordering} (o : IsTotalOrder R) (exact : IsExact R) where
@@ -117,12 +117,12 @@ module _ {P : Type 0} {R : P → P → Ordering} (o : IsTotalOrder R) (exact : I
             let p : (is_le (number_cmp R x.0 q) ≡ true) × (is_le (number_cmp R q x.1) ≡ true) =
             and_parts (is_le (number_cmp R x.0 q)) (is_le (number_cmp R q x.1))
             (sym (run_has x q b.0) ∙ contains_in all_exact (run_numbers x) q i) in
-            let behind : number_cmp R (next x.1) m.run.0 ≡ Less =
+            let after : number_cmp R (next x.1) m.run.0 ≡ Less =
             each_before all_exact.total (next x.1) (keys xs) a.1 m.run.0
             (in_map (λ (z : Run P). z.0) xs m.run m.is_in) in
             le_lt_trans all_exact q x.1 y p.1
             (lt_trans all_exact x.1 (next x.1) y (f.up x.1)
-            (lt_le_trans all_exact (next x.1) m.run.0 y behind m.above))
+            (lt_le_trans all_exact (next x.1) m.run.0 y after m.above))
 
   -- ---- where runs end
 
@@ -132,11 +132,11 @@ module _ {P : Type 0} {R : P → P → Ordering} (o : IsTotalOrder R) (exact : I
     before_each all_exact.total x.1 (lasts xs) (λ y i.
         let f : Follows (number_cmp R) next = follow o exact in
         let r : (s : Run P) × (In s xs) × (y ≡ s.1) = from_map (λ (z : Run P). z.1) xs y i in
-        let behind : number_cmp R (next x.1) r.0.0 ≡ Less =
+        let after : number_cmp R (next x.1) r.0.0 ≡ Less =
         each_before all_exact.total (next x.1) (keys xs) a.1 r.0.0 (in_map (λ (z : Run P). z.0) xs r.0 r.1) in
         subst (λ (w : Number P). number_cmp R x.1 w ≡ Less) (sym r.2)
         (lt_trans all_exact x.1 (next x.1) r.0.1 (f.up x.1)
-        (lt_le_trans all_exact (next x.1) r.0.0 r.0.1 behind (not_empty f xs a.2 r.0 r.1)))),
+        (lt_le_trans all_exact (next x.1) r.0.0 r.0.1 after (not_empty f xs a.2 r.0 r.1)))),
     lasts_rise xs a.2,
   )
 
@@ -158,7 +158,7 @@ module _ {P : Type 0} {R : P → P → Ordering} (o : IsTotalOrder R) (exact : I
             (sym r.2)
             (and_from (has (number_cmp R) runs r.0.1) (not (has (number_cmp R) runs (next r.0.1)))
             (has_in all_exact runs r.0.1 r.0 r.1 (not_empty f runs a r.0 r.1) (le_itself all_exact r.0.1))
-            (ap not (gap_behind f runs a q r.0 r.1)))
+            (ap not (gap_after f runs a q r.0 r.1)))
 
         back : (has (number_cmp R) runs q && not (has (number_cmp R) runs (next q))) ≡ true
             → contains (number_cmp R) (lasts runs) q ≡ true

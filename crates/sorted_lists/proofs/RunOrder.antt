@@ -144,19 +144,19 @@ module _ {K : Type 0} {R : K → K → Ordering} (e : Exact R) where
       go h Greater p (inl s) = inl s
       go h Greater p (inr j) = inr (h j n)
 
-    -- an entry and one behind it
-    pub behind_head : (x : K × V) (xs : List (K × V)) → Rises R (keys (x ∷ xs)) → (r : K × V) → In r xs → Lt x.0 r.0
-    behind_head x xs u r i = each_before e.total x.0 (keys xs) u.0 r.0 (in_map (λ (z : K × V). z.0) xs r i)
+    -- an entry and one after it
+    pub after_head : (x : K × V) (xs : List (K × V)) → Rises R (keys (x ∷ xs)) → (r : K × V) → In r xs → Lt x.0 r.0
+    after_head x xs u r i = each_before e.total x.0 (keys xs) u.0 r.0 (in_map (λ (z : K × V). z.0) xs r i)
 
     pub unique : (es : List (K × V)) → Rises R (keys es) → (a b : K × V) → In a es → In b es → a.0 ≡ b.0 → a ≡ b
     unique [] u a b i j s = absurd i
     unique (x ∷ xs) u a b (inl p) (inl q) s = p ∙ sym q
     unique (x ∷ xs) u a b (inl p) (inr j) s =
         absurd
-        (lt_irrefl b.0 (subst (λ (w : K). Lt w b.0) (sym (ap (λ (z : K × V). z.0) p) ∙ s) (behind_head x xs u b j)))
+        (lt_irrefl b.0 (subst (λ (w : K). Lt w b.0) (sym (ap (λ (z : K × V). z.0) p) ∙ s) (after_head x xs u b j)))
     unique (x ∷ xs) u a b (inr i) (inl q) s =
         absurd
-        (lt_irrefl a.0 (subst (λ (w : K). Lt w a.0) (sym (ap (λ (z : K × V). z.0) q) ∙ sym s) (behind_head x xs u a i)))
+        (lt_irrefl a.0 (subst (λ (w : K). Lt w a.0) (sym (ap (λ (z : K × V). z.0) q) ∙ sym s) (after_head x xs u a i)))
     unique (x ∷ xs) u a b (inr i) (inr j) s = unique xs u.1 a b i j s
 
     -- ---- the last entry that is not above a key, and the first that is not below it
@@ -174,7 +174,7 @@ module _ {K : Type 0} {R : K → K → Ordering} (e : Exact R) where
           → by_order c None (Some (unwrap_or (last_up_to R k xs) x)) (Some (unwrap_or (last_up_to R k xs) x)) ≡ None
           → In r (x ∷ xs) → Lt k r.0
       go Less p g (inl s) = subst (λ (w : K). Lt k w) (sym (ap (λ (z : K × V). z.0) s)) p
-      go Less p g (inr j) = lt_trans k x.0 r.0 p (behind_head x xs u r j)
+      go Less p g (inr j) = lt_trans k x.0 r.0 p (after_head x xs u r j)
       go Equal p g j = absurd cc
       go Greater p g j = absurd cc
 
@@ -202,7 +202,7 @@ module _ {K : Type 0} {R : K → K → Ordering} (e : Exact R) where
             within = rest.within;
             others = λ r i. elim i [
               | inl t ↦
-                  inl (subst (λ (w : K × V). Le w.0 z.0) (sym t) (lt_le x.0 z.0 (behind_head x xs u z rest.is_in)))
+                  inl (subst (λ (w : K × V). Le w.0 z.0) (sym t) (lt_le x.0 z.0 (after_head x xs u z rest.is_in)))
               | inr j ↦ rest.others r j
             ];
           })
@@ -242,7 +242,7 @@ module _ {K : Type 0} {R : K → K → Ordering} (e : Exact R) where
             above = l;
             others = λ r i. elim i [
               | inl t ↦ inr (subst (λ (w : K × V). Le x.0 w.0) (sym t) (le_itself x.0))
-              | inr j ↦ inr (lt_le x.0 r.0 (behind_head x xs u r j))
+              | inr j ↦ inr (lt_le x.0 r.0 (after_head x xs u r j))
             ];
           })
 

@@ -20,8 +20,8 @@ module _ {K : Type 0} {R : K → K → Ordering} (e : Exact R) where
   has_head : (x : K) (xs : List K) → contains R (x ∷ xs) x ≡ true
   has_head x xs = contains_in e (x ∷ xs) x (inl refl)
 
-  pub not_behind : (x : K) (xs : List K) → IsBefore R x xs → contains R xs x ≡ false
-  not_behind x xs b =
+  pub not_after : (x : K) (xs : List K) → IsBefore R x xs → contains R xs x ≡ false
+  not_after x xs b =
       false_from_ne_true (contains R xs x) (λ h. lt_irrefl e x (each_before e.total x xs b x (in_contains e xs x h)))
 
   same_tail : (x : K) (xs ys : List K) → Rises R (x ∷ xs) → Rises R (x ∷ ys)
@@ -32,7 +32,7 @@ module _ {K : Type 0} {R : K → K → Ordering} (e : Exact R) where
     go true p g =
         let same : q ≡ x = eq_same e q x p in
         subst (λ (z : K). contains R xs z ≡ contains R ys z) (sym same)
-        (not_behind x xs r.0 ∙ sym (not_behind x ys s.0))
+        (not_after x xs r.0 ∙ sym (not_after x ys s.0))
     go false p g = g
 
   pub same_sets : (xs ys : List K) → Rises R xs → Rises R ys → ((q : K) → contains R xs q ≡ contains R ys q) → xs ≡ ys

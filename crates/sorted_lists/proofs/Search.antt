@@ -49,8 +49,8 @@ module _ {K : Type 0} {R : K → K → Ordering} (o : IsTotalOrder R) where
         let point = parted (searchable_from_sorted o key xs k (rises_sorted xs rises)) in
         at_gap i within point.0 point.1
 
-  behind_front : (k x y : K) → R x y ≡ Less → R y k ≡ Equal → R k x ≡ Greater
-  behind_front k x y before equal = sym (o.congr y k x equal) ∙ less_back o x y before
+  after_prefix : (k x y : K) → R x y ≡ Less → R y k ≡ Equal → R k x ≡ Greater
+  after_prefix k x y before equal = sym (o.congr y k x equal) ∙ less_back o x y before
 
   module _ {V : Type 0} where
     key_before : (x : K) (es : List (K × V)) (i : ℕ) → IsBefore R x (keys es) → i < length es → (d : K × V)
@@ -67,7 +67,7 @@ module _ {K : Type 0} {R : K → K → Ordering} (o : IsTotalOrder R) where
         (equal_back o e.0 k (h e))
     with_value_found (e ∷ es) k v (suc i) r l h =
         ap (λ (c : Ordering). by_order c ((k, v) ∷ e ∷ es) ((k, v) ∷ es) (e ∷ with_value R k v es))
-        (behind_front k e.0 (get_or es i e).0 (key_before e.0 es i r.0 (omega arith) e) (h e))
+        (after_prefix k e.0 (get_or es i e).0 (key_before e.0 es i r.0 (omega arith) e) (h e))
         ∙ ap (λ (xs : List (K × V)). e ∷ xs) (with_value_found es k v i r.1 (omega arith) h)
 
     with_value_gap : (es : List (K × V)) (k : K) (v : V) (i : ℕ) → i ≤ length es
@@ -92,7 +92,7 @@ module _ {K : Type 0} {R : K → K → Ordering} (o : IsTotalOrder R) where
         ap (λ (c : Ordering). by_order c (e ∷ es) es (e ∷ without_key R k es)) (equal_back o e.0 k (h e))
     without_found (e ∷ es) k (suc i) r l h =
         ap (λ (c : Ordering). by_order c (e ∷ es) es (e ∷ without_key R k es))
-        (behind_front k e.0 (get_or es i e).0 (key_before e.0 es i r.0 (omega arith) e) (h e))
+        (after_prefix k e.0 (get_or es i e).0 (key_before e.0 es i r.0 (omega arith) e) (h e))
         ∙ ap (λ (xs : List (K × V)). e ∷ xs) (without_found es k i r.1 (omega arith) h)
 
     without_gap : (es : List (K × V)) (k : K) (i : ℕ) → AllWithin (λ e. R e.0 k ≡ Less) es 0 i
@@ -108,13 +108,13 @@ module _ {K : Type 0} {R : K → K → Ordering} (o : IsTotalOrder R) where
         (without_gap es k i (λ j d a b. below (suc j) d (omega arith) (omega arith))
         (λ j d a b. above (suc j) d (omega arith) (omega arith)))
 
-    -- what stands in front of a key that is found is less, and what stands behind it greater
+    -- what stands in front of a key that is found is less, and what stands after it greater
     below_found : (es : List (K × V)) (k : K) (i : ℕ) → Rises R (keys es) → i < length es
         → HoldsAt (λ e. R e.0 k ≡ Equal) es i → (j : ℕ) (d : K × V) → 0 ≤ j → j < i → R (get_or es j d).0 k ≡ Less
     below_found [] k i r l h j d a b = absurd (omega arith)
     below_found (e ∷ es) k zero r l h j d a b = absurd (omega arith)
     below_found (e ∷ es) k (suc i) r l h zero d a b =
-        greater_back o k e.0 (behind_front k e.0 (get_or es i e).0 (key_before e.0 es i r.0 (omega arith) e) (h e))
+        greater_back o k e.0 (after_prefix k e.0 (get_or es i e).0 (key_before e.0 es i r.0 (omega arith) e) (h e))
     below_found (e ∷ es) k (suc i) r l h (suc j) d a b =
         below_found es k i r.1 (omega arith) h j d (omega arith) (omega arith)
 
@@ -198,16 +198,16 @@ module _ {K : Type 0} {R : K → K → Ordering} (o : IsTotalOrder R) where
           equal_not_less : Equal ≡ Less → ⊥
           equal_not_less s = cc
 
-    pub first_behind : (es : List (K × V)) (k : K) (i : ℕ) → Found R (λ e. e.0) es k (Err i) → i < length es
+    pub first_after : (es : List (K × V)) (k : K) (i : ℕ) → Found R (λ e. e.0) es k (Err i) → i < length es
         → (d : K × V) → first_from R k es ≡ Some (get_or es i d)
-    first_behind es k i (at_gap j l below above) m d =
+    first_after es k i (at_gap j l below above) m d =
         first_at_index es k j m below (λ x s. greater_not_less (sym (above j x (omega arith) m) ∙ s)) d where
           greater_not_less : Greater ≡ Less → ⊥
           greater_not_less s = cc
 
-    pub none_behind : (es : List (K × V)) (k : K) (i : ℕ) → Found R (λ e. e.0) es k (Err i) → length es ≤ i
+    pub none_after : (es : List (K × V)) (k : K) (i : ℕ) → Found R (λ e. e.0) es k (Err i) → length es ≤ i
         → first_from R k es ≡ None
-    none_behind es k i (at_gap j l below above) m = first_none es k (λ n x a b. below n x a (omega (arith, b, m)))
+    none_after es k i (at_gap j l below above) m = first_none es k (λ n x a b. below n x a (omega (arith, b, m)))
 
     pub without_at : (es : List (K × V)) (k : K) (i : ℕ) → Rises R (keys es) → Found R (λ e. e.0) es k (Ok i)
         → without_key R k es ≡ remove es i

@@ -23,12 +23,12 @@ abbrev pub IsKept : ℕ → ℕ → ℕ → Type 0
 IsKept blocks place n = (n ≡ half) ⊎ ((n + 1 ≡ full) × (place + 1 ≡ blocks))
 
 module _ {K V A : Type 0} where
-  -- what blocks have, one behind the other
+  -- what blocks have, one after the other
   abbrev pub joined : List (Vec (K × V) A) → List (K × V)
   joined [] = []
   joined (b ∷ bs) = b.items ++ joined bs
 
-  -- how much is in them above half a block each, and in the last, behind which a block can begin, above one entry
+  -- how much is in them above half a block each, and in the last, after which a block can begin, above one entry
   abbrev pub over : List (Vec (K × V) A) → ℕ
   over [] = 0
   over (b ∷ []) = length b.items - 1
@@ -70,7 +70,7 @@ module _ {K V : Type 0} (R : K → K → Ordering) where
   AreBefore [] k = Unit {0}
   AreBefore (e ∷ es) k = (R e.0 k ≡ Less) × AreBefore es k
 
-  -- the key belongs into the block at this place: all keys in front are before it, all behind it after it, and some key
+  -- the key belongs into the block at this place: all keys in front are before it, all after it after it, and some key
   -- from the block on is not above it where the block isn't the first
   abbrev pub IsPlace : {A : Type 0} → K → List (Vec (K × V) A) → ℕ → Type 0
   IsPlace k [] i = Unit {0}

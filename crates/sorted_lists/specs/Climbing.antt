@@ -6,7 +6,7 @@ use Rattle.std.specs.declared.cmp.Ordering.TheVariants.{Less}
 use Rattle.sorted_lists.specs.Members.{In}
 
 module _ {A K : Type 0} (R : K → K → Ordering) (key : A → K) where
-  -- nothing comes after what stands behind it
+  -- nothing comes after what stands after it
   abbrev pub Climbs : List A → Type 0
   Climbs [] = Unit {0}
   Climbs (x ∷ xs) = ((y : A) → In y xs → is_le (R (key x) (key y)) ≡ true) × Climbs xs
@@ -15,4 +15,4 @@ module _ {A K : Type 0} (R : K → K → Ordering) (key : A → K) where
   pub record IsPlaceOf (xs : List A) (k : K) (place : ℕ) : Type 0 where
     pub within : place ≤ length xs
     pub before : (x : A) → In x (take place xs) → R (key x) k ≡ Less
-    pub behind : (x : A) → In x (drop place xs) → is_le (R k (key x)) ≡ true
+    pub after : (x : A) → In x (drop place xs) → is_le (R k (key x)) ≡ true

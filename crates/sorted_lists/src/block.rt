@@ -51,7 +51,7 @@ pub(crate) fn remove<K: Ord + Copy, V: Copy>(block: &mut Vec<(K, V)>, key: K)
     }
 }
 
-// So many entries stay, and those behind them go to the other block, which is empty and has room for them.
+// So many entries stay, and those after them go to the other block, which is empty and has room for them.
 pub(crate) fn split<K: Copy, V: Copy>(block: &mut Vec<(K, V)>, place: usize, back: &mut Vec<(K, V)>)
     requires place { place ≤ length block.old.items }
     requires empty { back.old.items ≡ [] }

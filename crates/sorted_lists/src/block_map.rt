@@ -17,7 +17,7 @@ const TOO_MANY: usize = 1 << 57;
 
 #[derive(Debug, Drop)]
 pub(crate) struct BlockMap<K, V> {
-    // The entries, block behind block. Only the first block may have none.
+    // The entries, block after block. Only the first block may have none.
     blocks: Vec<Vec<(K, V)>>,
     // Empty blocks, each for the back of one that is split. A block that is emptied is kept here too.
     spare: Vec<Vec<(K, V)>>,
@@ -35,8 +35,8 @@ impl<K: Ord + Copy, V: Copy> BlockMap<K, V> {
         }
     }
 
-    // Makes room for so many more entries. Each entry takes one empty block at most. Beyond that each block may have to
-    // be split once, and then one of them at every `HALF` further entries.
+    // Makes room for so many more entries. Each entry takes one empty block at most. Beyond that each block may must be
+    // split once, and then one of them at every `HALF` further entries.
     pub fn reserve(&mut self, n: usize) -> Result<(), AllocError>
         requires { IsMap K.cmp self.old }
         ensures entries { entries self.new ≡ entries self.old }

@@ -151,7 +151,7 @@ fn start_of<P: Ord + Copy>(
     }
 }
 
-// Where it ends. A run that begins right behind the number is taken out.
+// Where it ends. A run that begins right after the number is taken out.
 fn take_end_of<P: Ord + Copy>(
     runs: &mut SortedMap<(P, u16), (P, u16)>,
     number: (P, u16),

@@ -9,8 +9,8 @@ use std::marker::Model;
 ///
 /// A contract sees its entries as a list, and for how many more there is room. `insert` uses up room for one at most,
 /// and no other call any. Entries stand in blocks of fewer than 64. A look-up or a change is a search among the blocks
-/// and one in a block. A change moves the entries behind its place in the block, and where a block is split or left
-/// empty, also the blocks behind it, of which each is three words.
+/// and one in a block. A change moves the entries after its place in the block, and where a block is split or left
+/// empty, also the blocks after it, of which each is three words.
 #[derive(Debug, Drop)]
 pub struct SortedMap<K: Ord + Copy, V: Copy> {
     map: BlockMap<K, V>,

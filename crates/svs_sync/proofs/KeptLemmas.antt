@@ -25,28 +25,28 @@ kept_if : (n : ℕ) (b : Bool) (x y : SyncMember) → kept n (if b then x else y
 kept_if n true x y = refl
 kept_if n false x y = refl
 
-hears_same : (n now : ℕ) (told known : List ℕ) (draw : ℕ) (m : SyncMember) (h : Option (List (List ℕ)))
-    → hears_kept now told known draw (kept n m) (option_map join_all h) ≡ kept n (hears now told known draw m h)
-hears_same n now told known draw m None =
+hears_same : (n now : ℕ) (reported known : List ℕ) (draw : ℕ) (m : SyncMember) (h : Option (List (List ℕ)))
+    → hears_kept now reported known draw (kept n m) (option_map join_all h) ≡ kept n (hears now reported known draw m h)
+hears_same n now reported known draw m None =
     let alone : SyncMember =
-    record { heard = Some (told ∷ []); deadline = now + suppression draw; draws = m.draws + 1 } in
+    record { heard = Some (reported ∷ []); deadline = now + suppression draw; draws = m.draws + 1 } in
     let one : Keeper =
-    record { members = n; heard = Some told; deadline = now + suppression draw; draws = m.draws + 1 } in
+    record { members = n; heard = Some reported; deadline = now + suppression draw; draws = m.draws + 1 } in
     let same : one ≡ kept n alone =
     ap (λ (v : List ℕ).
     let k : Keeper = record { members = n; heard = Some v; deadline = now + suppression draw; draws = m.draws + 1 } in
-    k) (sym (join_all-one told)) in
-    ap (λ (k : Keeper). if covers told known then steady_kept now draw (kept n m) else k) same
-    ∙ sym (kept_if n (covers told known) (steady now draw m) alone)
-hears_same n now told known draw m (Some vectors) =
+    k) (sym (join_all-one reported)) in
+    ap (λ (k : Keeper). if covers reported known then steady_kept now draw (kept n m) else k) same
+    ∙ sym (kept_if n (covers reported known) (steady now draw m) alone)
+hears_same n now reported known draw m (Some vectors) =
     ap (λ (v : List ℕ).
     let k : Keeper = record { members = n; heard = Some v; deadline = m.deadline; draws = m.draws } in k)
-    (sym (join_all-push vectors told))
+    (sym (join_all-push vectors reported))
 
 after_same : (n : ℕ) (e : SyncEvent) (m : SyncMember) → after_kept e (kept n m) ≡ kept n (after_sync_event e m)
 unfolding after_kept after_sync_event
 after_same n (published now draw) m = refl
-after_same n (heard now told known draw) m = hears_same n now told known draw m m.heard
+after_same n (heard now reported known draw) m = hears_same n now reported known draw m m.heard
 after_same n (fired now known draw) m = sym (kept_if n (ltb now m.deadline) m (steady now draw m))
 after_same n (reset now draw) m = refl
 

@@ -7,7 +7,7 @@ use Rattle.std.proofs.lemmas.Slice.Eq.{bytes_eq-Decides}
 use Rattle.ndn_tlv.specs.Spelling.{number, element}
 use Rattle.ndn_tlv.specs.Elements.{IsOctets}
 use Rattle.ndn_name.specs.Names.{Component, IsComponent, IsName, encoding}
-use Rattle.ndn_name.proofs.Encodings.{encoding-push, encoding-same, IsName-append, IsOctets-behind}
+use Rattle.ndn_name.proofs.Encodings.{encoding-push, encoding-same, IsName-append, IsOctets-after}
 use Rattle.ndn_interest.specs.Interest.{without_last, ends_in_digest}
 use Rattle.ndn_interest.proofs.LastLemmas.{digest_spelled, digest_ends, without-push, ends-push}
 use Rattle.svs_vector.specs.Rosters.{has_same_octets}
@@ -47,11 +47,11 @@ version = record {
 pub is_sync_name-made : (group : List Component) (digest : List ℕ)
     → is_sync_name group (sync_name group ++ (2, digest) ∷ []) ≡ true
 is_sync_name-made group digest =
-    let front = sync_name group in
+    let prefix = sync_name group in
     let last : Component = (2, digest) in
-    and_from (has_same_octets (without_last (front ++ last ∷ [])) front) (ends_in_digest (front ++ last ∷ []))
-    (rw (without-push front last) ((bytes_eq-Decides (encoding front) (encoding front)).1 refl))
-    (ends-push front digest)
+    and_from (has_same_octets (without_last (prefix ++ last ∷ [])) prefix) (ends_in_digest (prefix ++ last ∷ []))
+    (rw (without-push prefix last) ((bytes_eq-Decides (encoding prefix) (encoding prefix)).1 refl))
+    (ends-push prefix digest)
 
 -- ---- the test of the octets
 
@@ -59,11 +59,11 @@ pub named : (group name : List Component) (digest : List ℕ) → IsName group �
     → encoding name ≡ encoding group ++ (between ++ digest) → length digest ≡ 32
     → name ≡ sync_name group ++ (2, digest) ∷ []
 named group name digest valid_group valid same long =
-    let front = sync_name group in
+    let prefix = sync_name group in
     let last : Component = (2, digest) in
     let octets =
-    IsOctets-behind between digest
-    (IsOctets-behind (encoding group) (between ++ digest) (subst IsOctets same (IsOctets-encoding name valid))) in
+    IsOctets-after between digest
+    (IsOctets-after (encoding group) (between ++ digest) (subst IsOctets same (IsOctets-encoding name valid))) in
     let good : IsComponent last = record {
       above = omega arith;
       below = omega arith;
@@ -71,8 +71,8 @@ named group name digest valid_group valid same long =
       long = omega (arith, long);
       octets = octets;
     } in
-    encoding-same name (front ++ last ∷ []) valid
-    (IsName-append front (last ∷ []) (IsName-append group ((0x36, 2 ∷ []) ∷ []) valid_group (version, tt)) (good, tt))
+    encoding-same name (prefix ++ last ∷ []) valid
+    (IsName-append prefix (last ∷ []) (IsName-append group ((0x36, 2 ∷ []) ∷ []) valid_group (version, tt)) (good, tt))
     (same ∙ sym (spelled group digest long))
 
 pub is_of_group : (group name : List Component) (digest : List ℕ) → IsName group → IsName name
@@ -89,14 +89,14 @@ pub has_digest : (group name : List Component) → IsName name → is_sync_name 
 has_digest group name valid h =
     let tests = and_parts (has_same_octets (without_last name) (sync_name group)) (ends_in_digest name) h in
     let ends = digest_ends name valid tests.1 in
-    let front : encoding (without_last name) ≡ encoding (sync_name group) =
+    let prefix : encoding (without_last name) ≡ encoding (sync_name group) =
     (bytes_eq-Decides (encoding (without_last name)) (encoding (sync_name group))).0 tests.0 in
     record {
       digest = ends.digest;
       long = ends.long;
       octets =
           ends.spelled
-          ∙ ap (λ (o : List ℕ). o ++ element 2 ends.digest) front
+          ∙ ap (λ (o : List ℕ). o ++ element 2 ends.digest) prefix
           ∙ sym (encoding-push (sync_name group) (2, ends.digest))
           ∙ spelled group ends.digest ends.long;
     }

@@ -1,13 +1,13 @@
--- A refusal that octets get is never want of memory, nor is the fault of its vector.
+-- A refusal that octets get is never out of memory, nor is the fault of its vector.
 use Rattle.std.proofs.Common.{ℕ, Bool, true, false, List, [], Result, Ok, Err}
 use Rattle.std.specs.Prelude.{IfErr, ◌≢◌, unwrap_or}
 use Rattle.ndn_tlv.specs.Listing.{◌>>=◌}
 use Rattle.ndn_name.specs.declared.fault.PacketFault.{PacketFault}
 use Rattle.ndn_name.specs.Names.{Component}
 use Rattle.ndn_sign.specs.Ring.{NamedKey}
-use Rattle.ndn_interest.specs.declared.signature_refusal.SignatureRefusal.{SignatureRefusal}
-use Rattle.ndn_interest.specs.declared.signature_refusal.SignatureRefusal.TheVariants.{Unsigned, ParamsDigest}
-use Rattle.ndn_interest.specs.declared.signature_refusal.SignatureRefusal.TheVariants.{UnknownKey, BadSignature}
+use Rattle.ndn_interest.specs.declared.signature_error.SignatureError.{SignatureError}
+use Rattle.ndn_interest.specs.declared.signature_error.SignatureError.TheVariants.{Unsigned, ParamsDigest}
+use Rattle.ndn_interest.specs.declared.signature_error.SignatureError.TheVariants.{UnknownKey, BadSignature}
 use Rattle.ndn_interest.specs.Interest.{Interest, interest_of}
 use Rattle.ndn_interest.specs.Signer.{ensured, signer_of}
 use Rattle.svs_vector.specs.declared.vector_fault.VectorFault.{VectorFault}
@@ -39,17 +39,17 @@ ensured_err : (b : Bool) → IfErr (ensured b WrongGroup) IsOfOctets
 ensured_err true = tt
 ensured_err false = apart _ (λ e. absurd cc) (λ e. absurd cc)
 
-signed_err : (r : Result ℕ SignatureRefusal) → IfErr (signed_or r) IsOfOctets
+signed_err : (r : Result ℕ SignatureError) → IfErr (signed_or r) IsOfOctets
 signed_err (Ok n) = tt
 signed_err (Err Unsigned) = apart _ (λ e. absurd cc) (λ e. absurd cc)
 signed_err (Err ParamsDigest) = apart _ (λ e. absurd cc) (λ e. absurd cc)
 signed_err (Err UnknownKey) = apart _ (λ e. absurd cc) (λ e. absurd cc)
 signed_err (Err BadSignature) = apart _ (λ e. absurd cc) (λ e. absurd cc)
 
-told_err : (r : Result (List ℕ) VectorFault) → IfErr r (λ fault. fault ≢ vector.NoMemory)
+reported_err : (r : Result (List ℕ) VectorFault) → IfErr r (λ fault. fault ≢ vector.NoMemory)
     → IfErr (vector_or r) IsOfOctets
-told_err (Ok v) h = tt
-told_err (Err f) h = apart (Vector f) (λ e. absurd cc) (λ e. h cc)
+reported_err (Ok v) h = tt
+reported_err (Err f) h = apart (Vector f) (λ e. absurd cc) (λ e. h cc)
 
 module _ (group : List Component) (roster : List (List Component)) (ring : List NamedKey) where
   interest_err : (i : Interest) → IfErr (sync_interest_verdict group roster ring i) IsOfOctets
@@ -57,7 +57,8 @@ module _ (group : List Component) (roster : List (List Component)) (ring : List 
       then_err (ensured (is_sync_name group i.name) WrongGroup) _ (ensured_err (is_sync_name group i.name))
       (λ _. then_err (signed_or (signer_of ring i)) _ (signed_err (signer_of ring i)) (λ signer.
       then_err (vector_or (vector_of roster (unwrap_or i.parameters []))) (λ v. Ok (signer, v))
-      (told_err (vector_of roster (unwrap_or i.parameters [])) (faults_of_octets roster (unwrap_or i.parameters [])))
+      (reported_err (vector_of roster (unwrap_or i.parameters []))
+      (faults_of_octets roster (unwrap_or i.parameters [])))
       (λ v. tt)))
 
 pub refused_for_octets : (group : List Component) (roster : List (List Component)) (ring : List NamedKey)

@@ -29,10 +29,10 @@ abbrev pub steady_kept : ℕ → ℕ → Keeper → Keeper
 steady_kept now draw k = record k { heard = None; deadline = now + periodic draw; draws = k.draws + 1 }
 
 abbrev pub hears_kept : ℕ → List ℕ → List ℕ → ℕ → Keeper → Option (List ℕ) → Keeper
-hears_kept now told known draw k None =
-    if covers told known then steady_kept now draw k
-    else record k { heard = Some told; deadline = now + suppression draw; draws = k.draws + 1 }
-hears_kept now told known draw k (Some vector) = record k { heard = Some (join vector told) }
+hears_kept now reported known draw k None =
+    if covers reported known then steady_kept now draw k
+    else record k { heard = Some reported; deadline = now + suppression draw; draws = k.draws + 1 }
+hears_kept now reported known draw k (Some vector) = record k { heard = Some (join vector reported) }
 
 abbrev pub due_kept : List ℕ → Option (List ℕ) → Fired
 due_kept known None = Send
@@ -47,7 +47,7 @@ fired_kept now draw k = if nat_lt now k.deadline then k else steady_kept now dra
 -- What is kept after each event, and after a list of them.
 unfoldable pub after_kept : SyncEvent → Keeper → Keeper
 after_kept (published now draw) k = steady_kept now draw k
-after_kept (heard now told known draw) k = hears_kept now told known draw k k.heard
+after_kept (heard now reported known draw) k = hears_kept now reported known draw k k.heard
 after_kept (fired now known draw) k = fired_kept now draw k
 after_kept (reset now draw) k = steady_kept now draw k
 

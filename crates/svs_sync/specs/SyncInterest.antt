@@ -6,8 +6,8 @@ use Rattle.ndn_tlv.specs.Listing.{◌>>=◌}
 use Rattle.ndn_name.specs.declared.fault.PacketFault.{PacketFault}
 use Rattle.ndn_name.specs.Names.{Component, encoding}
 use Rattle.ndn_sign.specs.Ring.{NamedKey}
-use Rattle.ndn_interest.specs.declared.signature_refusal.SignatureRefusal.{SignatureRefusal}
-use Rattle.ndn_interest.specs.declared.signature_refusal.SignatureRefusal.TheVariants as signature
+use Rattle.ndn_interest.specs.declared.signature_error.SignatureError.{SignatureError}
+use Rattle.ndn_interest.specs.declared.signature_error.SignatureError.TheVariants as signature
 use Rattle.ndn_interest.specs.Interest.{Interest, interest_of, without_last, ends_in_digest}
 use Rattle.ndn_interest.specs.Signer.{ensured, signer_of}
 use Rattle.ndn_interest.specs.WrittenInterest.{written_interest}
@@ -29,7 +29,7 @@ sync_name group = group ++ (types.VersionNameComponent, 2 ∷ []) ∷ []
 abbrev pub IsNodeName : List Component → Type 0
 IsNodeName name = (1 ≤ length (encoding name)) × (length (encoding name) ≤ 200)
 
--- The component behind a node's name in the name of its key: the generic component KEY.
+-- The component after a node's name in the name of its key: the generic component KEY.
 abbrev pub key_component : Component
 key_component = (types.GenericNameComponent, 75 ∷ 69 ∷ 89 ∷ [])
 
@@ -54,13 +54,13 @@ abbrev pub packet_or : Result Interest PacketFault → Result Interest SyncRefus
 packet_or (Ok interest) = Ok interest
 packet_or (Err fault) = Err (Packet fault)
 
-abbrev pub unsigned_as : SignatureRefusal → SyncRefusal
+abbrev pub unsigned_as : SignatureError → SyncRefusal
 unsigned_as signature.Unsigned = Unsigned
 unsigned_as signature.ParamsDigest = ParamsDigest
 unsigned_as signature.UnknownKey = UnknownKey
 unsigned_as signature.BadSignature = BadSignature
 
-abbrev pub signed_or : Result ℕ SignatureRefusal → Result ℕ SyncRefusal
+abbrev pub signed_or : Result ℕ SignatureError → Result ℕ SyncRefusal
 signed_or (Ok signer) = Ok signer
 signed_or (Err refusal) = Err (unsigned_as refusal)
 
@@ -68,7 +68,7 @@ abbrev pub vector_or : Result (List ℕ) VectorFault → Result (List ℕ) SyncR
 vector_or (Ok vector) = Ok vector
 vector_or (Err fault) = Err (Vector fault)
 
--- The name is that of the group's sync Interests, with a parameters digest behind it.
+-- The name is that of the group's sync Interests, with a parameters digest after it.
 abbrev pub is_sync_name : List Component → List Component → Bool
 is_sync_name group name = has_same_octets (without_last name) (sync_name group) && ends_in_digest name
 

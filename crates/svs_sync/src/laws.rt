@@ -46,13 +46,13 @@ pub fn sync_interests_are_tested()
 {}
 
 /// The vector that a sync Interest tells has a number for each member.
-pub fn told_vectors_have_all_members()
+pub fn reported_vectors_have_all_members()
     ensures { (group : List Component) (roster : List (List Component)) (ring : List NamedKey)
-        (octets : List ℕ) (told : ℕ × List ℕ)
-        → sync_verdict group roster ring octets ≡ Ok told → length told.1 ≡ length roster }
+        (octets : List ℕ) (reported : ℕ × List ℕ)
+        → sync_verdict group roster ring octets ≡ Ok reported → length reported.1 ≡ length roster }
 {}
 
-/// A refusal that octets get is told by them, and is never want of memory, nor is the fault of its vector.
+/// A refusal that octets get is reported by them, and is never out of memory, nor is the fault of its vector.
 pub fn sync_refusals_are_of_the_octets()
     ensures { (group : List Component) (roster : List (List Component)) (ring : List NamedKey)
         (octets : List ℕ) → IfErr (sync_verdict group roster ring octets)

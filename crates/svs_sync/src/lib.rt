@@ -1,6 +1,6 @@
 //! Sync Interests and the suppression of State Vector Sync: how a member tells the others of its
 //! state vector, and what it takes from them; when it sends, and when it holds back because others
-//! have told what it knows.
+//! have reported what it knows.
 //!
 //! What is promised of it: `docs/promises/svs_sync.md`.
 #![tactic(auto)]
@@ -14,10 +14,10 @@ mod sync_refusal;
 
 pub use fired::Fired;
 pub use laws::{
-    made_sync_interests_are_checked, sync_interests_are_tested, sync_refusals_are_of_the_octets,
-    told_vectors_have_all_members, what_is_kept_is_the_join,
+    made_sync_interests_are_checked, reported_vectors_have_all_members, sync_interests_are_tested,
+    sync_refusals_are_of_the_octets, what_is_kept_is_the_join,
 };
 pub use machine::Machine;
 pub use mode::Mode;
-pub use sync_interest::{check_sync, check_told, make_sync};
+pub use sync_interest::{check_reported, check_sync, make_sync};
 pub use sync_refusal::SyncRefusal;

@@ -69,23 +69,23 @@ impl Machine {
         self.settle(now, draw);
     }
 
-    /// The member was told of a vector, while `known` was the one that it knew.
-    pub fn heard(&mut self, now: u64, told: &Vector, known: &Vector, draw: u32) -> Mode
+    /// The member was informed of a vector, while `known` was the one that it knew.
+    pub fn heard(&mut self, now: u64, reported: &Vector, known: &Vector, draw: u32) -> Mode
         requires early { now < 2 ^ 62 }
         requires few { self.old.draws < 2 ^ 62 }
-        requires told { length told.now ≡ self.old.members }
+        requires reported { length reported.now ≡ self.old.members }
         requires known { length known.now ≡ self.old.members }
-        ensures kept { self.new ≡ hears_kept now told.now known.now draw self.old self.old.heard }
+        ensures kept { self.new ≡ hears_kept now reported.now known.now draw self.old self.old.heard }
         ensures mode { result ≡ mode_of self.new.heard }
     {
         match self.mode {
             Mode::Suppressed => {
-                self.heard.join(told);
+                self.heard.join(reported);
             }
-            Mode::Steady if told.covers(known) => self.settle(now, draw),
+            Mode::Steady if reported.covers(known) => self.settle(now, draw),
             Mode::Steady => {
                 self.mode = Mode::Suppressed;
-                self.heard.copy_from(told);
+                self.heard.copy_from(reported);
                 self.deadline = now + suppression(draw);
                 self.draws += 1;
             }
@@ -129,7 +129,7 @@ impl Machine {
         self.mode
     }
 
-    /// The moment from which on the member is due.
+    /// The time from which on the member is due.
     pub fn deadline(&self) -> u64
         ensures { result ≡ self.now.deadline }
     {
@@ -155,7 +155,7 @@ impl Machine {
     }
 }
 
-// How long a member waits that was told nothing.
+// How long a member waits that was reported nothing.
 fn periodic(draw: u32) -> u64
     ensures exact { result ≡ periodic draw }
     ensures short { result < 33001 }
@@ -163,7 +163,7 @@ fn periodic(draw: u32) -> u64
     27_000 + u64::from(draw) % 6_001
 }
 
-// How long a member holds back that was told of an older vector.
+// How long a member holds back that was reported of an older vector.
 fn suppression(draw: u32) -> u64
     ensures exact { result ≡ suppression draw }
     ensures short { result < 201 }

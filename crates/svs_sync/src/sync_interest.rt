@@ -10,11 +10,11 @@ use ndn_name::{Name, NameFault, NameView, PacketWriteFault};
 use ndn_sign::KeyRing;
 use ndn_tlv::types;
 use std::alloc::{AllocError, Global};
-use svs_vector::{Roster, ToldNumbers, Vector};
+use svs_vector::{ReportedNumbers, Roster, Vector};
 
-// What stands behind the group's name in that of its sync Interests: the component of version 2,
+// What stands after the group's name in that of its sync Interests: the component of version 2,
 // and the head of the parameters digest's component.
-const BEHIND_GROUP: [u8; 5] = [
+const AFTER_GROUP: [u8; 5] = [
     types::VERSION_NAME_COMPONENT as u8,
     1,
     VERSION,
@@ -61,7 +61,7 @@ fn sync_name(alloc: Global, group: &Name) -> Result<Name, AllocError>
 /// Checks the octets of a sync Interest of the group, and gives the number of the key in the ring
 /// that signed it, and the vector that it tells.
 ///
-/// Only the vector takes memory, and that comes last: it is checked as [`check_told`] checks it.
+/// Only the vector takes memory, and that comes last: it is checked as [`check_reported`] checks it.
 pub fn check_sync(
     alloc: Global,
     octets: &[u8],
@@ -70,16 +70,16 @@ pub fn check_sync(
     ring: &KeyRing,
 ) -> Result<(u32, Vector), SyncRefusal>
     ensures verdict { MatchResult result
-        (λ told. sync_verdict group.now roster.now ring.now octets.now ≡ Ok (told.0, told.1))
+        (λ reported. sync_verdict group.now roster.now ring.now octets.now ≡ Ok (reported.0, reported.1))
         (λ refusal. (sync_verdict group.now roster.now ring.now octets.now ≡ Err refusal)
         ⊎ (refusal ≡ SyncRefusal.NoMemory)) }
     ensures memory { result ≡ Err SyncRefusal.NoMemory
         → IsOk (sync_verdict group.now roster.now ring.now octets.now) }
     ensures vector { result ≢ Err (SyncRefusal.Vector fault.NoMemory) }
-    ensures width { IfOk result (λ told. length told.1 ≡ length roster.now) }
+    ensures width { IfOk result (λ reported. length reported.1 ≡ length roster.now) }
 {
-    let (signer, told) = check_told(octets, group, roster, ring)?;
-    match told.to_vector(alloc) {
+    let (signer, reported) = check_reported(octets, group, roster, ring)?;
+    match reported.to_vector(alloc) {
         Ok(vector) => Ok((signer, vector)),
         Err(_) => Err(SyncRefusal::NoMemory),
     }
@@ -90,36 +90,36 @@ pub fn check_sync(
 ///
 /// The signer is known by its key alone, whatever the numbers tell. What follows the state vector
 /// in the parameters is passed over.
-pub fn check_told(
+pub fn check_reported(
     octets: &[u8],
     group: &Name,
     roster: &Roster,
     ring: &KeyRing,
-) -> Result<(u32, ToldNumbers), SyncRefusal>
+) -> Result<(u32, ReportedNumbers), SyncRefusal>
     ensures verdict { MatchResult result
-        (λ told. sync_verdict group.now roster.now ring.now octets.now ≡ Ok (told.0, told.1))
+        (λ reported. sync_verdict group.now roster.now ring.now octets.now ≡ Ok (reported.0, reported.1))
         (λ refusal. sync_verdict group.now roster.now ring.now octets.now ≡ Err refusal) }
-    ensures width { IfOk result (λ told. length told.1 ≡ length roster.now) }
+    ensures width { IfOk result (λ reported. length reported.1 ≡ length roster.now) }
 {
     let interest = InterestView::read(octets)?;
     if !is_sync_name(&interest.name, group) {
         return Err(SyncRefusal::WrongGroup);
     }
     let signer = signer_of(&interest, ring)?;
-    match ToldNumbers::read(interest.parameters.unwrap_or(&[]), roster) {
-        Ok(told) => Ok((signer, told)),
+    match ReportedNumbers::read(interest.parameters.unwrap_or(&[]), roster) {
+        Ok(reported) => Ok((signer, reported)),
         Err(fault) => Err(SyncRefusal::Vector(fault)),
     }
 }
 
-// Whether the name is that of the group's sync Interests, with a parameters digest behind it.
+// Whether the name is that of the group's sync Interests, with a parameters digest after it.
 fn is_sync_name(name: &NameView<'_>, group: &Name) -> bool
     ensures { result ≡ is_sync_name group.now name.now }
 {
-    let Some(behind) = name.octets().strip_prefix(group.octets()) else {
+    let Some(after) = name.octets().strip_prefix(group.octets()) else {
         return false;
     };
-    match behind.strip_prefix(&BEHIND_GROUP) {
+    match after.strip_prefix(&AFTER_GROUP) {
         Some(digest) => digest.len() == 32,
         None => false,
     }

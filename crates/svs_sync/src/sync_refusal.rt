@@ -1,4 +1,4 @@
-use ndn_interest::SignatureRefusal;
+use ndn_interest::SignatureError;
 use ndn_name::PacketFault;
 use svs_vector::VectorFault;
 use thiserror::Error;
@@ -39,18 +39,18 @@ impl From<PacketFault> for SyncRefusal {
     }
 }
 
-impl From<SignatureRefusal> for SyncRefusal {
+impl From<SignatureError> for SyncRefusal {
     ghost use Rattle.std.specs.Prelude.{◌≡◌};
     ghost use Rattle.svs_sync.specs.SyncInterest.{unsigned_as};
 
     ghost from_gives = { λ refusal as_sync. as_sync ≡ unsigned_as refusal };
 
-    fn from(refusal: SignatureRefusal) -> SyncRefusal {
+    fn from(refusal: SignatureError) -> SyncRefusal {
         match refusal {
-            SignatureRefusal::Unsigned => SyncRefusal::Unsigned,
-            SignatureRefusal::ParamsDigest => SyncRefusal::ParamsDigest,
-            SignatureRefusal::UnknownKey => SyncRefusal::UnknownKey,
-            SignatureRefusal::BadSignature => SyncRefusal::BadSignature,
+            SignatureError::Unsigned => SyncRefusal::Unsigned,
+            SignatureError::ParamsDigest => SyncRefusal::ParamsDigest,
+            SignatureError::UnknownKey => SyncRefusal::UnknownKey,
+            SignatureError::BadSignature => SyncRefusal::BadSignature,
         }
     }
 }

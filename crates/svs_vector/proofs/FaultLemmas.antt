@@ -1,11 +1,11 @@
 -- What holds of the faults of octets that are no state vector: where a number is too large, it is a member's, and none
--- is want of memory.
+-- is out of memory.
 use Rattle.std.proofs.Common.{◌≡◌, ℕ, max, ◌==◌, ◌<◌, Bool, true, false, cond, List, [], ◌∷◌, length, Option, Some}
 use Rattle.std.proofs.Common.{None, refl}
 use Rattle.std.specs.Prelude.{◌≢◌, Result, Ok, Err, IfErr, nat_lt, slice_index, slice_set}
 use Rattle.std.proofs.lemmas.List.Quantifiers.{position-Some}
-use Rattle.ndn_tlv.specs.declared.order_table.FieldFault.{FieldFault}
-use Rattle.ndn_tlv.specs.declared.order_table.FieldFault.TheVariants.{Tlv, Critical}
+use Rattle.ndn_tlv.specs.declared.order_table.FieldError.{FieldError}
+use Rattle.ndn_tlv.specs.declared.order_table.FieldError.TheVariants.{Tlv, Critical}
 use Rattle.ndn_tlv.specs.Listing.{gather, ◌>>=◌}
 use Rattle.ndn_tlv.specs.Elements.{Item, elements}
 use Rattle.ndn_tlv.specs.NumberField.{number_of}
@@ -43,7 +43,7 @@ err_of_all P take named each end s (x ∷ xs) fault =
 
 module _ (roster : List (List Component)) (P : VectorFault → Type 0) (bad : (at : ℕ) → P (BadVector at))
     (large : (m n : ℕ) → m < length roster → P (NumberTooLarge m n)) where
-  of_fields : (e : Item) (f : FieldFault) → P (fault_in e f)
+  of_fields : (e : Item) (f : FieldError) → P (fault_in e f)
   of_fields e (Tlv f) = bad _
   of_fields e (Critical typ at) = bad at
 
@@ -100,7 +100,7 @@ module _ (roster : List (List Component)) (P : VectorFault → Type 0) (bad : (a
       err_of_two P (vector_among (elements 0 octets).items) (vector_in roster) (of_first (elements 0 octets).items)
       (λ e. err_of_all P (with_vector_entry roster) (fault_in e) of_vector_entry (of_fields e) _ _ _)
 
--- No fault of octets is want of memory.
+-- No fault of octets is out of memory.
 pub faults_of_octets : (roster : List (List Component)) (octets : List ℕ)
     → IfErr (vector_of roster octets) (λ fault. fault ≢ NoMemory)
 faults_of_octets roster octets =

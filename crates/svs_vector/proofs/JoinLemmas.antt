@@ -130,12 +130,12 @@ join_all_same us ws same = covers_both_ways (join_all us) (join_all ws)
 pub fold_join_same : (v : List ℕ) (us ws : List (List ℕ)) → HaveSameVectors us ws → fold join v us ≡ fold join v ws
 fold_join_same v us ws same = fold_join v us ∙ (ap (join v) (join_all_same us ws same) ∙ sym (fold_join v ws))
 
--- a change is told of exactly where there is one
-pub told_of_changes : (changed : Bool) (v w new : List ℕ) → changed ≡ not (covers v w) → new ≡ join v w
+-- a change is reported of exactly where there is one
+pub reported_of_changes : (changed : Bool) (v w new : List ℕ) → changed ≡ not (covers v w) → new ≡ join v w
     → IsFalse changed ↔ (new ≡ v)
-told_of_changes changed v w new told joined = (
-  λ none. joined ∙ covers_Covers v w (covered (covers v w) (sym told ∙ none)),
-  λ same. told ∙ ap not (Covers_covers v w (sym joined ∙ same)),
+reported_of_changes changed v w new reported joined = (
+  λ none. joined ∙ covers_Covers v w (covered (covers v w) (sym reported ∙ none)),
+  λ same. reported ∙ ap not (Covers_covers v w (sym joined ∙ same)),
 ) where
   covered : (b : Bool) → not b ≡ false → b ≡ true
   covered true e = refl

@@ -2,7 +2,7 @@ pub mod JoinLemmas
 pub mod RosterLemmas
 pub mod NumberLemmas
 pub mod OrderLemmas
-pub mod ToldLemmas
+pub mod ReportedLemmas
 pub mod FaultLemmas
 pub mod SortedLemmas
 pub mod LengthLemmas

@@ -2,8 +2,8 @@
 -- element types of this project).
 use Rattle.std.specs.Prelude.{ℕ, max, List, [], ◌∷◌, Option, Some, None, Result, Ok, Err, length, replicate}
 use Rattle.std.specs.Prelude.{slice_index, slice_set, nat_lt, ◌==◌, if◌then◌else◌}
-use Rattle.ndn_tlv.specs.declared.order_table.FieldFault.{FieldFault}
-use Rattle.ndn_tlv.specs.declared.order_table.FieldFault.TheVariants.{Tlv, Critical}
+use Rattle.ndn_tlv.specs.declared.order_table.FieldError.{FieldError}
+use Rattle.ndn_tlv.specs.declared.order_table.FieldError.TheVariants.{Tlv, Critical}
 use Rattle.ndn_tlv.specs.Listing.{gathered, ◌>>=◌}
 use Rattle.ndn_tlv.specs.Elements.{Item, elements}
 use Rattle.ndn_tlv.specs.NumberField.{number_of}
@@ -14,26 +14,26 @@ use Rattle.svs_vector.specs.declared.vector_fault.VectorFault.{VectorFault}
 use Rattle.svs_vector.specs.declared.vector_fault.VectorFault.TheVariants.{BadVector, NumberTooLarge}
 use Rattle.svs_vector.specs.declared.entry.EntryField.{EntryField}
 use Rattle.svs_vector.specs.declared.entry.EntryField.TheVariants as entry_field
-use Rattle.svs_vector.specs.declared.entry.Gathered.{Gathered}
+use Rattle.svs_vector.specs.declared.entry.EntryFields.{EntryFields}
 use Rattle.svs_vector.specs.declared.read.VectorField.{VectorField}
 use Rattle.svs_vector.specs.Format as format
 use Rattle.svs_vector.specs.Format.{entry_table, state_vector_table, number_limit}
 use Rattle.svs_vector.specs.Rosters.{member_of}
 
--- Where elements end that begin at an offset: behind the last of them.
+-- Where elements end that begin at an offset: after the last of them.
 abbrev pub end_of : ℕ → List Item → ℕ
 end_of start [] = start
 end_of start (e ∷ es) = end_of e.end es
 
 -- The fault of the fields in an element: an element that has a fault is bad where it begins, which is where those
 -- before it end, and a critical one without a place where it stands.
-abbrev pub fault_in : Item → FieldFault → VectorFault
+abbrev pub fault_in : Item → FieldError → VectorFault
 fault_in e (Tlv f) = BadVector (end_of e.value_start (elements e.value_start e.value).items)
 fault_in e (Critical typ at) = BadVector at
 
 -- ---- an entry
 
--- A node name, and the number that is told of it.
+-- A node name, and the number that is reported of it.
 abbrev pub Entry : Type 0
 Entry = List Component × ℕ
 
@@ -70,7 +70,7 @@ both e None n = Err (BadVector e.start)
 abbrev pub entry_in : Item → Result Entry VectorFault
 entry_in e = entry_fields e >>= λ s. both e s.name s.number
 
-abbrev pub entry_so_far : Gathered → EntrySoFar
+abbrev pub entry_so_far : EntryFields → EntrySoFar
 entry_so_far g = record { name = g.name; number = g.number }
 
 -- ---- the vector

@@ -7,7 +7,7 @@ use crate::types::SEQ_NO;
 use crate::vector_fault::VectorFault;
 use ndn_name::NameView;
 use ndn_tlv::types::NAME;
-use ndn_tlv::{Element, FieldFault, FieldReader, Place, Reader, read_number};
+use ndn_tlv::{Element, FieldError, FieldReader, Place, Reader, read_number};
 
 #[derive(Clone, Copy, Debug)]
 pub(crate) enum EntryField {
@@ -30,7 +30,7 @@ pub(crate) const ENTRY_PLACES: [Place<EntryField>; 2] = [
 
 // The fields as far as they have come.
 #[derive(Drop)]
-pub(crate) struct Gathered<'p> {
+pub(crate) struct EntryFields<'p> {
     name: Option<NameView<'p>>,
     number: Option<u64>,
 }
@@ -42,12 +42,12 @@ pub(crate) fn entry_in(element: Element<'_>) -> Result<(NameView<'_>, u64), Vect
         (λ entry. entry_in (item element.entry) ≡ Ok (entry.0, entry.1))
         (λ fault. entry_in (item element.entry) ≡ Err fault) }
 {
-    let gathered = Gathered::of_fields(element)?;
+    let gathered = EntryFields::of_fields(element)?;
     gathered.into_entry(element)
 }
 
-impl<'p> Gathered<'p> {
-    fn of_fields(element: Element<'p>) -> Result<Gathered<'p>, VectorFault>
+impl<'p> EntryFields<'p> {
+    fn of_fields(element: Element<'p>) -> Result<EntryFields<'p>, VectorFault>
         requires { element.value_start + length element.value.now < 2 ^ 64 }
         ensures { MatchResult result
             (λ g. entry_fields (item element.entry) ≡ Ok (entry_so_far g))
@@ -55,7 +55,7 @@ impl<'p> Gathered<'p> {
     {
         let elements = Reader::new(element.value, element.value_start);
         let mut fields = FieldReader::new(elements, &ENTRY_PLACES);
-        let mut gathered = Gathered {
+        let mut gathered = EntryFields {
             name: None,
             number: None,
         };
@@ -105,13 +105,13 @@ impl<'p> Gathered<'p> {
 }
 
 // The fault of the fields in an element.
-pub(crate) fn fault_in(element: Element<'_>, fault: FieldFault) -> VectorFault
+pub(crate) fn fault_in(element: Element<'_>, fault: FieldError) -> VectorFault
     requires { element.value_start + length element.value.now < 2 ^ 64 }
     ensures { result ≡ fault_in (item element.entry) fault }
 {
     let at = match fault {
-        FieldFault::Tlv(_) => end_of_elements(element),
-        FieldFault::Critical { typ: _, at } => at,
+        FieldError::Tlv(_) => end_of_elements(element),
+        FieldError::Critical { typ: _, at } => at,
     };
     VectorFault::BadVector { at }
 }

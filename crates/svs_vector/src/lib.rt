@@ -7,9 +7,9 @@
 mod entry;
 mod laws;
 mod read;
+mod reported_numbers;
 mod roster;
 mod roster_fault;
-mod told_numbers;
 mod types;
 mod vector;
 mod vector_fault;
@@ -21,9 +21,9 @@ pub use laws::{
     join_is_the_least_that_covers_both, join_takes_the_greater, joins_are_the_join_of_all,
     joins_in_any_order_give_the_same,
 };
+pub use reported_numbers::ReportedNumbers;
 pub use roster::{MEMBER_LIMIT, Roster};
 pub use roster_fault::RosterFault;
-pub use told_numbers::ToldNumbers;
 pub use vector::Vector;
 pub use vector_fault::VectorFault;
 pub use vector_laws::{

@@ -2,12 +2,12 @@
 ghost use Rattle.std.specs.Prelude.{◌≡◌, ◌+◌, ◌<◌, length};
 ghost use Rattle.repo_object.specs.Objects.{IsContent};
 ghost use Rattle.bench_world.specs.Worlds.{drawing};
-ghost use Rattle.bench_world.specs.EventValues.{EventValue, told_value};
-ghost use Rattle.bench_world.specs.Blocks.{after_blocked, blocked_told};
+ghost use Rattle.bench_world.specs.EventValues.{EventValue, reported_value};
+ghost use Rattle.bench_world.specs.Blocks.{after_blocked, blocked_reported};
 ghost use Rattle.bench_world.specs.Runs.{IsStep};
 
 use super::World;
-use crate::event::{EventFault, Happened};
+use crate::event::{EventError, Happened};
 use crate::numbers::numbers;
 use bench_net::{Draws, Sent};
 use repo_member::{Blocked, PublishRefusal};
@@ -22,7 +22,7 @@ impl World {
         index: u64,
         content: &[u8],
         draws: &D,
-    ) -> Result<Happened, EventFault>
+    ) -> Result<Happened, EventError>
         requires there { m < length self.old.members }
         requires content { IsContent content.now }
         requires few { self.old.steps < 100000 }
@@ -33,12 +33,12 @@ impl World {
         let member = &mut self.members[m as usize];
         let vector = numbers(self.alloc, member.vector())?;
         let draw = draws.draw(m, member.next_draw());
-        let blocked = match member.block(&self.group, process, index, content, self.moment, draw) {
+        let blocked = match member.block(&self.group, process, index, content, self.time, draw) {
             Ok(blocked) => blocked,
             Err(PublishRefusal::NumbersSpent { .. }) => {
-                return Err(EventFault::NumbersSpent);
+                return Err(EventError::NumbersSpent);
             }
-            Err(PublishRefusal::NoMemory) => return Err(EventFault::NoMemory),
+            Err(PublishRefusal::NoMemory) => return Err(EventError::NoMemory),
         };
         let happened = send_blocked(&mut self.sent, m, vector, blocked);
         self.steps += 1;
@@ -52,7 +52,7 @@ fn send_blocked(sent: &mut Sent, m: u32, mut vector: Vec<u16>, blocked: Blocked)
     requires few { length sent.old.packets < 4294967295 }
     requires there { m < length vector.items }
     ensures sent { sent.new.packets ≡ after_blocked m vector.items blocked sent.old.packets }
-    ensures told { told_value result ≡ blocked_told m (length sent.old.packets + 1) blocked }
+    ensures reported { reported_value result ≡ blocked_reported m (length sent.old.packets + 1) blocked }
 {
     match blocked {
         Blocked::Unknown => Happened::Block404 { m },

@@ -2,17 +2,17 @@
 ghost use Rattle.std.specs.Prelude.{◌≡◌, ◌+◌, ◌<◌, None, length};
 ghost use Rattle.repo_plan.specs.Calls.{IsFetcher};
 ghost use Rattle.bench_world.specs.Serving.{keyed};
-ghost use Rattle.bench_world.specs.EventValues.{EventValue, told_value, claim_told};
+ghost use Rattle.bench_world.specs.EventValues.{EventValue, reported_value, claim_reported};
 ghost use Rattle.bench_world.specs.Runs.{IsStep};
 
 use super::World;
-use crate::event::{EventFault, Happened};
+use crate::event::{EventError, Happened};
 use repo_plan::Part;
 
 impl World {
     /// A member's fetcher claims the least part that is wanted and that no fetcher of the member claims, or none where
     /// there is none.
-    pub(crate) fn claim(&mut self, m: u32, f: u32) -> Result<Happened, EventFault>
+    pub(crate) fn claim(&mut self, m: u32, f: u32) -> Result<Happened, EventError>
         requires there { m < length self.old.members }
         requires fetcher { IsFetcher f }
         requires few { self.old.steps < 100000 }
@@ -20,14 +20,14 @@ impl World {
     {
         let member = &mut self.members[m as usize];
         let Ok(claim) = member.claim(f as u8) else {
-            return Err(EventFault::FetcherBusy);
+            return Err(EventError::FetcherBusy);
         };
         self.steps += 1;
         Ok(claimed(m, u64::from(f), claim))
     }
 
     /// A fetcher's claim ends, and its part can be claimed again.
-    pub(crate) fn lose(&mut self, m: u32, f: u32) -> Result<Happened, EventFault>
+    pub(crate) fn lose(&mut self, m: u32, f: u32) -> Result<Happened, EventError>
         requires there { m < length self.old.members }
         requires fetcher { IsFetcher f }
         requires few { self.old.steps < 100000 }
@@ -35,7 +35,7 @@ impl World {
     {
         let member = &mut self.members[m as usize];
         let Ok(part) = member.lose(f as u8) else {
-            return Err(EventFault::FetcherIdle);
+            return Err(EventError::FetcherIdle);
         };
         self.steps += 1;
         Ok(Happened::Lose {
@@ -48,9 +48,9 @@ impl World {
     }
 }
 
-// What is told of a claim.
+// What is reported of a claim.
 fn claimed(m: u32, f: u64, claim: Option<Part>) -> Happened
-    ensures { told_value result ≡ claim_told m f claim }
+    ensures { reported_value result ≡ claim_reported m f claim }
 {
     match claim {
         Some(part) => Happened::ClaimPart {

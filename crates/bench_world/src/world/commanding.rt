@@ -9,11 +9,11 @@ ghost use Rattle.repo_member.specs.Commanded.{coded, order_of, order_made};
 ghost use Rattle.bench_world.specs.Serving.{keyed};
 ghost use Rattle.bench_world.specs.Worlds.{world_of};
 ghost use Rattle.bench_world.specs.Commanding.{may_order};
-ghost use Rattle.bench_world.specs.EventValues.{EventValue, told_value, order_told};
+ghost use Rattle.bench_world.specs.EventValues.{EventValue, reported_value, order_reported};
 ghost use Rattle.bench_world.specs.Runs.{IsStep};
 
 use super::World;
-use crate::event::{EventFault, Happened};
+use crate::event::{EventError, Happened};
 use crate::issued::{IssuedCommand, IssuedCommands};
 use ndn_name::Name;
 use repo_command::{Answer, Command, CommandRefusal, check_command, make_command};
@@ -59,7 +59,7 @@ impl World {
         name: &Name,
         first: u64,
         last: u64,
-    ) -> Result<Happened, EventFault>
+    ) -> Result<Happened, EventError>
         requires there { m < length self.old.members }
         requires client { client < length self.old.keys.clients.names }
         requires name { IsTrue (is_object_name name.now) }
@@ -76,7 +76,7 @@ impl World {
             last,
         };
         let Ok(answer) = self.issue(m, client, command) else {
-            return Err(EventFault::NoMemory);
+            return Err(EventError::NoMemory);
         };
         Ok(Happened::Insert {
             m,
@@ -93,7 +93,7 @@ impl World {
         m: u32,
         client: u32,
         process: u32,
-    ) -> Result<Happened, EventFault>
+    ) -> Result<Happened, EventError>
         requires there { m < length self.old.members }
         requires client { client < length self.old.keys.clients.names }
         requires few { self.old.steps < 100000 }
@@ -103,7 +103,7 @@ impl World {
             process: u64::from(process),
         };
         let Ok(answer) = self.issue(m, client, command) else {
-            return Err(EventFault::NoMemory);
+            return Err(EventError::NoMemory);
         };
         Ok(Happened::Status {
             m,
@@ -120,7 +120,7 @@ impl World {
         m: u32,
         client: u32,
         name: &Name,
-    ) -> Result<Happened, EventFault>
+    ) -> Result<Happened, EventError>
         requires there { m < length self.old.members }
         requires client { client < length self.old.keys.clients.names }
         requires name { IsTrue (is_object_name name.now) }
@@ -132,7 +132,7 @@ impl World {
             name: name.clone()?,
         };
         let Ok(answer) = self.issue(m, client, command) else {
-            return Err(EventFault::NoMemory);
+            return Err(EventError::NoMemory);
         };
         Ok(Happened::Delete {
             m,
@@ -146,7 +146,7 @@ impl World {
     /// A member is given octets as a command.
     ///
     /// They are foreign where they pass, and the client whose command they are made none of that kind for the member.
-    pub(crate) fn order(&mut self, m: u32, octets: &[u8]) -> Result<Happened, EventFault>
+    pub(crate) fn order(&mut self, m: u32, octets: &[u8]) -> Result<Happened, EventError>
         requires there { m < length self.old.members }
         requires few { self.old.steps < 100000 }
         ensures { IsStep (keyed self.old.keys) (EventValue.Order m octets.now) self.old result self.new }
@@ -192,12 +192,12 @@ fn order_verdict(
     issued: &IssuedCommands,
     m: u32,
     octets: &[u8],
-) -> Result<Result<(u32, Command), CommandRefusal>, EventFault>
+) -> Result<Result<(u32, Command), CommandRefusal>, EventError>
     requires { m < length g.now.members.names }
     ensures verdict { IfOk result (λ verdict. coded verdict ≡ order_of g.now m octets.now) }
     ensures spelled { IfOk result (λ verdict. IfOk verdict (λ order. CommandIsSpelled order.1)) }
     ensures issued { OnOk result (may_order issued.now.commands m (order_of g.now m octets.now) ≡ true) }
-    ensures refused { IfErr result (λ fault. (fault ≡ EventFault.NoMemory) ⊎ ((fault ≡ EventFault.Foreign)
+    ensures refused { IfErr result (λ fault. (fault ≡ EventError.NoMemory) ⊎ ((fault ≡ EventError.Foreign)
         × (may_order issued.now.commands m (order_of g.now m octets.now) ≡ false))) }
 {
     g.is_sound();
@@ -211,17 +211,17 @@ fn order_verdict(
             if issued.has(&order) {
                 Ok(Ok((client, order.command)))
             } else {
-                Err(EventFault::Foreign)
+                Err(EventError::Foreign)
             }
         }
-        Err(CommandRefusal::NoMemory) => Err(EventFault::NoMemory),
+        Err(CommandRefusal::NoMemory) => Err(EventError::NoMemory),
         refused => Ok(refused),
     }
 }
 
-// What is told of an order.
+// What is reported of an order.
 fn ordered(m: u32, answer: Answer) -> Happened
-    ensures { told_value result ≡ order_told m answer }
+    ensures { reported_value result ≡ order_reported m answer }
 {
     Happened::Order {
         m,

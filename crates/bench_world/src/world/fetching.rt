@@ -1,11 +1,11 @@
 // What a member fetches of the others.
 ghost use Rattle.std.specs.Prelude.{◌+◌, ◌<◌, ◌≤◌, length};
-ghost use Rattle.bench_world.specs.Serving.{outside};
+ghost use Rattle.bench_world.specs.Serving.{environment};
 ghost use Rattle.bench_world.specs.EventValues.{EventValue};
 ghost use Rattle.bench_world.specs.Runs.{IsStep};
 
 use super::World;
-use crate::event::{EventFault, Happened};
+use crate::event::{EventError, Happened};
 use crate::member_fetching::fetch_at;
 use bench_net::Net;
 use std::thread::Threads;
@@ -21,12 +21,13 @@ impl World {
         tries: u32,
         loss: u32,
         net: &N,
-    ) -> Result<Happened, EventFault>
+    ) -> Result<Happened, EventError>
         requires there { m < length self.old.members }
         requires workers { (1 ≤ workers) × (workers ≤ 16) }
         requires tries { (1 ≤ tries) × (tries ≤ 16) }
         requires few { self.old.steps < 100000 }
-        ensures { IsStep (outside self.old.keys (λ _ _. 0) (N.passes net.now)) (EventValue.Fetch m workers tries loss)
+        ensures { IsStep (environment self.old.keys (λ _ _. 0) (N.passes net.now))
+            (EventValue.Fetch m workers tries loss)
             self.old result self.new }
     {
         let fetched = fetch_at(
@@ -41,7 +42,7 @@ impl World {
             loss,
         );
         let Ok(counts) = fetched else {
-            return Err(EventFault::NoMemory);
+            return Err(EventError::NoMemory);
         };
         self.attempts += counts.attempts;
         self.parts += u64::from(counts.kept.parts);

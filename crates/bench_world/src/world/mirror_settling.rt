@@ -7,7 +7,7 @@ ghost use Rattle.bench_world.specs.Worlds.{world_of};
 
 use super::World;
 use crate::mirror_gathering::gather_for_all;
-use crate::telling::all_known;
+use crate::sync_exchange::all_known;
 use repo_watch::Filter;
 use std::alloc::AllocError;
 use std::thread::Threads;
@@ -17,7 +17,7 @@ impl World {
     /// holds with those that list it: how many parts came. Attempts aren't counted, and nothing is asked of the
     /// network.
     ///
-    /// After want of memory each mirror has come a part of the way.
+    /// After running out of memory each mirror has come a part of the way.
     pub fn settle_mirrors<R: Threads + Sync>(
         &mut self,
         rt: &R,

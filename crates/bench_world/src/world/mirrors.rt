@@ -5,15 +5,15 @@ ghost use Rattle.group_model.specs.World.{sent_at, logs};
 ghost use Rattle.group_model.specs.Refusals.{unless_sent};
 ghost use Rattle.group_model.specs.Refusals.Refusal.{NoSuchPacket};
 ghost use Rattle.repo_mirror.specs.Mirrors.{mirror_catalogue};
-ghost use Rattle.repo_holdings.specs.Listed.{alone_catalogue};
+ghost use Rattle.repo_holdings.specs.Listed.{member_catalogue};
 ghost use Rattle.repo_mirror.specs.MirrorState.{mirror_opening};
-ghost use Rattle.repo_mirror.specs.TrueMirrors.{mirror_in_group};
+ghost use Rattle.repo_mirror.specs.ConsistentMirrors.{mirror_in_group};
 ghost use Rattle.bench_world.specs.MirrorSteps.{mirror_limit, mirror_at, mirror_learns, mirror_fetches};
 ghost use Rattle.bench_world.specs.MirrorFetching.{mirror_asks, mirror_gets, mirror_attempts, HasFetched};
 ghost use Rattle.bench_world.specs.Worlds.{world_of};
 
 use super::World;
-use crate::event::{EventFault, StepFault};
+use crate::event::{EventError, StepFault};
 use crate::mirror_fetching::fetch_for;
 use crate::numbers::vector_of;
 use bench_net::Net;
@@ -34,7 +34,7 @@ pub enum MirrorFault {
 }
 
 impl MirrorFault {
-    /// Want of memory, which is all that a mirror can meet where there is room for it.
+    /// Running out of memory, which is all that a mirror can meet where there is room for it.
     pub fn only_memory(self) -> AllocError
         requires { self ≡ MirrorFault.NoMemory }
     {
@@ -73,24 +73,24 @@ impl World {
     }
 
     /// A mirror learns what a sync Interest tells that was sent, by its number. A refusal has its name.
-    pub fn mirror_learns(&mut self, i: u32, k: u32) -> Result<(), EventFault>
+    pub fn mirror_learns(&mut self, i: u32, k: u32) -> Result<(), EventError>
         requires there { i < length self.old.mirrors }
         ensures sent { OnOk result (unless_sent (world_of self.old) k ≡ None) }
         ensures ok { OnOk result (self.new ≡ record self.old {
           mirrors = slice_set self.old.mirrors i
               (mirror_learns (sent_at (world_of self.old) k).vector (mirror_at self.old.mirrors i));
         }) }
-        ensures unsent { (result ≡ Err EventFault.NoSuchPacket)
+        ensures unsent { (result ≡ Err EventError.NoSuchPacket)
             ↔ (unless_sent (world_of self.old) k ≡ Some NoSuchPacket) }
-        ensures refused { IfErr result (λ fault. (fault ≡ EventFault.NoMemory) ⊎ (fault ≡ EventFault.NoSuchPacket)) }
+        ensures refused { IfErr result (λ fault. (fault ≡ EventError.NoMemory) ⊎ (fault ≡ EventError.NoSuchPacket)) }
         ensures err { OnErr result (self.new ≡ self.old) }
     {
         let Some(numbers) = self.sent.vector(k) else {
-            return Err(EventFault::NoSuchPacket);
+            return Err(EventError::NoSuchPacket);
         };
-        let told = vector_of(self.alloc, numbers)?;
+        let reported = vector_of(self.alloc, numbers)?;
         let mirror = &mut self.mirrors[i as usize];
-        mirror.learn(&told);
+        mirror.learn(&reported);
         Ok(())
     }
 
@@ -165,7 +165,7 @@ impl World {
     /// withdrawal.
     pub fn mirror_catalogue(&self, i: u32) -> &Catalogue
         requires there { i < length self.now.mirrors }
-        ensures same { result.now.entries ≡ alone_catalogue (mirror_at self.now.mirrors i).store }
+        ensures same { result.now.entries ≡ member_catalogue (mirror_at self.now.mirrors i).store }
         ensures lists { result.now.entries ≡ mirror_catalogue (mirror_at self.now.mirrors i).pattern
             (logs (world_of self.now)) (mirror_in_group (mirror_at self.now.mirrors i)) }
     {
@@ -173,7 +173,7 @@ impl World {
     }
 }
 
-// Puts a mirror behind the others.
+// Puts a mirror after the others.
 fn put_last(mirrors: &mut Vec<Mirror>, mirror: Mirror) -> Result<(), AllocError>
     ensures ok { OnOk result (mirrors.new.items ≡ mirrors.old.items ++ mirror ∷ []) }
     ensures err { OnErr result (mirrors.new.items ≡ mirrors.old.items) }

@@ -13,7 +13,7 @@ ghost use Rattle.bench_world.specs.Runs.{IsStep};
 ghost use Rattle.bench_world.specs.Withdrawing.{withdraw_fault};
 
 use super::World;
-use crate::event::{EventFault, Happened};
+use crate::event::{EventError, Happened};
 use crate::numbers::numbers;
 use bench_net::Draws;
 use ndn_name::Name;
@@ -29,7 +29,7 @@ impl World {
         size: u32,
         content: &[u8],
         draws: &D,
-    ) -> Result<Happened, EventFault>
+    ) -> Result<Happened, EventError>
         requires there { m < length self.old.members }
         requires name { IsTrue (is_object_name name.now) }
         requires size { (1 ≤ size) × (size ≤ 8000) }
@@ -40,7 +40,7 @@ impl World {
     {
         // There are few enough segments, so only memory can be wanting.
         let Ok(contents) = cut(self.alloc, content, size as usize) else {
-            return Err(EventFault::NoMemory);
+            return Err(EventError::NoMemory);
         };
         let segments = contents.len() as u64;
         match self.publish_contents(m, name, &contents, draws) {
@@ -50,8 +50,8 @@ impl World {
                 segments,
                 sync: u64::from(sync),
             }),
-            Err(PublishRefusal::NumbersSpent { .. }) => Err(EventFault::NumbersSpent),
-            Err(PublishRefusal::NoMemory) => Err(EventFault::NoMemory),
+            Err(PublishRefusal::NumbersSpent { .. }) => Err(EventError::NumbersSpent),
+            Err(PublishRefusal::NoMemory) => Err(EventError::NoMemory),
         }
     }
 
@@ -87,7 +87,7 @@ impl World {
         let member = &mut self.members[m as usize];
         let mut vector = numbers(self.alloc, member.vector())?;
         let draw = draws.draw(m, member.next_draw());
-        let published = member.publish(&self.group, name, contents, self.moment, draw)?;
+        let published = member.publish(&self.group, name, contents, self.time, draw)?;
         vector[m as usize] = published.seq;
         let k = self.sent.add_reserved(m, vector, published.sync);
         self.steps += 1;
@@ -101,7 +101,7 @@ impl World {
         m: u32,
         s: u32,
         draws: &D,
-    ) -> Result<Happened, EventFault>
+    ) -> Result<Happened, EventError>
         requires there { m < length self.old.members }
         requires small { s < 65536 }
         requires few { self.old.steps < 100000 }
@@ -111,7 +111,7 @@ impl World {
         let member = &mut self.members[m as usize];
         let mut vector = numbers(self.alloc, member.vector())?;
         let draw = draws.draw(m, member.next_draw());
-        let published = match member.withdraw(&self.group, s as u16, self.moment, draw) {
+        let published = match member.withdraw(&self.group, s as u16, self.time, draw) {
             Ok(published) => published,
             Err(refusal) => return Err(fault_of(refusal)),
         };
@@ -128,12 +128,12 @@ impl World {
 }
 
 // Why a withdrawal is not carried out.
-fn fault_of(refusal: WithdrawRefusal) -> EventFault
+fn fault_of(refusal: WithdrawRefusal) -> EventError
     ensures { result ≡ withdraw_fault refusal }
 {
     match refusal {
-        WithdrawRefusal::NoSuchNumber { .. } => EventFault::NoSuchNumber,
-        WithdrawRefusal::NumbersSpent { .. } => EventFault::NumbersSpent,
-        WithdrawRefusal::NoMemory => EventFault::NoMemory,
+        WithdrawRefusal::NoSuchNumber { .. } => EventError::NoSuchNumber,
+        WithdrawRefusal::NumbersSpent { .. } => EventError::NumbersSpent,
+        WithdrawRefusal::NoMemory => EventError::NoMemory,
     }
 }

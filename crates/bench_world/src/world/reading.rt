@@ -4,13 +4,13 @@ ghost use Rattle.sorted_lists.specs.Range.{numbers_from};
 ghost use Rattle.repo_plan.specs.Parts.{part_cmp};
 ghost use Rattle.sorted_lists.specs.SortedList.{value_of};
 ghost use Rattle.bench_world.specs.Serving.{keyed};
-ghost use Rattle.bench_world.specs.Worlds.{alone_at};
+ghost use Rattle.bench_world.specs.Worlds.{state_at};
 ghost use Rattle.bench_world.specs.Runs.{IsStep};
-ghost use Rattle.bench_world.specs.Sums.{totals_in, HasFewTotals};
-ghost use Rattle.bench_world.specs.EventValues.{EventValue, told_value, dump_told};
+ghost use Rattle.bench_world.specs.MemberTotals.{totals_in, HasFewTotals};
+ghost use Rattle.bench_world.specs.EventValues.{EventValue, reported_value, dump_reported};
 
 use super::World;
-use crate::event::{EventFault, Happened};
+use crate::event::{EventError, Happened};
 use repo_catalog::Entry;
 use repo_member::Member;
 use repo_plan::Part;
@@ -19,7 +19,7 @@ use svs_vector::Vector;
 
 impl World {
     /// Which numbers a member knows.
-    pub(crate) fn vector(&mut self, m: u32) -> Result<Happened, EventFault>
+    pub(crate) fn vector(&mut self, m: u32) -> Result<Happened, EventError>
         requires there { m < length self.old.members }
         requires few { self.old.steps < 100000 }
         ensures { IsStep (keyed self.old.keys) (EventValue.Vector m) self.old result self.new }
@@ -35,7 +35,7 @@ impl World {
     }
 
     /// What a member's catalogue lists.
-    pub(crate) fn catalogue(&mut self, m: u32) -> Result<Happened, EventFault>
+    pub(crate) fn catalogue(&mut self, m: u32) -> Result<Happened, EventError>
         requires there { m < length self.old.members }
         requires few { self.old.steps < 100000 }
         ensures { IsStep (keyed self.old.keys) (EventValue.Catalogue m) self.old result self.new }
@@ -66,7 +66,7 @@ impl World {
     }
 
     /// What all catalogues come to.
-    pub(crate) fn summary(&mut self) -> Result<Happened, EventFault>
+    pub(crate) fn summary(&mut self) -> Result<Happened, EventError>
         requires few { self.old.steps < 100000 }
         ensures { IsStep (keyed self.old.keys) EventValue.Summary self.old result self.new }
     {
@@ -82,7 +82,7 @@ impl World {
     }
 
     /// Which octets the packet of a part has, if the member holds it.
-    pub(crate) fn dump(&mut self, m: u32, p: u32, s: u32, x: u32) -> Result<Happened, EventFault>
+    pub(crate) fn dump(&mut self, m: u32, p: u32, s: u32, x: u32) -> Result<Happened, EventError>
         requires there { m < length self.old.members }
         requires small { (s < 65536) × (x < 65536) }
         requires few { self.old.steps < 100000 }
@@ -125,20 +125,20 @@ fn known(alloc: Global, vector: &Vector) -> Result<Vec<u64>, AllocError>
 
 // What catalogues come to, one after another.
 #[derive(Drop)]
-struct Sums {
+struct SummaryColumns {
     entries: Vec<u64>,
     segments: Vec<u64>,
     octets: Vec<u64>,
 }
 
 // What each member's catalogue comes to.
-fn add_up(alloc: Global, members: &[Member]) -> Result<Sums, AllocError>
-    requires { (j : ℕ) → j < length members.now → HasFewTotals (totals_in (alone_at members.now j)) }
+fn add_up(alloc: Global, members: &[Member]) -> Result<SummaryColumns, AllocError>
+    requires { (j : ℕ) → j < length members.now → HasFewTotals (totals_in (state_at members.now j)) }
     ensures entries { IfOk result (λ sums. sums.entries.items ≡ map (λ a. (totals_in a).entries) members.now) }
     ensures segments { IfOk result (λ sums. sums.segments.items ≡ map (λ a. (totals_in a).segments) members.now) }
     ensures octets { IfOk result (λ sums. sums.octets.items ≡ map (λ a. (totals_in a).octets) members.now) }
 {
-    let mut sums = Sums {
+    let mut sums = SummaryColumns {
         entries: Vec::with_capacity(alloc, members.len())?,
         segments: Vec::with_capacity(alloc, members.len())?,
         octets: Vec::with_capacity(alloc, members.len())?,
@@ -163,9 +163,10 @@ fn copied(alloc: Global, entries: &[Entry]) -> Result<Vec<Entry>, AllocError>
     Ok(copies)
 }
 
-// What is told of a packet that a member holds or doesn't.
+// What is reported of a packet that a member holds or doesn't.
 fn dumped(alloc: Global, m: u32, member: &Member, part: Part) -> Result<Happened, AllocError>
-    ensures { IfOk result (λ happened. told_value happened ≡ dump_told m (value_of part_cmp member.now.store part)) }
+    ensures { IfOk result (λ happened. reported_value happened
+        ≡ dump_reported m (value_of part_cmp member.now.store part)) }
 {
     match member.packet(part) {
         Some(octets) => Ok(Happened::DumpHex {

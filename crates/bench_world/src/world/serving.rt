@@ -1,4 +1,4 @@
-// What comes for claims, from other members and from outside, and what octets from outside are told.
+// What comes for claims, from other members and from outside, and what octets from outside are reported.
 ghost use Rattle.std.specs.Prelude.{◌≡◌, ◌+◌, ◌<◌, length, IfOk};
 ghost use Rattle.repo_plan.specs.Calls.{IsFetcher};
 ghost use Rattle.repo_store.specs.Served.{served};
@@ -6,14 +6,14 @@ ghost use Rattle.bench_world.specs.Serving.{keyed};
 ghost use Rattle.bench_world.specs.Worlds.{drawing};
 ghost use Rattle.bench_world.specs.Answering.{kept_of};
 ghost use Rattle.bench_world.specs.Replying.{fed_reply, parts_kept};
-ghost use Rattle.bench_world.specs.EventValues.{EventValue, told_value, answer_told, ask_told};
-ghost use Rattle.bench_world.specs.EventValues.{mode_told};
+ghost use Rattle.bench_world.specs.EventValues.{EventValue, reported_value, answer_reported, ask_reported};
+ghost use Rattle.bench_world.specs.EventValues.{mode_reported};
 ghost use Rattle.bench_world.specs.Runs.{IsStep};
 
 use super::World;
 use crate::answering::{Fed, answer, feed};
-use crate::event::{EventFault, Happened};
-use crate::hearing::{hear_sent, told_by};
+use crate::event::{EventError, Happened};
+use crate::hearing::{hear_sent, reported_by};
 use bench_net::Draws;
 use repo_member::{HearRefusal, Member};
 use std::alloc::{AllocError, Global};
@@ -31,7 +31,7 @@ impl World {
     /// A member's fetcher asks another member for what it claims.
     ///
     /// The answer is foreign where what came passes for the part and isn't its publisher's packet.
-    pub(crate) fn answer(&mut self, m: u32, f: u32, q: u32) -> Result<Happened, EventFault>
+    pub(crate) fn answer(&mut self, m: u32, f: u32, q: u32) -> Result<Happened, EventError>
         requires there { m < length self.old.members }
         requires fetcher { IsFetcher f }
         requires other { q < length self.old.members }
@@ -49,7 +49,7 @@ impl World {
     /// Octets come as a packet of what a member's fetcher claims.
     ///
     /// They are foreign where they pass for the part and aren't its publisher's packet.
-    pub(crate) fn feed(&mut self, m: u32, f: u32, octets: &[u8]) -> Result<Happened, EventFault>
+    pub(crate) fn feed(&mut self, m: u32, f: u32, octets: &[u8]) -> Result<Happened, EventError>
         requires there { m < length self.old.members }
         requires fetcher { IsFetcher f }
         requires few { self.old.steps < 100000 }
@@ -71,7 +71,7 @@ impl World {
     }
 
     /// What a member answers to octets as an Interest: the packet of the least part that satisfies it.
-    pub(crate) fn ask(&mut self, m: u32, octets: &[u8]) -> Result<Happened, EventFault>
+    pub(crate) fn ask(&mut self, m: u32, octets: &[u8]) -> Result<Happened, EventError>
         requires there { m < length self.old.members }
         requires few { self.old.steps < 100000 }
         ensures { IsStep (keyed self.old.keys) (EventValue.Ask m octets.now) self.old result self.new }
@@ -89,20 +89,20 @@ impl World {
         m: u32,
         octets: &[u8],
         draws: &D,
-    ) -> Result<Happened, EventFault>
+    ) -> Result<Happened, EventError>
         requires there { m < length self.old.members }
         requires few { self.old.steps < 100000 }
         ensures { IsStep (drawing (D.draw draws.now)) (EventValue.Hear m octets.now) self.old result self.new }
     {
-        let (signer, vector) = match told_by(
+        let (signer, vector) = match reported_by(
             self.alloc,
             &self.group,
             &self.members[m as usize],
             m,
             octets,
         ) {
-            Ok(told) => told,
-            Err(HearRefusal::NoMemory) => return Err(EventFault::NoMemory),
+            Ok(reported) => reported,
+            Err(HearRefusal::NoMemory) => return Err(EventError::NoMemory),
             Err(HearRefusal::Sync(refusal)) => {
                 self.count();
                 return Ok(Happened::HearRefused {
@@ -121,13 +121,7 @@ impl World {
         let member = &mut self.members[m as usize];
         let draw = draws.draw(m, member.next_draw());
         let mode = hear_sent(
-            self.alloc,
-            &self.sent,
-            member,
-            signer,
-            &vector,
-            self.moment,
-            draw,
+            self.alloc, &self.sent, member, signer, &vector, self.time, draw,
         )?;
         self.delivered += 1;
         self.steps += 1;
@@ -135,9 +129,9 @@ impl World {
     }
 }
 
-// What is told of an answer.
+// What is reported of an answer.
 fn answered(m: u32, f: u64, kept: bool) -> Happened
-    ensures { told_value result ≡ answer_told m f kept }
+    ensures { reported_value result ≡ answer_reported m f kept }
 {
     if kept {
         Happened::AnswerKept { m, f }
@@ -166,9 +160,9 @@ fn kept_octets(fed: Fed, octets: &[u8]) -> Option<u64>
     }
 }
 
-// What is told of octets for a claim.
+// What is reported of octets for a claim.
 fn fed_happened(m: u32, f: u64, fed: Fed) -> Happened
-    ensures { told_value result ≡ fed_reply m f fed }
+    ensures { reported_value result ≡ fed_reply m f fed }
 {
     match fed {
         Fed::Kept => Happened::FeedKept { m, f },
@@ -176,9 +170,9 @@ fn fed_happened(m: u32, f: u64, fed: Fed) -> Happened
     }
 }
 
-// What is told of what a member answers to an Interest.
+// What is reported of what a member answers to an Interest.
 fn asked(alloc: Global, m: u32, member: &Member, octets: &[u8]) -> Result<Happened, AllocError>
-    ensures { IfOk result (λ happened. told_value happened ≡ ask_told m (served octets.now member.now.store)) }
+    ensures { IfOk result (λ happened. reported_value happened ≡ ask_reported m (served octets.now member.now.store)) }
 {
     match member.serve(octets) {
         Ok(Some(packet)) => Ok(Happened::AskFound {
@@ -190,9 +184,9 @@ fn asked(alloc: Global, m: u32, member: &Member, octets: &[u8]) -> Result<Happen
     }
 }
 
-// What is told of a vector that a member heard, by its mode afterwards.
+// What is reported of a vector that a member heard, by its mode afterwards.
 fn heard(m: u32, mode: Mode) -> Happened
-    ensures { told_value result ≡ mode_told m mode }
+    ensures { reported_value result ≡ mode_reported m mode }
 {
     match mode {
         Mode::Steady => Happened::HearSteady { m },

@@ -2,14 +2,14 @@
 ghost use Rattle.std.specs.Prelude.{◌≡◌, ◌+◌, ◌<◌, ◌≤◌, IfOk, OnOk, OnErr};
 ghost use Rattle.group_model.specs.Laws.{NothingHidden, AllJoined};
 ghost use Rattle.group_model.specs.Steps.{after_gathering, settle_gains};
-ghost use Rattle.bench_world.specs.Serving.{outside, keyed};
+ghost use Rattle.bench_world.specs.Serving.{environment, keyed};
 ghost use Rattle.bench_world.specs.Worlds.{world_of};
 ghost use Rattle.bench_world.specs.Runs.{HaveSettledPart};
 ghost use Rattle.bench_world.specs.EventValues.{EventValue};
 ghost use Rattle.bench_world.specs.Runs.{IsStep};
 
 use super::World;
-use crate::event::{EventFault, Happened};
+use crate::event::{EventError, Happened};
 use crate::settling::{reset_all, send_all, settle_members};
 use bench_net::{Draws, Net};
 use std::alloc::AllocError;
@@ -19,7 +19,7 @@ impl World {
     /// All claims end, each member learns what all know, and gains every part that some member holds with its record
     /// and that it doesn't hide: how many parts came. The machines aren't reset, which the step of a settle does.
     ///
-    /// The answers of the network aren't used. After want of memory each member has come a part of the way.
+    /// The answers of the network aren't used. After running out of memory each member has come a part of the way.
     pub fn settle<N: Net + Sync, R: Threads + Sync>(
         &mut self,
         rt: &R,
@@ -40,8 +40,8 @@ impl World {
         self.steps += 1;
         self.sent.reserve(self.members.len())?;
         let settled = settle_members(rt, self.alloc, &self.group, net, workers, &mut self.members)?;
-        let (told, parts, octets) = settled;
-        send_all(&mut self.sent, told);
+        let (reported, parts, octets) = settled;
+        send_all(&mut self.sent, reported);
         let count = self.members.len() as u64;
         self.delivered += count * count.saturating_sub(1);
         self.parts += parts;
@@ -56,17 +56,17 @@ impl World {
         workers: u32,
         net: &N,
         draws: &D,
-    ) -> Result<Happened, EventFault>
+    ) -> Result<Happened, EventError>
         requires workers { (1 ≤ workers) × (workers ≤ 16) }
         requires few { self.old.steps < 100000 }
-        ensures { IsStep (outside self.old.keys (D.draw draws.now) (N.passes net.now)) (EventValue.Settle workers)
+        ensures { IsStep (environment self.old.keys (D.draw draws.now) (N.passes net.now)) (EventValue.Settle workers)
             self.old result self.new }
     {
         let syncs = self.members.len() as u64;
         let Ok(kept) = self.settle(rt, workers, net) else {
-            return Err(EventFault::NoMemory);
+            return Err(EventError::NoMemory);
         };
-        reset_all(&mut self.members, self.moment, draws);
+        reset_all(&mut self.members, self.time, draws);
         Ok(Happened::Settle { syncs, kept })
     }
 }

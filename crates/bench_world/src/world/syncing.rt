@@ -1,12 +1,12 @@
 // What members tell each other, and their timers.
 ghost use Rattle.std.specs.Prelude.{◌≡◌, ◌+◌, ◌<◌, ◌≤◌, length};
 ghost use Rattle.bench_world.specs.Worlds.{drawing};
-ghost use Rattle.bench_world.specs.Timers.{after_firing, fire_told};
-ghost use Rattle.bench_world.specs.EventValues.{EventValue, told_value, delivered_told};
+ghost use Rattle.bench_world.specs.Timers.{after_firing, fire_reported};
+ghost use Rattle.bench_world.specs.EventValues.{EventValue, reported_value, delivered_reported};
 ghost use Rattle.bench_world.specs.Runs.{IsStep};
 
 use super::World;
-use crate::event::{EventFault, Happened};
+use crate::event::{EventError, Happened};
 use crate::numbers::{numbers, vector_of};
 use bench_net::{Draws, Sent};
 use repo_member::Fire;
@@ -19,31 +19,31 @@ impl World {
         k: u32,
         m: u32,
         draws: &D,
-    ) -> Result<Happened, EventFault>
+    ) -> Result<Happened, EventError>
         requires there { m < length self.old.members }
         requires few { self.old.steps < 100000 }
         ensures { IsStep (drawing (D.draw draws.now)) (EventValue.Deliver k m) self.old result self.new }
     {
         let Some(numbers) = self.sent.vector(k) else {
-            return Err(EventFault::NoSuchPacket);
+            return Err(EventError::NoSuchPacket);
         };
-        let told = vector_of(self.alloc, numbers)?;
+        let reported = vector_of(self.alloc, numbers)?;
         let member = &mut self.members[m as usize];
         let draw = draws.draw(m, member.next_draw());
-        // A member sent it, so it tells of no publication that there isn't.
-        let mode = member.hear_vector(&told, self.moment, draw);
+        // A member sent it, so it reports no publication that there isn't.
+        let mode = member.hear_vector(&reported, self.time, draw);
         self.delivered += 1;
         self.steps += 1;
         Ok(delivered(u64::from(k), m, mode))
     }
 
     /// The octets of a sync Interest that was sent, by its number.
-    pub(crate) fn sync(&mut self, k: u32) -> Result<Happened, EventFault>
+    pub(crate) fn sync(&mut self, k: u32) -> Result<Happened, EventError>
         requires few { self.old.steps < 100000 }
         ensures { IsStep (drawing (λ _ _. 0)) (EventValue.Sync k) self.old result self.new }
     {
         let Some(octets) = self.sent.octets(k) else {
-            return Err(EventFault::NoSuchPacket);
+            return Err(EventError::NoSuchPacket);
         };
         let octets = octets.to_vec(self.alloc)?;
         self.steps += 1;
@@ -53,19 +53,19 @@ impl World {
         })
     }
 
-    /// The moment moves on.
+    /// The time moves on.
     pub(crate) fn advance(&mut self, ms: u64) -> Happened
         requires short { ms ≤ 1000000000 }
         requires few { self.old.steps < 100000 }
         ensures { IsStep (drawing (λ _ _. 0)) (EventValue.Advance ms) self.old (Ok result) self.new }
     {
-        self.moment += ms;
+        self.time += ms;
         self.steps += 1;
-        Happened::Advance { now: self.moment }
+        Happened::Advance { now: self.time }
     }
 
     /// A member's timer fires.
-    pub(crate) fn fire<D: Draws>(&mut self, m: u32, draws: &D) -> Result<Happened, EventFault>
+    pub(crate) fn fire<D: Draws>(&mut self, m: u32, draws: &D) -> Result<Happened, EventError>
         requires there { m < length self.old.members }
         requires few { self.old.steps < 100000 }
         ensures { IsStep (drawing (D.draw draws.now)) (EventValue.Fire m) self.old result self.new }
@@ -74,8 +74,8 @@ impl World {
         let member = &mut self.members[m as usize];
         let vector = numbers(self.alloc, member.vector())?;
         let draw = draws.draw(m, member.next_draw());
-        let Ok(fire) = member.fire(&self.group, self.moment, draw) else {
-            return Err(EventFault::NoMemory);
+        let Ok(fire) = member.fire(&self.group, self.time, draw) else {
+            return Err(EventError::NoMemory);
         };
         let happened = send_fired(&mut self.sent, m, vector, fire);
         self.steps += 1;
@@ -90,15 +90,15 @@ impl World {
     {
         let member = &mut self.members[m as usize];
         let draw = draws.draw(m, member.next_draw());
-        member.restart(self.moment, draw);
+        member.restart(self.time, draw);
         self.steps += 1;
         Happened::Restart { m }
     }
 }
 
-// What is told of a delivery, by the mode of the member afterwards.
+// What is reported of a delivery, by the mode of the member afterwards.
 fn delivered(k: u64, m: u32, mode: Mode) -> Happened
-    ensures { told_value result ≡ delivered_told k m mode }
+    ensures { reported_value result ≡ delivered_reported k m mode }
 {
     match mode {
         Mode::Steady => Happened::DeliverSteady { k, m },
@@ -111,7 +111,7 @@ fn send_fired(sent: &mut Sent, m: u32, vector: Vec<u16>, fire: Fire) -> Happened
     requires room { 0 < sent.old.spare }
     requires few { length sent.old.packets < 4294967295 }
     ensures sent { sent.new.packets ≡ after_firing m vector.items fire sent.old.packets }
-    ensures told { told_value result ≡ fire_told m (length sent.old.packets + 1) fire }
+    ensures reported { reported_value result ≡ fire_reported m (length sent.old.packets + 1) fire }
 {
     match fire {
         Fire::Early => Happened::FireEarly { m },

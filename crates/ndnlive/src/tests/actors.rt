@@ -20,12 +20,12 @@ const BOB: u32 = 1;
 const PUBLISHER: u32 = 0;
 
 // Alice's sync Interest once she has published the first of her objects alone, of which no settle tells.
-const FIRST_TOLD: &str =
+const FIRST_REPORTED: &str =
     "0573072808016736010202206f504a90c15c79060eb22e95a6f5a26d5ac53df3312f58b4aae5e2\
     3af1b299fd2410c90eca0c07070805616c696365cc01012c131b01041c0e070c0805616c696365\
     08034b45592e20f15b2fa4ae603e113ad456498d48ae98fcecb04b9e9117633457038bde17139b";
 
-// Runs these lines behind the group and its members, and gives what is written.
+// Runs these lines after the group and its members, and gives what is written.
 fn run_gated<R: Threads + Wait + Sync + Abort + AllocGlobal, G: Gate + Sync>(
     rt: &R,
     lines: &str,
@@ -142,7 +142,7 @@ fn a_member_hears_what_came_into_its_inbox(rt: HostRuntime) {
         publish bob /c 10 text:f\n";
     let sink = run_gated(&rt, lines, &AliceFirst::new());
     let text = str::from_utf8(sink.octets()).expect(&rt, "a text");
-    let (_, behind) = text.split_once("journal bob ").expect(&rt, "bob's journal");
-    let heard = format!(in rt.alloc(); "hear {FIRST_TOLD} ").expect(&rt, "memory");
-    assert!(&rt; behind.contains(heard.as_str()));
+    let (_, after) = text.split_once("journal bob ").expect(&rt, "bob's journal");
+    let heard = format!(in rt.alloc(); "hear {FIRST_REPORTED} ").expect(&rt, "memory");
+    assert!(&rt; after.contains(heard.as_str()));
 }

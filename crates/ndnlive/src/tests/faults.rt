@@ -32,7 +32,7 @@ fn a_failed_read_writes_nothing(rt: HostRuntime) {
 }
 
 #[test]
-fn a_failed_write_leaves_a_front(rt: HostRuntime) {
+fn a_failed_write_leaves_a_prefix(rt: HostRuntime) {
     let refused = format!(in rt.alloc(); "{PRE}settle 1").expect(&rt, "memory");
     expect_fault(&rt, &refused, &[], &[1], (Status::WriteFault, ""));
     expect_fault(&rt, &refused, &[], &[2], (Status::WriteFault, "refused "));

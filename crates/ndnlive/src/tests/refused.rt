@@ -5,8 +5,8 @@ use std::sync::Wait;
 use std::test::*;
 use std::thread::Threads;
 
-// Lines behind the group and its members, each with the number and the word of its refusal.
-const BEHIND: [(&str, u32, &str); 29] = [
+// Lines after the group and its members, each with the number and the word of its refusal.
+const AFTER: [(&str, u32, &str); 29] = [
     ("settle 1", 16, "NotLive"),
     ("client carl /carl 6b34", 16, "NotLive"),
     ("withdraw alice 1", 16, "NotLive"),
@@ -50,7 +50,7 @@ const LIVE_LINES: [(&str, u32, &str); 8] = [
     ("publish alice a 10 text:a", 1, "Syntax"),
 ];
 
-// The lines in front of the group's, and behind a publication.
+// The lines in front of the group's, and after a publication.
 const ELSEWHERE: [(&str, u32, u32, &str); 5] = [
     ("settle 1\n", 1, 16, "NotLive"),
     ("member alice /alice 6b31\n", 1, 9, "NoGroup"),
@@ -78,7 +78,7 @@ fn expect_refused<R: Threads + Wait + Sync + AllocGlobal + Abort>(
 
 #[test]
 fn lines_of_a_script_are_not_live(rt: HostRuntime) {
-    for (line, number, word) in BEHIND {
+    for (line, number, word) in AFTER {
         let input = format!(in rt.alloc(); "{PRE}{line}\nno line").expect(&rt, "memory");
         expect_refused(&rt, &input, 4, number, word);
     }
@@ -95,7 +95,7 @@ fn lines_of_a_live_group_are_refused_as_in_a_script(rt: HostRuntime) {
     }
 }
 
-// A total that is reached is taken: the line behind it is refused for another reason.
+// A total that is reached is taken: the line after it is refused for another reason.
 #[test]
 fn totals_may_be_reached(rt: HostRuntime) {
     let contents = "publish alice /a 8000 fill:1048576:0";

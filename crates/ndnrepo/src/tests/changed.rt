@@ -6,7 +6,7 @@ use std::thread::Threads;
 
 // Octets from outside that are changed in each place, and what a member says of them.
 struct Changes {
-    // Lines before, each with what it prints behind it.
+    // Lines before, each with what it prints after it.
     before: &'static str,
     // What stands in front of the octets in their line, and of what it prints.
     line: &'static str,

@@ -61,8 +61,8 @@ fn the_last_world_is_left(rt: HostRuntime) {
     same(&rt, end.as_ref().and_then(entries), Some((1, 1)), "entries");
 }
 
-// What the world tells of its members and of itself.
-fn tells_of_one_publication(rt: &impl Abort, world: &World) {
+// What the world says of its members and of itself.
+fn reports_of_one_publication(rt: &impl Abort, world: &World) {
     if world.members() != 2 {
         panic!(rt; "two members");
     }
@@ -84,7 +84,7 @@ fn tells_of_one_publication(rt: &impl Abort, world: &World) {
 }
 
 #[test]
-fn the_last_world_tells_what_came_of_it(rt: HostRuntime) {
+fn the_last_world_reports_what_came_of_it(rt: HostRuntime) {
     let mut end = None;
     same(
         &rt,
@@ -93,7 +93,7 @@ fn the_last_world_tells_what_came_of_it(rt: HostRuntime) {
         "status",
     );
     match end.as_ref() {
-        Some(world) => tells_of_one_publication(&rt, world),
+        Some(world) => reports_of_one_publication(&rt, world),
         None => panic!(rt; "a world"),
     }
 }

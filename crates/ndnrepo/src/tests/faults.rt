@@ -5,7 +5,7 @@ use std::process::Abort;
 use std::test::*;
 use std::thread::Threads;
 
-// Each line with what it prints behind it.
+// Each line with what it prints after it.
 const FIRST: &str = "group /g\n\
     member alice /alice 6b31\n\
     member bob /bob 6b32\n\
@@ -81,7 +81,8 @@ fn the_last_line_is_whole_at_the_end(rt: HostRuntime) {
     expect_from_failing(&rt, script, pieces + 2, Status::Done, &report);
 }
 
-// What is answered where a call of a sink of pieces of 8 octets fails, and how much was written, a front of the report.
+// What is answered where a call of a sink of pieces of 8 octets fails, and how much was written, a prefix of the
+// report.
 fn written_until<R: Threads + Sync + AllocGlobal + Abort>(
     rt: &R,
     script: &str,
@@ -91,8 +92,8 @@ fn written_until<R: Threads + Sync + AllocGlobal + Abort>(
     let mut source = ReadSource::new(script.as_bytes());
     let mut sink = VecSink::new(rt.alloc(), 8, call_alone(rt, call));
     let answered = status_of(rt, "run", &mut source, &mut sink);
-    let front = report.as_bytes().starts_with(sink.octets());
-    same(rt, (call, front), (call, true), "a front");
+    let prefix = report.as_bytes().starts_with(sink.octets());
+    same(rt, (call, prefix), (call, true), "a front");
     (answered, sink.octets().len())
 }
 
@@ -115,9 +116,9 @@ fn fails_at<R: Threads + Sync + AllocGlobal + Abort>(
     false
 }
 
-// Each call that is made fails in turn, and those behind the last that is made don't.
+// Each call that is made fails in turn, and those after the last that is made don't.
 #[test]
-fn a_front_of_the_report_is_written(rt: HostRuntime) {
+fn a_prefix_of_the_report_is_written(rt: HostRuntime) {
     for transcript in &[FIRST, INSERTION] {
         let script = script_of(&rt, "", transcript);
         let report = report_of(&rt, transcript);

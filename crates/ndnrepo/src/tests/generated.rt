@@ -62,7 +62,7 @@ fn a_script_is_generated(rt: HostRuntime) {
     expect_generated(&rt, 1, 0, Status::Done, SCRIPT);
     expect_generated(&rt, 7, 0, Status::Done, SCRIPT);
     expect_generated(&rt, 5_000, 0, Status::Done, SCRIPT);
-    // A line in each call: the second call fails behind the group's line.
+    // A line in each call: the second call fails after the group's line.
     let line = "group /g\n";
     expect_generated(&rt, 5_000, 2, Status::WriteFault, line);
     // Pieces of seven octets: the third call fails inside the member's line.

@@ -35,15 +35,15 @@ fn digits_are_inspected(rt: HostRuntime) {
     }
 }
 
-// Inspects an input of so many octets: `front`, and then one octet again and again.
+// Inspects an input of so many octets: `prefix`, and then one octet again and again.
 fn expect_filled<R: Threads + Sync + AllocGlobal + Abort>(
     rt: &R,
-    front: &str,
+    prefix: &str,
     filled: (usize, u8),
     wanted: Status,
     text: &str,
 ) {
-    let mut input = front.as_bytes().to_vec(rt.alloc()).expect(rt, "memory");
+    let mut input = prefix.as_bytes().to_vec(rt.alloc()).expect(rt, "memory");
     input.resize(filled.0, filled.1).expect(rt, "memory");
     expect(rt, "inspect", 5_000, &input, wanted, text);
 }

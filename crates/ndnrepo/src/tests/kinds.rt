@@ -2,7 +2,7 @@ use super::{PRE, expect_transcript};
 use repo_io::*;
 use std::test::*;
 
-// Behind what stands in front of all: lines, each with what it prints behind it, and the status.
+// After what stands in front of all: lines, each with what it prints after it, and the status.
 const WITHDRAWALS: [(&str, &str, Status); 6] = [
     // The record of a withdrawal takes the object out of both catalogues.
     (
@@ -51,7 +51,7 @@ const WITHDRAWALS: [(&str, &str, Status); 6] = [
          > catalogue bob 0\n",
         Status::Done,
     ),
-    // It comes behind an object that is whole, from one who didn't publish it.
+    // It comes after an object that is whole, from one who didn't publish it.
     (
         PRE,
         "member carol /carol 6b33\n\

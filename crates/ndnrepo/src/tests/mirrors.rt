@@ -2,7 +2,7 @@ use super::{PRE, expect_transcript};
 use repo_io::*;
 use std::test::*;
 
-// Lines behind those of the group and its members, each with what it prints behind it, and the status.
+// Lines after those of the group and its members, each with what it prints after it, and the status.
 const MIRRORED: [(&str, Status); 3] = [
     // A mirror fetches the records of its publisher, then the rest of the objects that its pattern is for.
     (
@@ -107,7 +107,7 @@ fn mirrors_hold_what_they_ask_for(rt: HostRuntime) {
     }
 }
 
-// Where several reasons hold, the first of their order is told.
+// Where several reasons hold, the first of their order is reported.
 const REFUSED: [(&str, Status); 12] = [
     // No packet of that number was sent.
     (

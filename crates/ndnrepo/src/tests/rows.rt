@@ -2,7 +2,7 @@ use super::{INSERTION, PRE, expect_transcript};
 use repo_io::*;
 use std::test::*;
 
-// Behind what stands in front of all: lines, each with what it prints behind it, and the status.
+// After what stands in front of all: lines, each with what it prints after it, and the status.
 const ROWS: [(&str, &str, Status); 25] = [
     // A publication reaches both catalogues.
     (
@@ -23,7 +23,7 @@ const ROWS: [(&str, &str, Status); 25] = [
          > traffic syncs 3 delivered 2 attempts 0 parts 2 octets 197\n",
         Status::Done,
     ),
-    // What a member is told of it knows.
+    // What a member is informed of it knows.
     (
         PRE,
         "publish alice /doc 10 text:abc\n\
@@ -344,7 +344,7 @@ const ROWS: [(&str, &str, Status); 25] = [
          > foreign 7\n",
         Status::Foreign { line: 7 },
     ),
-    // A watcher is told of an object under its prefix once.
+    // A watcher is informed of an object under its prefix once.
     (
         PRE,
         "watch bob * /doc\n\
@@ -363,7 +363,8 @@ const ROWS: [(&str, &str, Status); 25] = [
          > told bob 1 0\n",
         Status::Done,
     ),
-    // It is not told of what was listed before it, nor of another publisher's; a restart and a deletion leave it told.
+    // It is not informed of what was listed before it, nor of another publisher's; a restart and a deletion leave it
+    // reported.
     (
         PRE,
         "client carl /carl 6b34\n\
@@ -399,7 +400,7 @@ const ROWS: [(&str, &str, Status); 25] = [
          ba7816bf8f01cfea414140de5dae2223b00361a396177a9cb410ff61f20015ad\n",
         Status::Done,
     ),
-    // The entries that a watcher is told of come in order of publisher and number, with those that came late.
+    // The entries that a watcher is informed of come in order of publisher and number, with those that came late.
     (
         PRE,
         "watch alice * /\n\

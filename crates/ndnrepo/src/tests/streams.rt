@@ -58,9 +58,9 @@ fn expect_ending<R: Threads + Sync + AllocGlobal + Abort>(
     same(rt, answered, wanted, "status");
 }
 
-// Of 1,000,000 octets behind the line that ends the run at most 65,536 are taken.
+// Of 1,000,000 octets after the line that ends the run at most 65,536 are taken.
 #[test]
-fn little_is_read_behind_the_end(rt: HostRuntime) {
+fn little_is_read_after_the_end(rt: HostRuntime) {
     for (lines, fails, wanted) in &ENDINGS {
         let mut source = commented(&rt, lines);
         expect_ending(&rt, &mut source, *fails, *wanted);
@@ -68,7 +68,7 @@ fn little_is_read_behind_the_end(rt: HostRuntime) {
     }
 }
 
-// A source of these lines, and of many of comment behind them.
+// A source of these lines, and of many of comment after them.
 fn commented(rt: &(impl Abort + AllocGlobal), lines: &str) -> VecSource {
     let mut script = String::from_str(rt.alloc(), PRE).expect(rt, "memory");
     put(rt, &mut script, lines);
@@ -76,7 +76,7 @@ fn commented(rt: &(impl Abort + AllocGlobal), lines: &str) -> VecSource {
     VecSource::new(script.into_bytes(), 4_096, Vec::new(rt.alloc()))
 }
 
-// Each line with what it prints behind it.
+// Each line with what it prints after it.
 const LINES: &str = "group /g\n\
     member alice /alice 6b31\n\
     member bob /bob 6b32\n\
@@ -118,7 +118,7 @@ fn put_comment(rt: &impl Abort, script: &mut Vec<u8>, octets: usize) {
     script.push(b'\n').expect(rt, "memory");
 }
 
-// Each place of the lines comes to stand behind 65,536 octets. The last line is refused by its number.
+// Each place of the lines comes to stand after 65,536 octets. The last line is refused by its number.
 #[test]
 fn lines_stand_anywhere(rt: HostRuntime) {
     let mut lines = script_of(&rt, "", LINES);

@@ -126,7 +126,7 @@ pub(crate) const HOSTILE: [(&[u8], PacketFault); 44] = [
         ],
         PacketFault::Critical { typ: 7, at: 7 },
     ),
-    // Content behind SignatureInfo.
+    // Content after SignatureInfo.
     (
         &[
             0x06, 0x0f, 0x07, 0x03, 0x08, 0x01, 0x61, 0x16, 0x03, 0x1b, 0x01, 0x04, 0x15, 0x00,

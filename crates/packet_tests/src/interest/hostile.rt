@@ -63,7 +63,7 @@ pub(crate) const HOSTILE: [(&[u8], PacketFault); 40] = [
         ],
         PacketFault::Critical { typ: 7, at: 7 },
     ),
-    // A name behind CanBePrefix.
+    // A name after CanBePrefix.
     (
         &[0x05, 0x07, 0x21, 0x00, 0x07, 0x03, 0x08, 0x01, 0x61],
         PacketFault::Critical { typ: 7, at: 4 },
@@ -150,7 +150,7 @@ pub(crate) const HOSTILE: [(&[u8], PacketFault); 40] = [
             at: 7,
         },
     ),
-    // A nonce behind the lifetime.
+    // A nonce after the lifetime.
     (
         &[
             0x05, 0x0e, 0x07, 0x03, 0x08, 0x01, 0x61, 0x0c, 0x01, 0x00, 0x0a, 0x04, 0x00, 0x00,

@@ -112,9 +112,9 @@ fn put_hex(out: &mut String, octets: &[u8]) -> Result<(), AllocError> {
     Ok(())
 }
 
-// A word and a name behind it.
-fn put_named(alloc: Global, out: &mut String, front: &str, name: &Name) -> Result<(), AllocError> {
-    write!(out, "{front} ")?;
+// A word and a name after it.
+fn put_named(alloc: Global, out: &mut String, prefix: &str, name: &Name) -> Result<(), AllocError> {
+    write!(out, "{prefix} ")?;
     out.push_str(&name.to_uri(alloc)?)
 }
 

@@ -1,7 +1,7 @@
 // Lines, and what they are: `-` says nothing, `!` stands before why it is no line, and else it is the line as it is
-// printed from its values. More than 16 octets of a content are told by how many they are and the last. Of each form
+// printed from its values. More than 16 octets of a content are known by how many they are and the last. Of each form
 // a line is right, has a word more, or less, or a word that is none of its kind, and numbers stand at both ends of
-// their ranges and behind them.
+// their ranges and after them.
 pub(crate) const ROWS: &str = "\
 group /g => group /g\n\
 group /g x => !Syntax\n\

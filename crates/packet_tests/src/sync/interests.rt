@@ -29,7 +29,7 @@ const FROM_ALICE: [u8; 117] = [
     0x91, 0x17, 0x63, 0x34, 0x57, 3, 0x8b, 0xde, 0x17, 0x13, 0x9b,
 ];
 
-// What bob tells of alice, signed with his key "k2", with an octet behind the vector.
+// What bob says of alice, signed with his key "k2", with an octet after the vector.
 const FROM_BOB: [u8; 116] = [
     5, 0x72, 7, 0x28, 8, 1, 0x67, 0x36, 1, 2, 2, 0x20, 0xae, 0xda, 0x14, 0x82, 0x3b, 0xe1, 0xf8,
     0x57, 0x4b, 0x22, 2, 0xe9, 0xfc, 0xb7, 0x0d, 0x96, 0x76, 0xa7, 0xc0, 0xd1, 0x77, 0xfd, 0x8f,
@@ -120,14 +120,14 @@ fn add_key(rt: &(impl Abort + AllocGlobal), ring: &mut KeyRing, value: &[u8], ke
 }
 
 #[test]
-fn alice_tells_of_her_first_publication(rt: HostRuntime) {
+fn alice_reports_of_her_first_publication(rt: HostRuntime) {
     let group = Group::new(&rt);
     let mut vector = Vector::new(rt.alloc(), group.roster.len()).expect(&rt, "memory");
     vector.raise(0, 1);
-    is_told(&rt, &group, &vector);
+    is_reported(&rt, &group, &vector);
 }
 
-fn is_told(rt: &(impl Abort + AllocGlobal), group: &Group, vector: &Vector)
+fn is_reported(rt: &(impl Abort + AllocGlobal), group: &Group, vector: &Vector)
     requires name { IsNodeName group.now.name }
     requires members { All IsNodeName group.now.roster }
     requires width { length vector.now ≡ length group.now.roster }
@@ -138,12 +138,12 @@ fn is_told(rt: &(impl Abort + AllocGlobal), group: &Group, vector: &Vector)
     same_octets(rt, octets.as_slice(), &FROM_ALICE, "from alice");
 }
 
-// Sync Interests, and the number of the key that signed each. Both tell of alice's first
+// Sync Interests, and the number of the key that signed each. Both report alice's first
 // publication.
 const SENT: [(&[u8], u32); 2] = [(&FROM_ALICE, 0), (&FROM_BOB, 1)];
 
 #[test]
-fn the_signer_is_not_told_by_the_vector(rt: HostRuntime) {
+fn the_signer_is_not_reported_by_the_vector(rt: HostRuntime) {
     let group = Group::new(&rt);
     for (octets, sender) in &SENT {
         is_signed_by(&rt, &group, octets, *sender);

@@ -5,18 +5,18 @@ ghost use Rattle.repo_plan.specs.Parts.{pair_of};
 ghost use Rattle.repo_plan.specs.Plan.{holds, hides, is_asked, is_claimed, holds_too, uses_room};
 ghost use Rattle.repo_store.specs.StoreList.{with_packet};
 ghost use Rattle.repo_holdings.specs.StoredParents.{lists_at, ListsAsMany};
-ghost use Rattle.repo_holdings.specs.Listed.{entry_at, alone_catalogue};
+ghost use Rattle.repo_holdings.specs.Listed.{entry_at, member_catalogue};
 ghost use Rattle.repo_holdings.specs.Contents.{IsDigestIn};
 ghost use Rattle.repo_holdings.specs.Noted.{AreNotes};
-ghost use Rattle.repo_holdings.specs.Gaining.{AreTied, IsArrival, KeepsOthers, told_shape};
+ghost use Rattle.repo_holdings.specs.Gaining.{AreTied, IsArrival, KeepsOthers, shape_in_summary};
 ghost use Rattle.repo_holdings.specs.Changing.{changed, change_by};
 ghost use Rattle.repo_holdings.specs.HoldingsState.{held_plan, AreInOrder};
 
 use super::Holdings;
-use crate::changes::{Change, change_told};
+use crate::changes::{Change, change_by_summary};
 use crate::contents::ContentsDigest;
 use crate::notes::Notes;
-use crate::told::Arrival;
+use crate::record_summary::Arrival;
 use repo_object::Packet;
 use repo_plan::{Part, Plan, Shape};
 use repo_store::Store;
@@ -27,7 +27,7 @@ impl Holdings {
     /// and what a withdrawal withdraws is removed. It takes no memory.
     pub fn gain(&mut self, part: Part, arrival: Arrival)
         requires room { 0 < self.old.spare }
-        requires arrival { IsArrival self.old.store part arrival.packet arrival.told }
+        requires arrival { IsArrival self.old.store part arrival.packet arrival.summary }
         requires asked { is_asked (held_plan self.old) part ≡ true }
         requires not_held { holds (held_plan self.old) part ≡ false }
         requires not_hidden { hides (held_plan self.old) (pair_of part) ≡ false }
@@ -63,7 +63,7 @@ pub(super) fn gain(
     requires store_room { 0 < store.old.spare }
     requires tied { AreTied plan.old store.old.packets }
     requires shape { is_some shape ≡ (part.part == 0) }
-    requires told { shape ≡ told_shape part packet }
+    requires summary { shape ≡ shape_in_summary part packet }
     requires lists { ListsAsMany packet (lists_at store.old.packets part) }
     requires asked { is_asked plan.old part ≡ true }
     requires not_held { holds plan.old part ≡ false }
@@ -81,7 +81,7 @@ pub(super) fn gain(
 }
 
 // The same of a packet that came, and what it tells is noted. The answer is what changes in the catalogue. Digests over
-// contents that are told aren't taken again.
+// contents that are reported aren't taken again.
 pub(super) fn gain_noted(
     plan: &mut Plan,
     store: &mut Store,
@@ -95,25 +95,25 @@ pub(super) fn gain_noted(
     requires notes_room { 0 < notes.old.spare }
     requires tied { AreTied plan.old store.old.packets }
     requires noted { AreNotes notes.old store.old.packets }
-    requires arrival { IsArrival store.old.packets part arrival.packet arrival.told }
+    requires arrival { IsArrival store.old.packets part arrival.packet arrival.summary }
     requires asked { is_asked plan.old part ≡ true }
     requires not_held { holds plan.old part ≡ false }
     requires not_hidden { hides plan.old (pair_of part) ≡ false }
     requires not_claimed { is_claimed plan.old part ≡ false }
     requires digests { All (IsDigestIn (with_packet part arrival.packet store.old.packets)) digests.now }
-    ensures plan { plan.new ≡ uses_room (holds_too part (told_shape part arrival.packet) plan.old) }
+    ensures plan { plan.new ≡ uses_room (holds_too part (shape_in_summary part arrival.packet) plan.old) }
     ensures others { KeepsOthers plan.old plan.new }
     ensures packets { store.new.packets ≡ with_packet part arrival.packet store.old.packets }
     ensures store_room { store.new.spare ≡ store.old.spare - 1 }
     ensures notes_room { notes.old.spare ≤ notes.new.spare + 1 }
     ensures tied { AreTied plan.new store.new.packets }
     ensures noted { AreNotes notes.new store.new.packets }
-    ensures change { result ≡ change_by notes.old.withdrawn (pair_of part) arrival.told
+    ensures change { result ≡ change_by notes.old.withdrawn (pair_of part) arrival.summary
         (entry_at store.new.packets (pair_of part)) }
-    ensures listed { alone_catalogue store.new.packets ≡ changed result (alone_catalogue store.old.packets) }
+    ensures listed { member_catalogue store.new.packets ≡ changed result (member_catalogue store.old.packets) }
 {
-    let shape = arrival.told.as_ref().map(|told| told.shape());
+    let shape = arrival.summary.as_ref().map(|summary| summary.shape());
     gain(plan, store, part, arrival.packet, shape);
     let publication = (part.publisher, part.seq);
-    change_told(plan, store, notes, publication, arrival.told, digests)
+    change_by_summary(plan, store, notes, publication, arrival.summary, digests)
 }

@@ -5,20 +5,26 @@ ghost use Rattle.repo_holdings.specs.NewPublications.{with_packets, as_parts, pu
 
 use super::Holdings;
 use super::gaining::gain;
-use crate::changes::change_told;
-use crate::told::Told;
+use crate::changes::change_by_summary;
+use crate::record_summary::RecordSummary;
 use repo_object::Packet;
 use repo_plan::{Part, Plan};
 use repo_store::Store;
 
 impl Holdings {
-    /// The parts of a new publication that is told of so are held from now on, with these packets, where room was made:
-    /// the record, the index packets and the segments. An object is catalogued, and what a withdrawal withdraws is
-    /// removed. It takes no memory.
-    pub fn publish_parts(&mut self, publisher: u32, seq: u16, told: Told, packets: Vec<Packet>)
+    /// The parts of a new publication that is reported of so are held from now on, with these packets, where room was
+    /// made: the record, the index packets and the segments. An object is catalogued, and what a withdrawal withdraws
+    /// is removed. It takes no memory.
+    pub fn publish_parts(
+        &mut self,
+        publisher: u32,
+        seq: u16,
+        summary: RecordSummary,
+        packets: Vec<Packet>,
+    )
         requires room { vec_len packets ≤ self.old.spare }
         requires new { IsNew (held_plan self.old) (publisher, seq) }
-        requires packets { ArePackets told packets.items }
+        requires packets { ArePackets summary packets.items }
         ensures published { self.new ≡ publishes_too (publisher, seq) packets.items self.old }
         ensures in_order { AreInOrder self.new }
     {
@@ -28,15 +34,15 @@ impl Holdings {
             &mut self.store,
             publisher,
             seq,
-            &told,
+            &summary,
             packets,
         );
-        let change = change_told(
+        let change = change_by_summary(
             &self.plan,
             &self.store,
             &mut self.notes,
             (publisher, seq),
-            Some(told),
+            Some(summary),
             &[],
         );
         change.make(&mut self.catalogue);
@@ -44,20 +50,21 @@ impl Holdings {
     }
 }
 
-// The parts of a new publication that is told of so are held from now on, with these packets, for which room was made.
+// The parts of a new publication that is reported of so are held from now on, with these packets, for which room was
+// made.
 fn gain_all(
     plan: &mut Plan,
     store: &mut Store,
     publisher: u32,
     seq: u16,
-    told: &Told,
+    summary: &RecordSummary,
     packets: Vec<Packet>,
 )
     requires plan_room { vec_len packets ≤ plan.old.spare }
     requires store_room { vec_len packets ≤ store.old.spare }
     requires tied { AreTied plan.old store.old.packets }
     requires new { IsNew plan.old (publisher, seq) }
-    requires packets { ArePackets told.now packets.items }
+    requires packets { ArePackets summary.now packets.items }
     ensures packets { store.new.packets ≡ with_packets
         (as_parts (publisher, seq) 0 packets.items) store.old.packets }
     ensures others { KeepsOthers plan.old plan.new }
@@ -65,7 +72,7 @@ fn gain_all(
     ensures plan_room { plan.new.spare + vec_len packets ≡ plan.old.spare }
     ensures store_room { store.new.spare + vec_len packets ≡ store.old.spare }
 {
-    let shape = told.shape();
+    let shape = summary.shape();
     let mut x = 0;
     for packet in packets {
         let part = Part {

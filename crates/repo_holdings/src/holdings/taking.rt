@@ -17,7 +17,7 @@ use super::gaining::gain_noted;
 use crate::changes::Change;
 use crate::contents::ContentsDigest;
 use crate::notes::Notes;
-use crate::told::Arrival;
+use crate::record_summary::Arrival;
 use repo_catalog::{Catalogue, Entry};
 use repo_plan::{Part, Plan};
 use repo_store::Store;
@@ -42,7 +42,7 @@ impl Holdings {
     /// and the attempts are counted. The entries of what becomes whole are merged into the catalogue together, and
     /// those of what is withdrawn are removed together. It takes no memory.
     ///
-    /// Digests over contents that are told, in order of their publications, aren't taken again.
+    /// Digests over contents that are reported, in order of their publications, aren't taken again.
     pub fn take(&mut self, all: Vec<Tried>, digests: &[ContentsDigest]) -> Taken
         requires room { vec_len all ≤ self.old.spare }
         requires takable { AreTakable (held_plan self.old) self.old.store all.items }

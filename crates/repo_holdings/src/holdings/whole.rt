@@ -32,7 +32,7 @@ impl Whole<'_> {
         ensures publication { (result.publisher ≡ self.now.publisher) × (result.seq ≡ self.now.seq) }
         ensures octets { result.octets ≡ min (2 ^ 64 - 1) (length (joined self.now.contents.items)) }
         ensures digest { result.digest ≡ sha256 (joined self.now.contents.items) }
-        ensures told { (packets : List Packet) → IsWholeIn packets self.now → IsDigestIn packets result }
+        ensures reported { (packets : List Packet) → IsWholeIn packets self.now → IsDigestIn packets result }
     {
         let mut octets: u64 = 0;
         let mut digest = Sha256::new();

@@ -1,8 +1,8 @@
 ghost use Rattle.std.specs.Prelude.{◌≡◌, ◌<◌, ◌≤◌, ◌^◌, ◌↔◌, ℕ, Err, IfOk, OnOk, OnErr, IsTrue, length};
 ghost use Rattle.repo_object.specs.Objects.{IsContent};
 ghost use Rattle.repo_process.specs.Arrivals.{is_last};
-ghost use Rattle.repo_member.specs.Alone.{IsOfGroup, publication_limit};
-ghost use Rattle.repo_member.specs.Blocks.{alone_block, alone_blocks, CompletesAnObject, TellsBlock};
+ghost use Rattle.repo_member.specs.MemberState.{IsOfGroup, publication_limit};
+ghost use Rattle.repo_member.specs.Blocks.{member_block, member_blocks, CompletesAnObject, ReportsBlock};
 
 use super::Member;
 use super::publishing::{PUBLICATION_LIMIT, Published};
@@ -41,14 +41,14 @@ impl Member {
         requires content { IsContent content.now }
         requires early { now < 2 ^ 62 }
         requires draws { self.old.machine.draws < 2 ^ 62 }
-        ensures told { IfOk result (TellsBlock g.now self.old self.new
-            (alone_block self.old process index content.now)) }
+        ensures reported { IfOk result (ReportsBlock g.now self.old self.new
+            (member_block self.old process index content.now)) }
         ensures ok { OnOk result
-            (self.new ≡ alone_blocks g.now process index content.now now draw self.old) }
+            (self.new ≡ member_blocks g.now process index content.now now draw self.old) }
         ensures object { OnOk result
-            (CompletesAnObject (alone_block self.old process index content.now)) }
+            (CompletesAnObject (member_block self.old process index content.now)) }
         ensures spent { (log : ℕ) → (result ≡ Err (PublishRefusal.NumbersSpent log))
-            ↔ (IsTrue (is_last (alone_block self.old process index content.now))
+            ↔ (IsTrue (is_last (member_block self.old process index content.now))
             × (log ≡ length self.old.log) × (publication_limit ≤ length self.old.log)) }
         ensures err { OnErr result (self.new ≡ self.old) }
     {

@@ -9,10 +9,11 @@ ghost use Rattle.repo_command.specs.Commands.{is_command, CommandIsSpelled};
 ghost use Rattle.repo_process.specs.Insertions.{next_number};
 ghost use Rattle.group_model.specs.Steps.{check_answer};
 ghost use Rattle.repo_holdings.specs.Listed.{is_withdrawal};
-ghost use Rattle.repo_member.specs.Alone.{IsOfGroup, alone_plan};
-ghost use Rattle.repo_member.specs.Deleting.{catalogued_named, alone_deletes, alone_drops};
-ghost use Rattle.repo_member.specs.Commanded.{coded, order_of, alone_after_order, alone_order_answer, alone_obeys};
-ghost use Rattle.repo_member.specs.Commanded.{alone_starts, answer_to, start_answer, delete_answer, reply_to_octets};
+ghost use Rattle.repo_member.specs.MemberState.{IsOfGroup, member_plan};
+ghost use Rattle.repo_member.specs.Deleting.{catalogued_named, member_deletes, member_drops};
+ghost use Rattle.repo_member.specs.Commanded.{coded, order_of, member_after_order, member_order_answer, member_obeys};
+ghost use Rattle.repo_member.specs.Commanded.{member_state_starts, answer_to, start_answer, delete_answer};
+ghost use Rattle.repo_member.specs.Commanded.{reply_to_octets};
 ghost use Rattle.repo_member.specs.Commanded.{reply_named};
 
 use super::Member;
@@ -52,11 +53,11 @@ impl Member {
     pub fn command(&mut self, g: &Group, octets: &[u8]) -> Result<Answered, AllocError>
         requires group { IsOfGroup g.now self.old }
         ensures answer { IfOk result (λ answered. answered.answer
-            ≡ alone_order_answer (order_of g.now self.old.number octets.now) self.old) }
+            ≡ member_order_answer (order_of g.now self.old.number octets.now) self.old) }
         ensures reply { IfOk result (λ answered. option_map (λ r. r.items) answered.reply
             ≡ reply_to_octets g.now self.old.number answered.answer octets.now) }
         ensures ok { OnOk result
-            (self.new ≡ alone_after_order (order_of g.now self.old.number octets.now) self.old) }
+            (self.new ≡ member_after_order (order_of g.now self.old.number octets.now) self.old) }
         ensures spelled { OnOk result
             (IfOk (order_of g.now self.old.number octets.now) (λ order. CommandIsSpelled order.1)) }
         ensures err { OnErr result (self.new ≡ self.old) }
@@ -69,7 +70,7 @@ impl Member {
     }
 
     /// Octets that the caller has checked as a command for this member are answered, and what they ask for is done, as
-    /// `command` does it. Want of memory is no verdict on them.
+    /// `command` does it. Running out of memory is no verdict on them.
     pub fn command_checked(
         &mut self,
         g: &Group,
@@ -80,11 +81,11 @@ impl Member {
         requires verdict { coded verdict ≡ order_of g.now self.old.number octets.now }
         requires spelled { IfOk verdict (λ order. CommandIsSpelled order.1) }
         ensures answer { IfOk result (λ answered. answered.answer
-            ≡ alone_order_answer (order_of g.now self.old.number octets.now) self.old) }
+            ≡ member_order_answer (order_of g.now self.old.number octets.now) self.old) }
         ensures reply { IfOk result (λ answered. option_map (λ r. r.items) answered.reply
             ≡ reply_to_octets g.now self.old.number answered.answer octets.now) }
         ensures ok { OnOk result
-            (self.new ≡ alone_after_order (order_of g.now self.old.number octets.now) self.old) }
+            (self.new ≡ member_after_order (order_of g.now self.old.number octets.now) self.old) }
         ensures spelled { OnOk result
             (IfOk (order_of g.now self.old.number octets.now) (λ order. CommandIsSpelled order.1)) }
         ensures err { OnErr result (self.new ≡ self.old) }
@@ -102,7 +103,7 @@ impl Member {
         ensures answer { IfOk result (λ answered. answered.answer ≡ answer_to command self.old) }
         ensures reply { IfOk result (λ answered. option_map (λ r. r.items) answered.reply
             ≡ reply_to_octets g.now self.old.number answered.answer octets.now) }
-        ensures ok { OnOk result (self.new ≡ alone_obeys command self.old) }
+        ensures ok { OnOk result (self.new ≡ member_obeys command self.old) }
         ensures err { OnErr result (self.new ≡ self.old) }
     {
         match command {
@@ -130,7 +131,7 @@ impl Member {
         ensures reply { IfOk result (λ answered. option_map (λ r. r.items) answered.reply
             ≡ reply_to_octets g.now self.old.number answered.answer octets.now) }
         ensures ok { OnOk result
-            (self.new ≡ alone_starts name.now first last self.old (next_number self.old.insertions)) }
+            (self.new ≡ member_state_starts name.now first last self.old (next_number self.old.insertions)) }
         ensures err { OnErr result (self.new ≡ self.old) }
     {
         let Some(process) = self.processes.next() else {
@@ -169,7 +170,7 @@ impl Member {
         ensures answer { IfOk result (λ answered. answered.answer ≡ delete_answer name.now self.old) }
         ensures reply { IfOk result (λ answered. option_map (λ r. r.items) answered.reply
             ≡ reply_to_octets g.now self.old.number answered.answer octets.now) }
-        ensures ok { OnOk result (self.new ≡ alone_deletes name.now self.old) }
+        ensures ok { OnOk result (self.new ≡ member_deletes name.now self.old) }
         ensures err { OnErr result (self.new ≡ self.old) }
     {
         let found = self.found(name)?;
@@ -190,11 +191,11 @@ impl Member {
     fn found(&self, name: &Name) -> Result<Found, AllocError>
         ensures publications { IfOk result (λ found. found.publications.items ≡ catalogued_named name.now self.now) }
         ensures in_order { IfOk result (λ found. Rises pair_cmp found.publications.items) }
-        ensures packets { IfOk result (λ found. found.packets ≡ alone_drops name.now self.now) }
+        ensures packets { IfOk result (λ found. found.packets ≡ member_drops name.now self.now) }
         ensures known { IfOk result (λ found.
-            All (λ pair. knows (alone_plan self.now) pair ≡ true) found.publications.items) }
+            All (λ pair. knows (member_plan self.now) pair ≡ true) found.publications.items) }
         ensures unclaimed { IfOk result (λ found.
-            All (λ pair. claims_part_in (alone_plan self.now) pair ≡ false) found.publications.items) }
+            All (λ pair. claims_part_in (member_plan self.now) pair ≡ false) found.publications.items) }
         ensures objects { IfOk result (λ found.
             All (λ pair. is_withdrawal self.now.store pair ≡ false) found.publications.items) }
     {
@@ -204,7 +205,7 @@ impl Member {
         let mut left = self.held.len();
         for (publisher, seq) in &publications {
             let entry = catalogue.entry(*publisher, *seq).unwrap();
-            left -= 1 + Shape::of(entry.segments as u16).parts_behind() as usize;
+            left -= 1 + Shape::of(entry.segments as u16).parts_after() as usize;
         }
         Ok(Found {
             publications,

@@ -5,7 +5,7 @@ ghost use Rattle.repo_plan.specs.Plan.{claim_of, unclaimed, first, is_after, is_
 ghost use Rattle.repo_plan.specs.Leaps.{some_holds};
 ghost use Rattle.repo_plan.specs.Calls.{IsFetcher};
 ghost use Rattle.repo_object.specs.Verdict.{ring_verdict};
-ghost use Rattle.repo_member.specs.Alone.{IsOfGroup, alone_plan, alone_claims, want_of, alone_accepts};
+ghost use Rattle.repo_member.specs.MemberState.{IsOfGroup, member_plan, member_claims, want_of, member_accepts};
 ghost use Rattle.repo_member.specs.Verdicts.{passed, accept_verdict};
 ghost use Rattle.repo_holdings.specs.Records.{Packet as Stored};
 ghost use Rattle.repo_holdings.specs.StoredParents.{lists_at};
@@ -22,9 +22,9 @@ use std::alloc::{AllocError, Global};
 
 impl HasParts for Member {
     ghost use Rattle.repo_plan.specs.Plan.{holds};
-    ghost use Rattle.repo_member.specs.Alone.{alone_plan};
+    ghost use Rattle.repo_member.specs.MemberState.{member_plan};
 
-    ghost has = { λ a t. holds (alone_plan a) t };
+    ghost has = { λ a t. holds (member_plan a) t };
 
     fn least_from(&self, part: Part) -> Option<Part> {
         self.held.least_from(part)
@@ -36,10 +36,10 @@ impl Member {
     /// takes no memory.
     pub fn claim(&mut self, f: u8) -> Result<Option<Part>, FetcherBusy>
         requires { IsFetcher f }
-        ensures idle { IsOk result ↔ (claim_of (alone_plan self.old) f ≡ None) }
-        ensures busy { IfErr result (λ e. claim_of (alone_plan self.old) f ≡ Some e.part) }
-        ensures part { IfOk result (λ claim. claim ≡ first (unclaimed (alone_plan self.old))) }
-        ensures new { IfOk result (λ claim. self.new ≡ alone_claims f claim self.old) }
+        ensures idle { IsOk result ↔ (claim_of (member_plan self.old) f ≡ None) }
+        ensures busy { IfErr result (λ e. claim_of (member_plan self.old) f ≡ Some e.part) }
+        ensures part { IfOk result (λ claim. claim ≡ first (unclaimed (member_plan self.old))) }
+        ensures new { IfOk result (λ claim. self.new ≡ member_claims f claim self.old) }
         ensures err { OnErr result (self.new ≡ self.old) }
     {
         self.held.claim(f)
@@ -48,9 +48,9 @@ impl Member {
     /// The fetcher's claim ends, and its part can be claimed again. It takes no memory.
     pub fn lose(&mut self, f: u8) -> Result<Part, FetcherIdle>
         requires { IsFetcher f }
-        ensures busy { IfOk result (λ part. claim_of (alone_plan self.old) f ≡ Some part) }
-        ensures idle { IsErr result ↔ (claim_of (alone_plan self.old) f ≡ None) }
-        ensures ok { OnOk result (self.new ≡ alone_claims f None self.old) }
+        ensures busy { IfOk result (λ part. claim_of (member_plan self.old) f ≡ Some part) }
+        ensures idle { IsErr result ↔ (claim_of (member_plan self.old) f ≡ None) }
+        ensures ok { OnOk result (self.new ≡ member_claims f None self.old) }
         ensures err { OnErr result (self.new ≡ self.old) }
     {
         self.held.release(f)
@@ -59,7 +59,7 @@ impl Member {
     /// The part that the fetcher claims, if it claims one. It takes no memory.
     pub fn claimed(&self, f: u8) -> Option<Part>
         requires { IsFetcher f }
-        ensures { result ≡ claim_of (alone_plan self.now) f }
+        ensures { result ≡ claim_of (member_plan self.now) f }
     {
         self.held.claimed(f)
     }
@@ -68,9 +68,9 @@ impl Member {
     pub fn want(&self, alloc: Global, g: &Group, f: u8) -> Result<Want, WantFault>
         requires fetcher { IsFetcher f }
         requires group { IsOfGroup g.now self.now }
-        ensures want { IfOk result (λ want. IsSomeAnd (claim_of (alone_plan self.now) f)
+        ensures want { IfOk result (λ want. IsSomeAnd (claim_of (member_plan self.now) f)
             (λ part. want ≡ want_of g.now self.now.store part)) }
-        ensures idle { (result ≡ Err WantFault.FetcherIdle) ↔ (claim_of (alone_plan self.now) f ≡ None) }
+        ensures idle { (result ≡ Err WantFault.FetcherIdle) ↔ (claim_of (member_plan self.now) f ≡ None) }
     {
         let Some(part) = self.held.claimed(f) else {
             return Err(WantFault::FetcherIdle);
@@ -90,8 +90,8 @@ impl Member {
         requires fetcher { IsFetcher f }
         requires group { IsOfGroup g.now self.old }
         ensures part { IfOk result (λ part. accept_verdict g.now self.old f octets.now ≡ Ok part) }
-        ensures ok { IfOk result (λ part. self.new ≡ alone_accepts f part octets.now self.old) }
-        ensures idle { (result ≡ Err AcceptRefusal.FetcherIdle) ↔ (claim_of (alone_plan self.old) f ≡ None) }
+        ensures ok { IfOk result (λ part. self.new ≡ member_accepts f part octets.now self.old) }
+        ensures idle { (result ≡ Err AcceptRefusal.FetcherIdle) ↔ (claim_of (member_plan self.old) f ≡ None) }
         ensures refused { IfErr result (λ refusal. (refusal ≡ AcceptRefusal.NoMemory)
             ⊎ (accept_verdict g.now self.old f octets.now ≡ Err refusal)) }
         ensures memory { result ≡ Err AcceptRefusal.NoMemory → IsOk (accept_verdict g.now self.old f octets.now) }
@@ -115,11 +115,11 @@ impl Member {
     ) -> Result<Part, AcceptRefusal>
         requires fetcher { IsFetcher f }
         requires group { IsOfGroup g.now self.old }
-        requires checked { IfSome (claim_of (alone_plan self.old) f)
+        requires checked { IfSome (claim_of (member_plan self.old) f)
             (λ part. IsCheckedFor g.now (want_of g.now self.old.store part) checked.now) }
-        ensures part { IfOk result (λ part. claim_of (alone_plan self.old) f ≡ Some part) }
-        ensures ok { IfOk result (λ part. self.new ≡ alone_accepts f part checked.now.octets self.old) }
-        ensures idle { (result ≡ Err AcceptRefusal.FetcherIdle) ↔ (claim_of (alone_plan self.old) f ≡ None) }
+        ensures part { IfOk result (λ part. claim_of (member_plan self.old) f ≡ Some part) }
+        ensures ok { IfOk result (λ part. self.new ≡ member_accepts f part checked.now.octets self.old) }
+        ensures idle { (result ≡ Err AcceptRefusal.FetcherIdle) ↔ (claim_of (member_plan self.old) f ≡ None) }
         ensures refused { IfErr result (λ refusal. (refusal ≡ AcceptRefusal.NoMemory)
             ⊎ (refusal ≡ AcceptRefusal.FetcherIdle)) }
         ensures err { OnErr result (self.new ≡ self.old) }
@@ -135,10 +135,10 @@ impl Member {
     // The packet that came for the part that the fetcher claims is held from now on, and the claim is over.
     fn gain_claimed(&mut self, f: u8, part: Part, arrival: Arrival) -> Result<(), AllocError>
         requires fetcher { IsFetcher f }
-        requires claimed { claim_of (alone_plan self.old) f ≡ Some part }
-        requires wanted { is_wanted (alone_plan self.old) part ≡ true }
-        requires arrival { IsArrival self.old.store part arrival.packet arrival.told }
-        ensures ok { OnOk result (self.new ≡ alone_accepts f part arrival.packet self.old) }
+        requires claimed { claim_of (member_plan self.old) f ≡ Some part }
+        requires wanted { is_wanted (member_plan self.old) part ≡ true }
+        requires arrival { IsArrival self.old.store part arrival.packet arrival.summary }
+        ensures ok { OnOk result (self.new ≡ member_accepts f part arrival.packet self.old) }
         ensures err { OnErr result (self.new ≡ self.old) }
     {
         self.held.reserve(1)?;
@@ -158,7 +158,7 @@ impl Member {
     ) -> Result<Vec<Job>, AllocError>
         requires { IsOfGroup g.now self.now }
         ensures { IfOk result (λ jobs. jobs.items ≡ map (job_for g.now self.now)
-            (take most (filter (is_after after) (unclaimed (alone_plan self.now))))) }
+            (take most (filter (is_after after) (unclaimed (member_plan self.now))))) }
     {
         g.is_sound();
         self.held.jobs(alloc, g.roster(), g.name(), after, most)
@@ -176,7 +176,7 @@ impl Member {
         requires { IsOfGroup g.now self.now }
         ensures { IfOk result (λ jobs. jobs.items ≡ map (job_for g.now self.now)
             (take most (filter (some_holds H.has others.now)
-            (filter (is_after after) (unclaimed (alone_plan self.now)))))) }
+            (filter (is_after after) (unclaimed (member_plan self.now)))))) }
     {
         g.is_sound();
         self.held
@@ -186,12 +186,12 @@ impl Member {
     // The packet that came for a part, if the octets pass for it. Memory is taken for it last.
     fn arrival(&self, g: &Group, part: Part, octets: &[u8]) -> Result<Arrival, AcceptRefusal>
         requires group { IsOfGroup g.now self.now }
-        requires asked { is_asked (alone_plan self.now) part ≡ true }
+        requires asked { is_asked (member_plan self.now) part ≡ true }
         ensures passed { IfOk result (λ _. passed part (ring_verdict (want_of g.now self.now.store part)
             g.now.members.ring octets.now) ≡ Ok part) }
         ensures octets { IfOk result (λ arrival. arrival.packet ≡ octets.now) }
         ensures arrival { IfOk result (λ arrival.
-            IsArrival self.now.store part arrival.packet arrival.told) }
+            IsArrival self.now.store part arrival.packet arrival.summary) }
         ensures refused { IfErr result (λ refusal. (refusal ≡ AcceptRefusal.NoMemory)
             ⊎ (passed part (ring_verdict (want_of g.now self.now.store part)
             g.now.members.ring octets.now) ≡ Err refusal)) }
@@ -215,7 +215,7 @@ pub(super) fn arrived(alloc: Global, checked: &Checked<'_>) -> Result<Arrival, A
     ensures octets { IfOk result (λ arrival. arrival.packet ≡ checked.now.octets) }
     ensures arrival { IfOk result (λ arrival. (packets : List Stored)
         → checked.now.want.lists ≡ lists_at packets checked.now.want.part
-        → IsArrival packets checked.now.want.part arrival.packet arrival.told) }
+        → IsArrival packets checked.now.want.part arrival.packet arrival.summary) }
 {
     Arrival::new(alloc, checked.part(), checked.to_packet(alloc)?)
 }

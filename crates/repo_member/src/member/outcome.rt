@@ -1,6 +1,6 @@
 ghost use Rattle.std.specs.Prelude.{◌≡◌, ◌<◌, ◌^◌, count_by, sum_by, is_some, IfOk, OnOk, OnErr, map, vec_len};
 ghost use Rattle.std.specs.List.{All};
-ghost use Rattle.repo_member.specs.Alone.{IsOfGroup, alone_plan, alone_takes};
+ghost use Rattle.repo_member.specs.MemberState.{IsOfGroup, member_plan, member_takes};
 ghost use Rattle.repo_holdings.specs.Taking.{came, arrival_octets, with_what_came, AreTakable, PartsDiffer};
 ghost use Rattle.repo_holdings.specs.Contents.{IsDigestIn};
 ghost use Rattle.repo_holdings.specs.WholeContents.{IsWholeIn};
@@ -16,7 +16,7 @@ use std::alloc::{AllocError, Global};
 /// What a member took of a fetch: the parts that it holds from now on and did not hold, and the octets of their
 /// packets.
 #[derive(Clone, Copy, Debug, PartialEq, Eq)]
-pub struct Kept {
+pub struct FetchCounts {
     pub parts: u32,
     pub octets: u64,
 }
@@ -35,7 +35,7 @@ impl Member {
     ) -> Result<u32, AllocError>
         requires group { IsOfGroup g.now self.old }
         requires outcome { IsOutcome g.now self.old jobs.now parts.now attempts.now }
-        ensures ok { OnOk result (self.new ≡ alone_takes (outcome_of jobs.now parts.now attempts.now) self.old) }
+        ensures ok { OnOk result (self.new ≡ member_takes (outcome_of jobs.now parts.now attempts.now) self.old) }
         ensures parts { IfOk result (λ held. held ≡ count_by is_some parts.now) }
         ensures err { OnErr result (self.new ≡ self.old) }
     {
@@ -67,11 +67,11 @@ impl Member {
         parts: &[Option<Checked<'_>>],
         attempts: &[u32],
         digests: &[ContentsDigest],
-    ) -> Result<Kept, AllocError>
+    ) -> Result<FetchCounts, AllocError>
         requires group { IsOfGroup g.now self.old }
         requires outcome { IsOutcome g.now self.old jobs.now parts.now attempts.now }
         requires digests { All (IsDigestIn (with_what_came jobs.now parts.now self.old.store)) digests.now }
-        ensures ok { OnOk result (self.new ≡ alone_takes (outcome_of jobs.now parts.now attempts.now) self.old) }
+        ensures ok { OnOk result (self.new ≡ member_takes (outcome_of jobs.now parts.now attempts.now) self.old) }
         ensures parts { IfOk result (λ kept. kept.parts ≡ count_by is_some parts.now) }
         ensures octets { IfOk result (λ kept. kept.octets ≡ sum_by octets_in parts.now) }
         ensures err { OnErr result (self.new ≡ self.old) }
@@ -79,7 +79,7 @@ impl Member {
         let all = self.tried(g, jobs, parts, attempts)?;
         self.held.reserve(all.len())?;
         let Taken { parts, octets } = self.held.take(all, digests);
-        Ok(Kept { parts, octets })
+        Ok(FetchCounts { parts, octets })
     }
 
     // What came of a fetch that was planned, with its packets as they are kept.
@@ -93,7 +93,7 @@ impl Member {
         requires group { IsOfGroup g.now self.now }
         requires outcome { IsOutcome g.now self.now jobs.now parts.now attempts.now }
         ensures came { IfOk result (λ all. map came all.items ≡ outcome_of jobs.now parts.now attempts.now) }
-        ensures takable { IfOk result (λ all. AreTakable (alone_plan self.now) self.now.store all.items) }
+        ensures takable { IfOk result (λ all. AreTakable (member_plan self.now) self.now.store all.items) }
         ensures few { IfOk result (λ all. vec_len all < 2 ^ 32) }
         ensures parts { IfOk result (λ all. count_by (λ x. is_some x.arrival) all.items ≡ count_by is_some parts.now) }
         ensures octets { IfOk result (λ all. sum_by arrival_octets all.items ≡ sum_by octets_in parts.now) }

@@ -5,7 +5,7 @@ ghost use Rattle.repo_object.specs.Limits.{segment_limit};
 ghost use Rattle.repo_object.specs.Objects.{is_object_name, IsContent, IsObject, IsPost};
 ghost use Rattle.repo_object.specs.Objects.Post.{Offers, Withdraws};
 ghost use Rattle.group_model.specs.Publications.{has_unwithdrawn};
-ghost use Rattle.repo_member.specs.Alone.{IsOfGroup, publication_limit, next_seq, alone_publishes, logged};
+ghost use Rattle.repo_member.specs.MemberState.{IsOfGroup, publication_limit, next_seq, member_publishes, logged};
 ghost use Rattle.repo_member.specs.Posts.{post_of, IsNew};
 ghost use Rattle.repo_member.specs.Verdicts.{sync_of};
 ghost use Rattle.repo_holdings.specs.NewPublications.{ArePackets};
@@ -17,7 +17,7 @@ use crate::group::Group;
 use crate::post::{Post, has_unwithdrawn, packet_in, push};
 use crate::refusals::{PublishRefusal, WithdrawRefusal};
 use ndn_name::Name;
-use repo_holdings::Told;
+use repo_holdings::RecordSummary;
 use repo_object::{Object, Packet, shared_packets_of, withdrawal_packet};
 use repo_plan::{Part, Shape};
 use std::alloc::AllocError;
@@ -30,14 +30,14 @@ pub(super) const PUBLICATION_LIMIT: u32 = 65_535;
 pub struct Published {
     /// Its number: those of a member are 1, 2, 3 and so on.
     pub seq: u16,
-    /// The sync Interest that tells of it.
+    /// The sync Interest that reports it.
     pub sync: Vec<u8>,
 }
 
 // All that a publication makes.
 #[derive(Drop)]
 struct Prepared {
-    told: Told,
+    summary: RecordSummary,
     packets: Vec<Packet>,
     sync: Vec<u8>,
 }
@@ -58,7 +58,7 @@ impl Member {
         requires contents { All (λ c. IsContent c.items) contents.now }
         requires early { now < 2 ^ 62 }
         requires draws { self.old.machine.draws < 2 ^ 62 }
-        ensures ok { OnOk result (self.new ≡ alone_publishes g.now
+        ensures ok { OnOk result (self.new ≡ member_publishes g.now
             (Offers (record { name = name.now; contents = map (λ c. c.items) contents.now })) now draw self.old) }
         ensures object { OnOk result (IsObject
             (record { name = name.now; contents = map (λ c. c.items) contents.now })) }
@@ -99,7 +99,7 @@ impl Member {
         requires group { IsOfGroup g.now self.old }
         requires early { now < 2 ^ 62 }
         requires draws { self.old.machine.draws < 2 ^ 62 }
-        ensures ok { OnOk result (self.new ≡ alone_publishes g.now (Withdraws seq) now draw self.old) }
+        ensures ok { OnOk result (self.new ≡ member_publishes g.now (Withdraws seq) now draw self.old) }
         ensures object { OnOk result (has_unwithdrawn self.old.log seq ≡ true) }
         ensures seq { IfOk result (λ published. published.seq ≡ next_seq self.old) }
         ensures sync { IfOk result (λ published.
@@ -137,7 +137,7 @@ impl Member {
         requires new { IsNew (next_seq self.old) post }
         requires early { now < 2 ^ 62 }
         requires draws { self.old.machine.draws < 2 ^ 62 }
-        ensures ok { OnOk result (self.new ≡ alone_publishes g.now (post_of post) now draw self.old) }
+        ensures ok { OnOk result (self.new ≡ member_publishes g.now (post_of post) now draw self.old) }
         ensures post { OnOk result (IsPost (next_seq self.old) (post_of post)) }
         ensures seq { IfOk result (λ published. published.seq ≡ next_seq self.old) }
         ensures sync { IfOk result (λ published.
@@ -162,7 +162,7 @@ impl Member {
         requires numbers { length self.old.log < publication_limit }
         requires new { IsNew (next_seq self.old) post }
         requires post { IsPost (next_seq self.old) (post_of post) }
-        requires parts { ArePackets prepared.told prepared.packets.items }
+        requires parts { ArePackets prepared.summary prepared.packets.items }
         requires early { now < 2 ^ 62 }
         requires draws { self.old.machine.draws < 2 ^ 62 }
         ensures ok { OnOk result
@@ -184,7 +184,7 @@ impl Member {
         };
         self.held.raise(number, seq);
         self.held
-            .publish_parts(number, seq, prepared.told, prepared.packets);
+            .publish_parts(number, seq, prepared.summary, prepared.packets);
         push(&mut self.log, post);
         self.vector.raise(number, seq);
         self.machine.published(now, draw);
@@ -227,7 +227,7 @@ impl Member {
         requires new { IsNew (next_seq self.now) post.now }
         ensures post { OnOk result (IsPost (next_seq self.now) (post_of post.now)) }
         ensures prepared { IfOk result (λ prepared. IsPrepared g.now self.now (post_of post.now)
-            prepared.told prepared.packets.items prepared.sync.items) }
+            prepared.summary prepared.packets.items prepared.sync.items) }
     {
         match post {
             Post::Object { object, .. } => self.prepare_object(g, object),
@@ -241,20 +241,20 @@ impl Member {
         requires numbers { length self.now.log < publication_limit }
         ensures within { OnOk result (IsObject object.now) }
         ensures prepared { IfOk result (λ prepared. IsPrepared g.now self.now (Offers object.now)
-            prepared.told prepared.packets.items prepared.sync.items) }
+            prepared.summary prepared.packets.items prepared.sync.items) }
     {
         let alloc = *self.log.allocator();
         g.is_sound();
         let node = g.roster().name(self.number);
         let key = g.members().key(self.number);
         let packets = shared_packets_of(alloc, object, self.next_seq(), node, g.name(), key)?;
-        let told = Told::Object {
+        let summary = RecordSummary::Object {
             shape: Shape::of(object.contents().len() as u16),
             name: object.name().clone()?,
         };
         let sync = self.next_sync(g)?;
         Ok(Prepared {
-            told,
+            summary,
             packets,
             sync,
         })
@@ -266,7 +266,7 @@ impl Member {
         requires numbers { length self.now.log < publication_limit }
         requires earlier { IsPost (next_seq self.now) (Withdraws withdrawn) }
         ensures { IfOk result (λ prepared. IsPrepared g.now self.now (Withdraws withdrawn)
-            prepared.told prepared.packets.items prepared.sync.items) }
+            prepared.summary prepared.packets.items prepared.sync.items) }
     {
         let alloc = *self.log.allocator();
         g.is_sound();
@@ -278,13 +278,13 @@ impl Member {
         packets.push(Packet::new(alloc, packet, None)?)?;
         let sync = self.next_sync(g)?;
         Ok(Prepared {
-            told: Told::Withdrawal { seq: withdrawn },
+            summary: RecordSummary::Withdrawal { seq: withdrawn },
             packets,
             sync,
         })
     }
 
-    // The sync Interest that tells of the next publication.
+    // The sync Interest that reports the next publication.
     fn next_sync(&self, g: &Group) -> Result<Vec<u8>, AllocError>
         requires group { IsOfGroup g.now self.now }
         requires numbers { length self.now.log < publication_limit }

@@ -4,9 +4,9 @@ ghost use Rattle.svs_vector.specs.Vectors.{join};
 ghost use Rattle.svs_sync.specs.Suppression.{mode_of};
 ghost use Rattle.svs_sync.specs.KeptVector.{fires_kept};
 ghost use Rattle.repo_member.specs.Groups.{node_limit};
-ghost use Rattle.repo_member.specs.Alone.{IsOfGroup, alone_learns, alone_hears, alone_fires};
+ghost use Rattle.repo_member.specs.MemberState.{IsOfGroup, member_learns, member_hears, member_fires};
 ghost use Rattle.repo_member.specs.Verdicts.{sync_of, hear_verdict};
-ghost use Rattle.repo_member.specs.Fires.{TellsFire};
+ghost use Rattle.repo_member.specs.Fires.{ReportsFire};
 
 use super::Member;
 use crate::group::Group;
@@ -22,15 +22,15 @@ use svs_vector::Vector;
 pub enum Fire {
     /// It is not due yet.
     Early,
-    /// It is due, and others have told what it knows.
+    /// It is due, and others have reported what it knows.
     Quiet,
     /// It sends this sync Interest.
     Sent(Vec<u8>),
 }
 
 impl Member {
-    /// The member hears a sync Interest: it knows from now on what it knew and what is told, and its machine is told of
-    /// the vector too.
+    /// The member hears a sync Interest: it knows from now on what it knew and what is reported, and its machine is
+    /// informed of the vector too.
     pub fn hear(
         &mut self,
         g: &Group,
@@ -42,7 +42,7 @@ impl Member {
         requires early { now < 2 ^ 62 }
         requires few { self.old.machine.draws < 2 ^ 62 }
         ensures ok { OnOk result (IsOkAnd (hear_verdict g.now self.old octets.now)
-            (λ told. self.new ≡ alone_hears told now draw self.old)) }
+            (λ reported. self.new ≡ member_hears reported now draw self.old)) }
         ensures mode { IfOk result (λ mode. mode ≡ mode_of self.new.machine.heard) }
         ensures refused { IfErr result (λ refusal. (refusal ≡ HearRefusal.NoMemory)
             ⊎ (hear_verdict g.now self.old octets.now ≡ Err refusal)) }
@@ -50,33 +50,33 @@ impl Member {
         ensures sync { result ≢ Err (HearRefusal.Sync SyncRefusal.NoMemory) }
         ensures err { OnErr result (self.new ≡ self.old) }
     {
-        let told = self.told(g, octets)?;
-        Ok(self.hear_vector(&told, now, draw))
+        let reported = self.reported(g, octets)?;
+        Ok(self.hear_vector(&reported, now, draw))
     }
 
-    /// The member hears a vector that tells of no more publications of it than it made, as `hear` does. It takes no
+    /// The member hears a vector that reports no more publications of it than it made, as `hear` does. It takes no
     /// memory.
-    pub fn hear_vector(&mut self, told: &Vector, now: u64, draw: u32) -> Mode
-        requires width { length told.now ≡ length self.old.known }
-        requires members { length told.now ≤ node_limit }
-        requires own { slice_index told.now self.old.number ≤ length self.old.log }
+    pub fn hear_vector(&mut self, reported: &Vector, now: u64, draw: u32) -> Mode
+        requires width { length reported.now ≡ length self.old.known }
+        requires members { length reported.now ≤ node_limit }
+        requires own { slice_index reported.now self.old.number ≤ length self.old.log }
         requires early { now < 2 ^ 62 }
         requires few { self.old.machine.draws < 2 ^ 62 }
-        ensures new { self.new ≡ alone_hears told.now now draw self.old }
+        ensures new { self.new ≡ member_hears reported.now now draw self.old }
         ensures mode { result ≡ mode_of self.new.machine.heard }
     {
-        let mode = self.machine.heard(now, told, &self.vector, draw);
-        learn(&mut self.vector, &mut self.held, told);
+        let mode = self.machine.heard(now, reported, &self.vector, draw);
+        learn(&mut self.vector, &mut self.held, reported);
         mode
     }
 
-    /// The member learns what a sync Interest tells, as `hear` does, and its machine isn't told of it.
+    /// The member learns what a sync Interest tells, as `hear` does, and its machine isn't informed of it.
     ///
     /// The answer is whether the member knows of more than before.
     pub fn join_from(&mut self, g: &Group, octets: &[u8]) -> Result<bool, HearRefusal>
         requires group { IsOfGroup g.now self.old }
         ensures ok { OnOk result (IsOkAnd (hear_verdict g.now self.old octets.now)
-            (λ told. self.new ≡ alone_learns told self.old)) }
+            (λ reported. self.new ≡ member_learns reported self.old)) }
         ensures changed { IfOk result (λ changed. IsFalse changed ↔ (self.new.known ≡ self.old.known)) }
         ensures refused { IfErr result (λ refusal. (refusal ≡ HearRefusal.NoMemory)
             ⊎ (hear_verdict g.now self.old octets.now ≡ Err refusal)) }
@@ -84,20 +84,20 @@ impl Member {
         ensures sync { result ≢ Err (HearRefusal.Sync SyncRefusal.NoMemory) }
         ensures err { OnErr result (self.new ≡ self.old) }
     {
-        let told = self.told(g, octets)?;
-        Ok(self.join_vector(&told))
+        let reported = self.reported(g, octets)?;
+        Ok(self.join_vector(&reported))
     }
 
-    /// The member learns a vector that tells of no more publications of it than it made, as `join_from` does. It takes
+    /// The member learns a vector that reports no more publications of it than it made, as `join_from` does. It takes
     /// no memory.
-    pub fn join_vector(&mut self, told: &Vector) -> bool
-        requires width { length told.now ≡ length self.old.known }
-        requires members { length told.now ≤ node_limit }
-        requires own { slice_index told.now self.old.number ≤ length self.old.log }
-        ensures new { self.new ≡ alone_learns told.now self.old }
+    pub fn join_vector(&mut self, reported: &Vector) -> bool
+        requires width { length reported.now ≡ length self.old.known }
+        requires members { length reported.now ≤ node_limit }
+        requires own { slice_index reported.now self.old.number ≤ length self.old.log }
+        ensures new { self.new ≡ member_learns reported.now self.old }
         ensures changed { IsFalse result ↔ (self.new.known ≡ self.old.known) }
     {
-        learn(&mut self.vector, &mut self.held, told)
+        learn(&mut self.vector, &mut self.held, reported)
     }
 
     /// The member's timer fires.
@@ -105,9 +105,9 @@ impl Member {
         requires group { IsOfGroup g.now self.old }
         requires early { now < 2 ^ 62 }
         requires few { self.old.machine.draws < 2 ^ 62 }
-        ensures fire { IfOk result (TellsFire (fires_kept now self.old.known self.old.machine)
+        ensures fire { IfOk result (ReportsFire (fires_kept now self.old.known self.old.machine)
             (sync_of g.now self.old.number self.old.known)) }
-        ensures ok { OnOk result (self.new ≡ alone_fires now draw self.old) }
+        ensures ok { OnOk result (self.new ≡ member_fires now draw self.old) }
         ensures err { OnErr result (self.new ≡ self.old) }
     {
         let fire = match self.machine.fires(now, &self.vector) {
@@ -127,57 +127,57 @@ impl Member {
         sync_of(alloc, g, self.number, &self.vector)
     }
 
-    // The vector that octets tell, if they are a sync Interest of the group and tell of no more publications of this
+    // The vector that octets tell, if they are a sync Interest of the group and report no more publications of this
     // member than it made. Memory is taken for it last.
-    fn told(&self, g: &Group, octets: &[u8]) -> Result<Vector, HearRefusal>
+    fn reported(&self, g: &Group, octets: &[u8]) -> Result<Vector, HearRefusal>
         requires { IsOfGroup g.now self.now }
-        ensures told { IfOk result (λ told. hear_verdict g.now self.now octets.now ≡ Ok told) }
-        ensures own { IfOk result (λ told. slice_index told self.now.number ≤ length self.now.log) }
-        ensures width { IfOk result (λ told. length told ≡ length self.now.known) }
-        ensures members { IfOk result (λ told. length told ≤ node_limit) }
+        ensures reported { IfOk result (λ reported. hear_verdict g.now self.now octets.now ≡ Ok reported) }
+        ensures own { IfOk result (λ reported. slice_index reported self.now.number ≤ length self.now.log) }
+        ensures width { IfOk result (λ reported. length reported ≡ length self.now.known) }
+        ensures members { IfOk result (λ reported. length reported ≤ node_limit) }
         ensures refused { IfErr result (λ refusal. (refusal ≡ HearRefusal.NoMemory)
             ⊎ (hear_verdict g.now self.now octets.now ≡ Err refusal)) }
         ensures memory { result ≡ Err HearRefusal.NoMemory → IsOk (hear_verdict g.now self.now octets.now) }
         ensures sync { result ≢ Err (HearRefusal.Sync SyncRefusal.NoMemory) }
     {
-        let told = match g.check_told(octets) {
-            Ok((_, told)) => told,
+        let reported = match g.check_reported(octets) {
+            Ok((_, reported)) => reported,
             Err(refusal) => return Err(HearRefusal::Sync(refusal)),
         };
-        self.not_ahead(told.get(self.number))?;
-        Ok(told.to_vector(*self.log.allocator())?)
+        self.not_ahead(reported.get(self.number))?;
+        Ok(reported.to_vector(*self.log.allocator())?)
     }
 
-    // No more publications of this member are told of than it made.
-    fn not_ahead(&self, told: u16) -> Result<(), HearRefusal>
-        ensures ok { OnOk result (told ≤ length self.now.log) }
+    // No more publications of this member are reported of than it made.
+    fn not_ahead(&self, reported: u16) -> Result<(), HearRefusal>
+        ensures ok { OnOk result (reported ≤ length self.now.log) }
         ensures ahead { IfErr result (λ refusal.
-            (refusal ≡ HearRefusal.OwnNumberAhead (length self.now.log) told) × (length self.now.log < told)) }
+            (refusal ≡ HearRefusal.OwnNumberAhead (length self.now.log) reported) × (length self.now.log < reported)) }
     {
         let own = self.vector.get(self.number);
-        if told > own {
+        if reported > own {
             return Err(HearRefusal::OwnNumberAhead {
                 own: u32::from(own),
-                told: u32::from(told),
+                told: u32::from(reported),
             });
         }
         Ok(())
     }
 }
 
-// What is told is known from now on. The answer is whether more is known than before.
-fn learn(vector: &mut Vector, held: &mut Holdings, told: &Vector) -> bool
-    requires width { length told.now ≡ length vector.old }
-    requires few { length told.now ≤ node_limit }
+// What is reported is known from now on. The answer is whether more is known than before.
+fn learn(vector: &mut Vector, held: &mut Holdings, reported: &Vector) -> bool
+    requires width { length reported.now ≡ length vector.old }
+    requires few { length reported.now ≤ node_limit }
     requires known { held.old.known ≡ vector.old }
-    ensures vector { vector.new ≡ join vector.old told.now }
-    ensures held { held.new ≡ record held.old { known = join vector.old told.now } }
+    ensures vector { vector.new ≡ join vector.old reported.now }
+    ensures held { held.new ≡ record held.old { known = join vector.old reported.now } }
     ensures changed { IsFalse result ↔ (vector.new ≡ vector.old) }
 {
-    for member in 0..told.members() as u32 {
-        held.raise(member, told.get(member));
+    for member in 0..reported.members() as u32 {
+        held.raise(member, reported.get(member));
     }
-    vector.join(told)
+    vector.join(reported)
 }
 
 // The sync Interest by which a member tells a vector.

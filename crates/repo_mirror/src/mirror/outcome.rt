@@ -10,7 +10,7 @@ ghost use Rattle.repo_plan.specs.Plan.{no_claims};
 ghost use Rattle.repo_object.specs.Verdict.{IsChecked};
 ghost use Rattle.repo_holdings.specs.Records.{Packet};
 ghost use Rattle.repo_holdings.specs.StoredParents.{lists_at};
-ghost use Rattle.repo_holdings.specs.Gaining.{told_in, IsArrival};
+ghost use Rattle.repo_holdings.specs.Gaining.{summary_in, IsArrival};
 ghost use Rattle.repo_holdings.specs.Hiding.{with_hidden};
 ghost use Rattle.repo_holdings.specs.HoldingsState.{held_plan};
 ghost use Rattle.repo_holdings.specs.Taking.{came, takes_too, AreTakable};
@@ -21,7 +21,7 @@ ghost use Rattle.repo_mirror.specs.Passing.{is_fetched_kept, that_are_kept, pass
 ghost use Rattle.repo_mirror.specs.MirrorOutcomes.{IsMirrorOutcome};
 
 use super::Mirror;
-use repo_holdings::{Arrival, Holdings, Told, Tried};
+use repo_holdings::{Arrival, Holdings, RecordSummary, Tried};
 use repo_object::{Checked, Job};
 use repo_watch::{Filter, Pattern};
 use std::alloc::{AllocError, Global};
@@ -117,8 +117,8 @@ fn tried(
         option_map (λ a. a.packet) tried.arrival ≡ option_map (λ c. c.now.octets) checked.entry) }
     ensures arrival { IfOk result (λ tried. (packets : List Packet)
         → job.now.want.lists ≡ lists_at packets job.now.want.part
-        → IfSome tried.arrival (λ a. IsArrival packets tried.part a.packet a.told)) }
-    ensures told { IfOk result (λ tried. IfSome tried.arrival (λ a. a.told ≡ told_in tried.part a.packet)) }
+        → IfSome tried.arrival (λ a. IsArrival packets tried.part a.packet a.summary)) }
+    ensures reported { IfOk result (λ tried. IfSome tried.arrival (λ a. a.summary ≡ summary_in tried.part a.packet)) }
     ensures checked { IfOk result (λ tried. CameChecked (came tried)) }
 {
     let arrival = match checked {
@@ -135,11 +135,11 @@ fn tried(
 // The packet that was checked for the want of a part, as it comes for that part.
 fn arrived(alloc: Global, checked: &Checked<'_>) -> Result<Arrival, AllocError>
     ensures octets { IfOk result (λ arrival. arrival.packet ≡ checked.now.octets) }
-    ensures told { IfOk result (λ arrival. arrival.told ≡ told_in checked.now.want.part arrival.packet) }
+    ensures reported { IfOk result (λ arrival. arrival.summary ≡ summary_in checked.now.want.part arrival.packet) }
     ensures passed { OnOk result (IsChecked checked.now) }
     ensures arrival { IfOk result (λ arrival. (packets : List Packet)
         → checked.now.want.lists ≡ lists_at packets checked.now.want.part
-        → IsArrival packets checked.now.want.part arrival.packet arrival.told) }
+        → IsArrival packets checked.now.want.part arrival.packet arrival.summary) }
 {
     let packet = checked.to_packet(alloc)?;
     Arrival::new(alloc, checked.part(), packet)
@@ -147,14 +147,18 @@ fn arrived(alloc: Global, checked: &Checked<'_>) -> Result<Arrival, AllocError>
 
 // Whether what came is kept: all but the record of an object that the pattern isn't for.
 fn is_kept(filter: &Filter, pattern: &Pattern, tried: &Tried) -> bool
-    requires { IfSome tried.now.arrival (λ a. a.told ≡ told_in tried.now.part a.packet) }
+    requires { IfSome tried.now.arrival (λ a. a.summary ≡ summary_in tried.now.part a.packet) }
     ensures { result ≡ is_fetched_kept pattern.now (came tried.now) }
 {
     let Some(arrival) = &tried.arrival else {
         return true;
     };
-    match &arrival.told {
-        Some(Told::Object { name, .. }) => filter.wants(pattern, tried.part.publisher, name),
+    match &arrival.summary {
+        Some(RecordSummary::Object { name, .. }) => filter.wants(
+            pattern,
+            tried.part.publisher,
+            name,
+        ),
         _ => true,
     }
 }

@@ -120,7 +120,7 @@ impl Plan {
     {
         match self.shape(part.publisher, part.seq) {
             Some(shape) => {
-                u32::from(part.part) <= shape.parts_behind()
+                u32::from(part.part) <= shape.parts_after()
                     && self.is_listed(part, shape)
                     && !self.holds(part)
             }
@@ -134,7 +134,7 @@ impl Plan {
     {
         let publication = (part.publisher, part.seq);
         match self.shape(part.publisher, part.seq) {
-            Some(shape) if u32::from(part.part) <= shape.parts_behind() => {
+            Some(shape) if u32::from(part.part) <= shape.parts_after() => {
                 if self.done.contains(publication) {
                     return Some(part);
                 }

@@ -6,7 +6,7 @@ ghost use Rattle.repo_plan.specs.Parts.{IsShape, pair_of};
 use super::Plan;
 use super::whole::{note_held, note_shape};
 use crate::part::Part;
-use crate::shape::{Shape, told_by};
+use crate::shape::{Shape, reported_by};
 use sorted_lists::table;
 use std::alloc::AllocError;
 
@@ -60,12 +60,12 @@ impl Plan {
         }
         let publication = (part.publisher, part.seq);
         note_shape(&mut self.shapes, publication, shape);
-        let told = told_by(self.shapes.get(publication));
+        let reported = reported_by(self.shapes.get(publication));
         note_held(
             &mut self.done,
             &mut self.held,
             (publication, part.part),
-            told,
+            reported,
         );
         true
     }

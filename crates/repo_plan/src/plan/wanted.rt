@@ -117,12 +117,12 @@ impl Plan {
         ensures { result ≡ first (filter (is_next self.now after)
             (parts_known self.now publication)) }
     {
-        let told = shape.parts_behind();
+        let reported = shape.parts_after();
         let mut passed = passed_parts(publication, after);
-        while passed <= told {
+        while passed <= reported {
             // The next part that is not held.
             let x = self.held.gap_from((publication, passed as u16));
-            if x > told {
+            if x > reported {
                 return None;
             }
             let part = Part {
@@ -131,7 +131,7 @@ impl Plan {
                 part: x as u16,
             };
             if !self.is_listed(part, shape) {
-                passed = shape.behind_listed_with(part.part);
+                passed = shape.after_listed_with(part.part);
             } else if self.is_next(part, after) {
                 return Some(part);
             } else {
@@ -161,7 +161,7 @@ impl Plan {
         requires not_hidden { hides self.now (pair_of part) ≡ false }
         ensures { result ≡ is_next self.now after part }
     {
-        is_behind(part, after) && !is_claimed(&self.claims, part)
+        is_past(part, after) && !is_claimed(&self.claims, part)
     }
 }
 
@@ -197,7 +197,7 @@ fn passed_parts(publication: (u32, u16), after: Option<Part>) -> u32
 }
 
 // Whether the part is greater than `after`.
-fn is_behind(part: Part, after: Option<Part>) -> bool
+fn is_past(part: Part, after: Option<Part>) -> bool
     ensures { result ≡ is_after after part }
 {
     match after {

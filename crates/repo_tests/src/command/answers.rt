@@ -61,7 +61,7 @@ pub(super) const ANSWERS: [(&[u8], Option<Answer>); 18] = [
     (&[0xcf, 3, 0xce, 1, 1], None),
     // A code of three octets.
     (&[0xcf, 5, 0xd0, 3, 0, 1, 2], None),
-    // The process behind the code.
+    // The process after the code.
     (
         &[0xcf, 6, 0xd0, 1, 0x64, 0xce, 1, 1],
         Some(Answer {
@@ -81,7 +81,7 @@ pub(super) const ANSWERS: [(&[u8], Option<Answer>); 18] = [
             deleted: None,
         }),
     ),
-    // A number of blocks behind that of packets.
+    // A number of blocks after that of packets.
     (&[0xcf, 9, 0xd0, 1, 0xc8, 0xd2, 1, 1, 0xd1, 1, 1], None),
     // Elements that need not be understood.
     (
@@ -95,7 +95,7 @@ pub(super) const ANSWERS: [(&[u8], Option<Answer>); 18] = [
     ),
     // One that must be.
     (&[0xcf, 5, 0xd0, 1, 0x64, 0xf1, 0], None),
-    // Octets behind it.
+    // Octets after it.
     (&[0xcf, 3, 0xd0, 1, 0x64, 0xf0, 0], None),
     // Cut off.
     (&[0xcf, 3, 0xd0, 1], None),

@@ -25,7 +25,7 @@ pub(super) const HOSTILE: [(&[u8], CommandRefusal); 17] = [
         ],
         CommandRefusal::Packet(PacketFault::WrongType { typ: 6 }),
     ),
-    // An octet is behind it.
+    // An octet is after it.
     (
         &[
             5, 0x79, 7, 0x31, 8, 5, 0x61, 0x6c, 0x69, 0x63, 0x65, 8, 6, 0x69, 0x6e, 0x73, 0x65,
@@ -109,7 +109,7 @@ pub(super) const HOSTILE: [(&[u8], CommandRefusal); 17] = [
         ],
         CommandRefusal::OtherName,
     ),
-    // A component behind the digest, which is then none.
+    // A component after the digest, which is then none.
     (
         &[
             5, 0x36, 7, 0x34, 8, 5, 0x61, 0x6c, 0x69, 0x63, 0x65, 8, 6, 0x69, 0x6e, 0x73, 0x65,

@@ -66,7 +66,7 @@ pub(super) const PARAMETERS: [(&[u8], &[u8], bool); 34] = [
         ],
         false,
     ),
-    // The name behind the numbers.
+    // The name after the numbers.
     (
         b"insert",
         &[0xc9, 0x0c, 0xcc, 1, 5, 0xcd, 1, 6, 7, 4, 8, 2, 0x69, 0x6e],
@@ -94,7 +94,7 @@ pub(super) const PARAMETERS: [(&[u8], &[u8], bool); 34] = [
         &[0xc9, 0x0b, 7, 4, 8, 2, 0x69, 0x6e, 0xcc, 1, 5, 0xcd, 1],
         false,
     ),
-    // An element cut off behind the parameters.
+    // An element cut off after the parameters.
     (
         b"insert",
         &[

@@ -20,7 +20,7 @@ const ABC: [u8; 32] = [
 fn octets_are_accepted_for_claims(rt: HostRuntime) {
     let g = three_members(&rt);
     let mut bob = member(&rt, &g, BOB);
-    joins_what_alice_tells(&rt, &g, &mut bob);
+    joins_what_alice_reports(&rt, &g, &mut bob);
     knows_of_one_publication(&rt, &bob);
     accepts_the_record(&rt, &g, &mut bob);
     accepts_the_segment(&rt, &g, &mut bob);
@@ -28,14 +28,14 @@ fn octets_are_accepted_for_claims(rt: HostRuntime) {
 }
 
 // The first time it learns of a publication, and then of nothing more.
-fn joins_what_alice_tells(rt: &impl Abort, g: &Group, bob: &mut Member) {
+fn joins_what_alice_reports(rt: &impl Abort, g: &Group, bob: &mut Member) {
     ready(rt, g, bob);
     same(rt, bob.join_from(g, &FROM_ALICE), Ok(true), "join from");
     ready(rt, g, bob);
     same(rt, bob.join_from(g, &FROM_ALICE), Ok(false), "join from");
 }
 
-// The machine wasn't told: it is steady, and has used its first draw alone.
+// The machine wasn't informed: it is steady, and has used its first draw alone.
 fn knows_of_one_publication(rt: &impl Abort, bob: &Member) {
     let vector = bob.vector();
     assert_eq!(rt; vector.members(), 3);

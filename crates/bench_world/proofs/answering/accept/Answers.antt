@@ -7,8 +7,8 @@ use Rattle.ndn_sign.specs.Ring.{NamedKey}
 use Rattle.repo_object.specs.Wants.{WantedPart}
 use Rattle.repo_object.specs.Verdict.{CheckedPart, ring_verdict, checked_part}
 use Rattle.group_model.specs.Sound.{IsPublishedPart}
-use Rattle.repo_member.specs.Alone.{alone_accepts}
-use Rattle.repo_member.specs.InGroup.{true_packet}
+use Rattle.repo_member.specs.MemberState.{member_accepts}
+use Rattle.repo_member.specs.InGroup.{published_packet}
 use Rattle.bench_world.proofs.ClaimedPackets.{claim_published, accepts_its, checked_for_claim, keeps_its, key_there}
 use Rattle.bench_world.proofs.ClaimedPackets.{passed_fed}
 use Rattle.bench_world.proofs.answering.accept.Goals as goal
@@ -44,8 +44,9 @@ accept_checked-requires-clause-checked g c =
 pub returns-in-Ok-accept_checked-clause-asker : goal.returns-in-Ok-accept_checked-clause-asker
 returns-in-Ok-accept_checked-clause-asker g c =
     let r = c.requires in
-    let same : bytes_eq c.args.octets.now (unwrap_or (true_packet c.args.g.now g.logs c.args.want.now.part) []) ≡ true =
-    ap (λ (u : Part). bytes_eq c.args.octets.now (unwrap_or (true_packet c.args.g.now g.logs u) []))
+    let same : bytes_eq c.args.octets.now (unwrap_or (published_packet c.args.g.now g.logs c.args.want.now.part) [])
+    ≡ true =
+    ap (λ (u : Part). bytes_eq c.args.octets.now (unwrap_or (published_packet c.args.g.now g.logs u) []))
     (sym c.part.ensures)
     ∙ sym c.in_ok-is_its_packet.ensures
     ∙ c.if-not-branch.false in
@@ -53,7 +54,7 @@ returns-in-Ok-accept_checked-clause-asker g c =
     ap (λ (x : CheckedPart). x.octets) c.in-Ok.ensures.checked in
     let part : c.in-Ok-accept_checked.field-0 ≡ c.args.want.now.part =
     same_part (sym c.in-Ok-accept_checked.ensures.part ∙ r.claim) in
-    c.in-Ok-accept_checked.ensures.ok ∙ (λ i. alone_accepts c.args.f (part i) (octets i) c.args.asker.now)
+    c.in-Ok-accept_checked.ensures.ok ∙ (λ i. member_accepts c.args.f (part i) (octets i) c.args.asker.now)
     ∙ accepts_its c.args.g.now g.logs c.args.asker.now r.logs r.asker c.args.f c.args.want.now.part r.claim
     c.args.octets.now same
 
@@ -68,8 +69,9 @@ returns-in-Ok-accept_checked-clause-fed g c =
 pub returns-in-Ok-accept_checked-clause-kept : goal.returns-in-Ok-accept_checked-clause-kept
 returns-in-Ok-accept_checked-clause-kept g c =
     let r = c.requires in
-    let same : bytes_eq c.args.octets.now (unwrap_or (true_packet c.args.g.now g.logs c.args.want.now.part) []) ≡ true =
-    ap (λ (u : Part). bytes_eq c.args.octets.now (unwrap_or (true_packet c.args.g.now g.logs u) []))
+    let same : bytes_eq c.args.octets.now (unwrap_or (published_packet c.args.g.now g.logs c.args.want.now.part) [])
+    ≡ true =
+    ap (λ (u : Part). bytes_eq c.args.octets.now (unwrap_or (published_packet c.args.g.now g.logs u) []))
     (sym c.part.ensures)
     ∙ sym c.in_ok-is_its_packet.ensures
     ∙ c.if-not-branch.false in

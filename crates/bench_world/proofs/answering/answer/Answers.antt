@@ -3,8 +3,8 @@ use Rattle.std.proofs.Common.{◌≡◌, ◌∙◌, ◌<◌, option_map, length,
 use Rattle.std.proofs.lemmas.List.{get_or_default}
 use Rattle.repo_plan.specs.declared.part.Part.{Part}
 use Rattle.repo_plan.specs.Plan.{claim_of}
-use Rattle.repo_member.specs.Alone.{Alone, alone_plan}
-use Rattle.bench_world.specs.Worlds.{nobody, alone_at}
+use Rattle.repo_member.specs.MemberState.{MemberState, member_plan}
+use Rattle.bench_world.specs.Worlds.{nobody, state_at}
 use Rattle.bench_world.specs.Others.{place_among_others}
 use Rattle.bench_world.specs.Answering.{lender_of}
 use Rattle.bench_world.proofs.TakenOut.{others_at, lender_is}
@@ -17,7 +17,7 @@ publisher-publisher-requires-clause-there g c =
     let r = c.requires.get in
     let ms = c.args.members.now.items in
     let claim =
-    ap (λ (a : Alone). claim_of (alone_plan a) c.args.f)
+    ap (λ (a : MemberState). claim_of (member_plan a) c.args.f)
     (sym (c.index.ensures ∙ get_or_default ms c.args.m c.index.result.now nobody r.there))
     ∙ c.in_ok-want.ensures.claim in
     let inside : c.in_ok-want.want.part.publisher < length ms =
@@ -31,7 +31,7 @@ publisher-publisher-requires-clause-other g c same =
     let r = c.requires.get in
     let ms = c.args.members.now.items in
     let claim =
-    ap (λ (a : Alone). claim_of (alone_plan a) c.args.f)
+    ap (λ (a : MemberState). claim_of (member_plan a) c.args.f)
     (sym (c.index.ensures ∙ get_or_default ms c.args.m c.index.result.now nobody r.there))
     ∙ c.in_ok-want.ensures.claim in
     publisher_other c.args.g.now g.logs c.args.f c.args.m ms r c.in_ok-want.want claim
@@ -42,14 +42,14 @@ answer_from-kept-requires g c =
     let r = c.requires.get in
     let ms = c.args.members.now.items in
     let claim =
-    ap (λ (a : Alone). claim_of (alone_plan a) c.args.f)
+    ap (λ (a : MemberState). claim_of (member_plan a) c.args.f)
     (sym (c.index.ensures ∙ get_or_default ms c.args.m c.index.result.now nobody r.there))
     ∙ c.in_ok-want.ensures.claim in
     let asker = c.remove-asker.ensures.value ∙ get_or_default ms c.args.m c.remove-asker.result nobody r.there in
     let others = c.as_slice.ensures.value ∙ c.remove-asker.ensures.items in
     let publisher =
     c.publisher-publisher.ensures
-    ∙ ap (λ (t : Part). alone_at c.as_slice.result.now (place_among_others c.args.m t.publisher)) c.part.ensures
+    ∙ ap (λ (t : Part). state_at c.as_slice.result.now (place_among_others c.args.m t.publisher)) c.part.ensures
     ∙ others_at ms c.as_slice.result.now c.args.m r.there others c.in_ok-want.want.part.publisher
     (publisher_other c.args.g.now g.logs c.args.f c.args.m ms r c.in_ok-want.want claim) in
     can_accept c.args.g.now g.logs c.args.f c.args.m ms r c.in_ok-want.want claim
@@ -63,7 +63,7 @@ returns g c =
     let new = c.answer_from-kept.new.asker in
     let answer = c.answer_from-kept.result in
     let claim =
-    ap (λ (a : Alone). claim_of (alone_plan a) c.args.f)
+    ap (λ (a : MemberState). claim_of (member_plan a) c.args.f)
     (sym (c.index.ensures ∙ get_or_default ms c.args.m c.index.result.now nobody r.there))
     ∙ c.in_ok-want.ensures.claim in
     let asker = c.remove-asker.ensures.value ∙ get_or_default ms c.args.m old nobody r.there in

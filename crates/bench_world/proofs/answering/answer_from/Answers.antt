@@ -1,7 +1,7 @@
 -- That what is lent is taken.
 use Rattle.std.proofs.Common.{◌≡◌, ◌⊎◌, Option, Some, List, ℕ, Ok, Err, IfOk, IfErr, option_map, sym, ◌∙◌, subst}
 use Rattle.repo_store.specs.Served.{served}
-use Rattle.bench_world.specs.declared.event.EventFault.TheVariants as fault
+use Rattle.bench_world.specs.declared.event.EventError.TheVariants as fault
 use Rattle.bench_world.specs.Serving.{judged_packet, found}
 use Rattle.bench_world.specs.Answering.{answered, lender_of}
 use Rattle.bench_world.proofs.answering.answer_from.Goals as goal

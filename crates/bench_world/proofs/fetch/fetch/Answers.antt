@@ -10,10 +10,10 @@ pub phase-requires-clause-few : goal.phase-requires-clause-few
 phase-requires-clause-few g c κs within =
     let can = condition_of_holder c.requires in
     let held = g.H.Holder.words.holdings c.args.holder.now in
-    let truly = g.met.H.Holder.are_holders.holder c.args.g.now g.logs c.args.holder.now can.truly in
+    let consistent = g.met.H.Holder.are_holders.holder c.args.g.now g.logs c.args.holder.now can.consistent in
     let asks = next_asked held None in
     few_jobs (g.N.Net.passes c.args.link.now.net.now) c.args.g.now g.logs held c.args.link.now.others.now
-    c.args.link.now.asker c.args.link.now.loss can.logs.are truly can.others
+    c.args.link.now.asker c.args.link.now.loss can.logs.are consistent can.others
     can.tried _ asks c.deref.result.now (c.deref.ensures.value ∙ c.in_ok-jobs.ensures)
     c.members.result.now c.members.ensures.ring
 
@@ -21,10 +21,10 @@ pub phase-requires-clause-jobs : goal.phase-requires-clause-jobs
 phase-requires-clause-jobs g c κs within =
     let can = condition_of_holder c.requires in
     let held = g.H.Holder.words.holdings c.args.holder.now in
-    let truly = g.met.H.Holder.are_holders.holder c.args.g.now g.logs c.args.holder.now can.truly in
+    let consistent = g.met.H.Holder.are_holders.holder c.args.g.now g.logs c.args.holder.now can.consistent in
     let asks = next_asked held None in
     can_be_tried (g.N.Net.passes c.args.link.now.net.now) c.args.g.now g.logs held
-    c.args.link.now.others.now c.args.link.now.asker c.args.link.now.loss can.logs.are truly can.others
+    c.args.link.now.others.now c.args.link.now.asker c.args.link.now.loss can.logs.are consistent can.others
     can.tried _ asks c.deref.result.now (c.deref.ensures.value ∙ c.in_ok-jobs.ensures)
     c.members.result.now c.members.ensures.ring c.args.tries can.tries.1
 
@@ -32,10 +32,10 @@ pub take-requires-clause-few : goal.take-requires-clause-few
 take-requires-clause-few g c =
     let can = condition_of_holder c.requires in
     let held = g.H.Holder.words.holdings c.args.holder.now in
-    let truly = g.met.H.Holder.are_holders.holder c.args.g.now g.logs c.args.holder.now can.truly in
+    let consistent = g.met.H.Holder.are_holders.holder c.args.g.now g.logs c.args.holder.now can.consistent in
     let asks = next_asked held None in
     few_jobs (g.N.Net.passes c.args.link.now.net.now) c.args.g.now g.logs held c.args.link.now.others.now
-    c.args.link.now.asker c.args.link.now.loss can.logs.are truly can.others
+    c.args.link.now.asker c.args.link.now.loss can.logs.are consistent can.others
     can.tried _ asks c.deref-2.result.now (c.deref-2.ensures.value ∙ c.in_ok-jobs.ensures)
     c.members.result.now c.members.ensures.ring
 
@@ -43,11 +43,11 @@ pub take-requires-clause-outcome : goal.take-requires-clause-outcome
 take-requires-clause-outcome g c =
     let can = condition_of_holder c.requires in
     let held = g.H.Holder.words.holdings c.args.holder.now in
-    let truly = g.met.H.Holder.are_holders.holder c.args.g.now g.logs c.args.holder.now can.truly in
+    let consistent = g.met.H.Holder.are_holders.holder c.args.g.now g.logs c.args.holder.now can.consistent in
     let asks = next_asked held None in
     let came =
     fetch_comes (g.N.Net.passes c.args.link.now.net.now) c.args.g.now g.logs held c.args.link.now.others.now
-    c.args.link.now.asker c.args.link.now.loss can.logs.are truly can.others can.tried _ asks c.deref-2.result.now
+    c.args.link.now.asker c.args.link.now.loss can.logs.are consistent can.others can.tried _ asks c.deref-2.result.now
     (c.deref-2.ensures.value ∙ c.in_ok-jobs.ensures) c.members.result.now c.members.ensures.ring c.args.tries
     can.tries.1 c.deref.result.now (c.deref.ensures.value ∙ c.in_ok-jobs.ensures)
     c.in_ok-outcome.outcome.parts.items c.deref-3.result.now c.deref-3.ensures.value
@@ -58,16 +58,16 @@ pub total-requires : goal.total-requires
 total-requires g c =
     let can = condition_of_holder c.requires in
     let held = g.H.Holder.words.holdings c.args.holder.now in
-    let truly = g.met.H.Holder.are_holders.holder c.args.g.now g.logs c.args.holder.now can.truly in
+    let consistent = g.met.H.Holder.are_holders.holder c.args.g.now g.logs c.args.holder.now can.consistent in
     let asks = next_asked held None in
     let few =
     few_jobs (g.N.Net.passes c.args.link.now.net.now) c.args.g.now g.logs held c.args.link.now.others.now
-    c.args.link.now.asker c.args.link.now.loss can.logs.are truly can.others
+    c.args.link.now.asker c.args.link.now.loss can.logs.are consistent can.others
     can.tried _ asks c.deref-2.result.now (c.deref-2.ensures.value ∙ c.in_ok-jobs.ensures)
     c.members.result.now c.members.ensures.ring in
     let came =
     fetch_comes (g.N.Net.passes c.args.link.now.net.now) c.args.g.now g.logs held c.args.link.now.others.now
-    c.args.link.now.asker c.args.link.now.loss can.logs.are truly can.others can.tried _ asks c.deref-2.result.now
+    c.args.link.now.asker c.args.link.now.loss can.logs.are consistent can.others can.tried _ asks c.deref-2.result.now
     (c.deref-2.ensures.value ∙ c.in_ok-jobs.ensures) c.members.result.now c.members.ensures.ring c.args.tries
     can.tries.1 c.deref.result.now (c.deref.ensures.value ∙ c.in_ok-jobs.ensures)
     c.in_ok-outcome.outcome.parts.items c.deref-3.result.now c.deref-3.ensures.value
@@ -81,18 +81,18 @@ pub returns : goal.returns
 returns g c =
     let can = condition_of_holder c.requires in
     let held = g.H.Holder.words.holdings c.args.holder.now in
-    let truly = g.met.H.Holder.are_holders.holder c.args.g.now g.logs c.args.holder.now can.truly in
+    let consistent = g.met.H.Holder.are_holders.holder c.args.g.now g.logs c.args.holder.now can.consistent in
     let asks = next_asked held None in
     let came =
     fetch_comes (g.N.Net.passes c.args.link.now.net.now) c.args.g.now g.logs held c.args.link.now.others.now
-    c.args.link.now.asker c.args.link.now.loss can.logs.are truly can.others can.tried _ asks c.deref-2.result.now
+    c.args.link.now.asker c.args.link.now.loss can.logs.are consistent can.others can.tried _ asks c.deref-2.result.now
     (c.deref-2.ensures.value ∙ c.in_ok-jobs.ensures) c.members.result.now c.members.ensures.ring c.args.tries
     can.tries.1 c.deref.result.now (c.deref.ensures.value ∙ c.in_ok-jobs.ensures)
     c.in_ok-outcome.outcome.parts.items c.deref-3.result.now c.deref-3.ensures.value
     c.in_ok-outcome.outcome.attempts.items c.deref-4.result.now c.deref-4.ensures.value c.in_ok-outcome.ensures.first in
     let count =
     count_jobs (g.N.Net.passes c.args.link.now.net.now) c.args.g.now g.logs held
-    c.args.link.now.others.now c.args.link.now.asker c.args.link.now.loss can.logs.are truly can.others
+    c.args.link.now.others.now c.args.link.now.asker c.args.link.now.loss can.logs.are consistent can.others
     can.tried _ asks c.deref-2.result.now (c.deref-2.ensures.value ∙ c.in_ok-jobs.ensures)
     c.members.result.now c.members.ensures.ring in
     let same : length c.deref-2.result.now ≡ length c.in_ok-jobs.jobs.items = ap length c.deref-2.ensures.value in

@@ -14,7 +14,7 @@ gather_round-requires g c κs within =
       logs = can.logs;
       others = can.others;
       loss = can.loss;
-      truly = c.rounds.invariant.gains.truly;
+      consistent = c.rounds.invariant.gains.consistent;
       tried =
           tried_still words holders c.args.g.now g.logs c.args.link.now.others.now c.args.holder.now c.rounds.holder
           c.rounds.invariant.gains
@@ -28,7 +28,7 @@ overflow_add-kept g c =
     let holders = g.met.H.Holder.are_holders in
     let most =
     few_held words holders c.args.g.now g.logs can.logs.are c.gather_round.new.holder
-    c.gather_round.ensures.gains.truly in
+    c.gather_round.ensures.gains.consistent in
     let few = can.logs.few in
     let one = c.in_ok-came.ensures.parts in
     let before = c.rounds.invariant.parts in
@@ -41,7 +41,7 @@ overflow_add-kept-in-rounds g c =
     let holders = g.met.H.Holder.are_holders in
     let most =
     few_octets words holders c.args.g.now g.logs can.logs.are c.gather_round.new.holder
-    c.gather_round.ensures.gains.truly in
+    c.gather_round.ensures.gains.consistent in
     let few = can.logs.few in
     let one = c.in_ok-came.ensures.octets in
     let before = c.rounds.invariant.octets in
@@ -54,6 +54,6 @@ rounds-smaller g c =
     let holders = g.met.H.Holder.are_holders in
     let most =
     few_held words holders c.args.g.now g.logs can.logs.are c.gather_round.new.holder
-    c.gather_round.ensures.gains.truly in
+    c.gather_round.ensures.gains.consistent in
     let one = c.in_ok-came.ensures.parts in
     omega (arith, most, one, c.if-came-eq0.false)

@@ -12,10 +12,10 @@ pub phase-requires-clause-few : goal.phase-requires-clause-few
 phase-requires-clause-few g c κs within =
     let can = condition_of_holder c.requires in
     let held = g.H.Holder.words.holdings c.args.holder.now in
-    let truly = g.met.H.Holder.are_holders.holder c.args.g.now g.logs c.args.holder.now can.truly in
+    let consistent = g.met.H.Holder.are_holders.holder c.args.g.now g.logs c.args.holder.now can.consistent in
     let asks = lent_asked held c.args.after c.args.link.now.others.now in
     few_jobs (g.N.Net.passes c.args.link.now.net.now) c.args.g.now g.logs held c.args.link.now.others.now
-    c.args.link.now.asker c.args.link.now.loss can.logs.are truly can.others
+    c.args.link.now.asker c.args.link.now.loss can.logs.are consistent can.others
     can.tried _ asks c.deref-2.result.now (c.deref-2.ensures.value ∙ c.in_ok-jobs.ensures)
     c.members.result.now c.members.ensures.ring
 
@@ -23,10 +23,10 @@ pub phase-requires-clause-jobs : goal.phase-requires-clause-jobs
 phase-requires-clause-jobs g c κs within =
     let can = condition_of_holder c.requires in
     let held = g.H.Holder.words.holdings c.args.holder.now in
-    let truly = g.met.H.Holder.are_holders.holder c.args.g.now g.logs c.args.holder.now can.truly in
+    let consistent = g.met.H.Holder.are_holders.holder c.args.g.now g.logs c.args.holder.now can.consistent in
     let asks = lent_asked held c.args.after c.args.link.now.others.now in
     can_be_tried (g.N.Net.passes c.args.link.now.net.now) c.args.g.now g.logs held
-    c.args.link.now.others.now c.args.link.now.asker c.args.link.now.loss can.logs.are truly can.others
+    c.args.link.now.others.now c.args.link.now.asker c.args.link.now.loss can.logs.are consistent can.others
     can.tried _ asks c.deref-2.result.now (c.deref-2.ensures.value ∙ c.in_ok-jobs.ensures)
     c.members.result.now c.members.ensures.ring 1 (omega arith)
 
@@ -34,10 +34,10 @@ pub take-requires-clause-few : goal.take-requires-clause-few
 take-requires-clause-few g c =
     let can = condition_of_holder c.requires in
     let held = g.H.Holder.words.holdings c.args.holder.now in
-    let truly = g.met.H.Holder.are_holders.holder c.args.g.now g.logs c.args.holder.now can.truly in
+    let consistent = g.met.H.Holder.are_holders.holder c.args.g.now g.logs c.args.holder.now can.consistent in
     let asks = lent_asked held c.args.after c.args.link.now.others.now in
     few_jobs (g.N.Net.passes c.args.link.now.net.now) c.args.g.now g.logs held c.args.link.now.others.now
-    c.args.link.now.asker c.args.link.now.loss can.logs.are truly can.others
+    c.args.link.now.asker c.args.link.now.loss can.logs.are consistent can.others
     can.tried _ asks c.deref-3.result.now (c.deref-3.ensures.value ∙ c.in_ok-jobs.ensures)
     c.members.result.now c.members.ensures.ring
 
@@ -45,12 +45,12 @@ pub take-requires-clause-outcome : goal.take-requires-clause-outcome
 take-requires-clause-outcome g c =
     let can = condition_of_holder c.requires in
     let held = g.H.Holder.words.holdings c.args.holder.now in
-    let truly = g.met.H.Holder.are_holders.holder c.args.g.now g.logs c.args.holder.now can.truly in
+    let consistent = g.met.H.Holder.are_holders.holder c.args.g.now g.logs c.args.holder.now can.consistent in
     let asks = lent_asked held c.args.after c.args.link.now.others.now in
     let long : length c.deref-3.result.now ≡ c.len.result = c.deref-3.ensures.len ∙ sym c.len.ensures in
     let came =
     gather_comes (g.N.Net.passes c.args.link.now.net.now) c.args.g.now g.logs held c.args.link.now.others.now
-    c.args.link.now.asker c.args.link.now.loss can.logs.are truly can.others can.tried _ asks
+    c.args.link.now.asker c.args.link.now.loss can.logs.are consistent can.others can.tried _ asks
     c.deref-3.result.now (c.deref-3.ensures.value ∙ c.in_ok-jobs.ensures) c.members.result.now c.members.ensures.ring
     can.loss (all_lent held c.args.after c.args.link.now.others.now) c.deref-2.result.now
     (c.deref-2.ensures.value ∙ c.in_ok-jobs.ensures)
@@ -64,12 +64,12 @@ pub returns : goal.returns
 returns g c =
     let can = condition_of_holder c.requires in
     let held = g.H.Holder.words.holdings c.args.holder.now in
-    let truly = g.met.H.Holder.are_holders.holder c.args.g.now g.logs c.args.holder.now can.truly in
+    let consistent = g.met.H.Holder.are_holders.holder c.args.g.now g.logs c.args.holder.now can.consistent in
     let asks = lent_asked held c.args.after c.args.link.now.others.now in
     let long : length c.deref-3.result.now ≡ c.len.result = c.deref-3.ensures.len ∙ sym c.len.ensures in
     let came =
     gather_comes (g.N.Net.passes c.args.link.now.net.now) c.args.g.now g.logs held c.args.link.now.others.now
-    c.args.link.now.asker c.args.link.now.loss can.logs.are truly can.others can.tried _ asks
+    c.args.link.now.asker c.args.link.now.loss can.logs.are consistent can.others can.tried _ asks
     c.deref-3.result.now (c.deref-3.ensures.value ∙ c.in_ok-jobs.ensures) c.members.result.now c.members.ensures.ring
     can.loss (all_lent held c.args.after c.args.link.now.others.now) c.deref-2.result.now
     (c.deref-2.ensures.value ∙ c.in_ok-jobs.ensures)
@@ -84,7 +84,7 @@ returns g c =
       place =
           ap (contains part_cmp (next_lent c.args.link.now.others.now c.args.after held)) c.part-place.ensures
           ∙ planned_place (g.N.Net.passes c.args.link.now.net.now) c.args.g.now g.logs held
-          c.args.link.now.others.now c.args.link.now.asker c.args.link.now.loss can.logs.are truly can.others
+          c.args.link.now.others.now c.args.link.now.asker c.args.link.now.loss can.logs.are consistent can.others
           can.tried _ asks c.deref.result.now (c.deref.ensures.value ∙ c.in_ok-jobs.ensures)
           c.members.result.now c.members.ensures.ring
           c.in-Some.last.now (length c.deref.result.now - 1) (sym c.in-Some.ensures.value);

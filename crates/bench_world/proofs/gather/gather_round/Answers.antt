@@ -16,7 +16,7 @@ gather_phase-requires g c κs within =
       logs = can.logs;
       others = can.others;
       loss = can.loss;
-      truly = c.phases.invariant.so_far.gains.truly;
+      consistent = c.phases.invariant.so_far.gains.consistent;
       tried =
           tried_still words holders c.args.g.now g.logs c.args.link.now.others.now c.args.holder.now c.phases.holder
           c.phases.invariant.so_far.gains
@@ -36,7 +36,7 @@ overflow_add-kept g c =
     went_count words holders c.args.g.now g.logs c.args.link.now.others.now can.logs.are can.others
     c.phases.after c.phases.kept.parts c.args.holder.now c.phases.holder c.phases.invariant.so_far
     c.gather_phase.new.holder c.in_ok-place.came.parts c.in_ok-place.ensures.new c.in_ok-place.ensures.parts in
-    let most = few_held words holders c.args.g.now g.logs can.logs.are c.gather_phase.new.holder gains.truly in
+    let most = few_held words holders c.args.g.now g.logs can.logs.are c.gather_phase.new.holder gains.consistent in
     let few = can.logs.few in
     omega (arith, count, most, few)
 
@@ -54,7 +54,7 @@ overflow_add-kept-in-phases g c =
     c.phases.after c.phases.kept.parts c.args.holder.now c.phases.holder c.phases.invariant.so_far
     c.gather_phase.new.holder c.in_ok-place.came.parts c.in_ok-place.ensures.new c.in_ok-place.ensures.parts
     (size_of c.args.g.now g.logs) c.in_ok-place.came.octets c.in_ok-place.ensures.octets in
-    let most = few_octets words holders c.args.g.now g.logs can.logs.are c.gather_phase.new.holder gains.truly in
+    let most = few_octets words holders c.args.g.now g.logs can.logs.are c.gather_phase.new.holder gains.consistent in
     let few = can.logs.few in
     let before = c.phases.invariant.octets in
     omega (arith, count, most, few, before)

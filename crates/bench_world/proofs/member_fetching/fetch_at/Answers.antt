@@ -3,12 +3,12 @@ use Rattle.std.specs.Prelude.{sum_by}
 use Rattle.std.proofs.lemmas.List.{get_or_default}
 use Rattle.std.proofs.lemmas.Result.{on_ok_weaker, on_err_weaker, IfOk-weaker}
 use Rattle.group_model.specs.World.{logs}
-use Rattle.repo_member.specs.Alone.{Alone, alone_holdings}
-use Rattle.repo_member.specs.TrueMembers.{IsTrueMember}
+use Rattle.repo_member.specs.MemberState.{MemberState, member_holdings}
+use Rattle.repo_member.specs.ConsistentMembers.{IsConsistentMember}
 use Rattle.bench_world.specs.Sizes.{size_of}
 use Rattle.bench_world.specs.Truth.{TriedFew}
-use Rattle.bench_world.specs.Worlds.{nobody, AreTrueMembers, MembersAreNumbered}
-use Rattle.bench_world.proofs.TrueOthers.{others_true}
+use Rattle.bench_world.specs.Worlds.{nobody, AreConsistentMembers, MembersAreNumbered}
+use Rattle.bench_world.proofs.ConsistentOthers.{others_consistent}
 use Rattle.bench_world.proofs.EitherAnswer.{either_way}
 use Rattle.bench_world.proofs.GroupFetches.{fetched_at}
 use Rattle.bench_world.proofs.Bounded.{condition, member_passed_on}
@@ -26,13 +26,13 @@ fetch-fetched-requires g c κs within =
       tries = can.tries;
       logs = can.logs;
       others =
-          subst (AreTrueMembers c.args.g.now (logs g.begun)) (sym c.as_slice.ensures.value)
-          (others_true c.args.g.now (logs g.begun) c.args.members.now.items c.remove-member.new.self.items
-          c.args.j can.truly c.remove-member.ensures.items);
-      truly =
-          subst (IsTrueMember c.args.g.now (logs g.begun)) (sym here)
-          (can.truly c.args.j can.there);
-      tried = subst (λ (a : Alone). TriedFew (alone_holdings a)) (sym here) (can.tried c.args.j can.there);
+          subst (AreConsistentMembers c.args.g.now (logs g.begun)) (sym c.as_slice.ensures.value)
+          (others_consistent c.args.g.now (logs g.begun) c.args.members.now.items c.remove-member.new.self.items
+          c.args.j can.consistent c.remove-member.ensures.items);
+      consistent =
+          subst (IsConsistentMember c.args.g.now (logs g.begun)) (sym here)
+          (can.consistent c.args.j can.there);
+      tried = subst (λ (a : MemberState). TriedFew (member_holdings a)) (sym here) (can.tried c.args.j can.there);
     })
 
 pub returns : goal.returns
@@ -41,7 +41,7 @@ returns g c =
     let r = c.fetch-fetched.result in
     let done =
     fetched_at (g.N.Net.passes c.args.net.now) (λ _ _. 0) c.args.g.now g.begun can.logs.are c.args.members.now.items
-    can.begun can.numbers can.truly c.args.j can.there c.args.tries c.args.loss c.remove-member.new.self.items
+    can.begun can.numbers can.consistent c.args.j can.there c.args.tries c.args.loss c.remove-member.new.self.items
     c.as_slice.result.now c.put_back.new.row.items c.remove-member.result c.fetch-fetched.new.holder
     c.remove-member.ensures.value c.remove-member.ensures.items c.as_slice.ensures.value c.put_back.ensures in
     record {
@@ -53,10 +53,10 @@ returns g c =
           c.fetch-fetched.ensures.octets;
       attempts = IfOk-weaker r _ _ (λ _ attempts. attempts ∙ done.attempts) c.fetch-fetched.ensures.attempts;
       len = done.len;
-      truly =
-          either_way r (on_ok_weaker r done.truly c.fetch-fetched.ensures.new)
+      consistent =
+          either_way r (on_ok_weaker r done.consistent c.fetch-fetched.ensures.new)
           (on_err_weaker r (λ stays.
-          subst (AreTrueMembers c.args.g.now (logs g.begun)) (sym (done.same stays)) can.truly)
+          subst (AreConsistentMembers c.args.g.now (logs g.begun)) (sym (done.same stays)) can.consistent)
           c.fetch-fetched.ensures.err);
       numbers =
           either_way r (on_ok_weaker r done.numbers c.fetch-fetched.ensures.new)

@@ -5,7 +5,7 @@ use Rattle.bench_world.specs.MembersHold.{members_hold}
 use Rattle.bench_world.specs.Gathering.{one_each, held_sum, Counts}
 use Rattle.bench_world.specs.Settling.{gain_sum, GatheredSoFar}
 use Rattle.bench_world.specs.Sizes.{size_of}
-use Rattle.bench_world.specs.Worlds.{alone_at}
+use Rattle.bench_world.specs.Worlds.{state_at}
 use Rattle.bench_world.proofs.Rounds.{few_held, few_octets}
 use Rattle.bench_world.proofs.AllGathering.{gathered_none, gathered_part, gathered_more, gathered_all, sum_more}
 use Rattle.bench_world.proofs.AllGathering.{all_sum, sum_ones, partly_all, few_all}
@@ -19,7 +19,7 @@ loop-j-init g c =
     record {
       so_far =
           gathered_none c.args.g.now g.begun can.sound can.logs.are c.args.members.now.items
-          can.learnt can.truly can.numbers
+          can.learnt can.consistent can.numbers
           can.tried;
       parts = refl;
       octets = refl;
@@ -41,7 +41,7 @@ gather_at-requires g c κs within =
         c.args.members.now.ok,
       );
       logs = can.logs;
-      members = c.loop-j.invariant.so_far.all.truly;
+      members = c.loop-j.invariant.so_far.all.consistent;
       tried = c.loop-j.invariant.so_far.all.tried;
     })
 
@@ -59,7 +59,7 @@ returns-in_err-came g c =
       octets = search rules;
       members = search rules;
       len = part.len;
-      truly = part.truly;
+      consistent = part.consistent;
       numbers = part.numbers;
       counts = part.counts;
       err =
@@ -78,7 +78,7 @@ overflow_add-octets g c =
     can.learnt in
     let most =
     few_octets member_words members_hold c.args.g.now (logs g.begun) can.logs.are
-    (alone_at c.gather_at.new.members.items c.loop-j.j) c.gather_at.ensures.gains.truly in
+    (state_at c.gather_at.new.members.items c.loop-j.j) c.gather_at.ensures.gains.consistent in
     let few = can.logs.few in
     let came = c.in_ok-came.ensures.octets in
     omega (arith, inside, sixteen, most, few, came, c.loop-j.invariant.few_octets, c.loop-j.invariant.so_far.all.len)
@@ -88,16 +88,16 @@ loop-j-preserved g c =
     let can = condition c.requires in
     let inside : c.loop-j.j < length c.loop-j.members.items =
     omega (arith, c.loop-j-test.true, c.len-count.ensures, c.loop-j.invariant.so_far.all.len, c.args.members.now.ok) in
-    let many : Counts member_words one_each c.from-parts.result (alone_at c.loop-j.members.items c.loop-j.j)
-    (alone_at c.gather_at.new.members.items c.loop-j.j) =
-    ap (λ n. n + held_sum member_words one_each (alone_at c.loop-j.members.items c.loop-j.j)) c.from-parts.ensures
+    let many : Counts member_words one_each c.from-parts.result (state_at c.loop-j.members.items c.loop-j.j)
+    (state_at c.gather_at.new.members.items c.loop-j.j) =
+    ap (λ n. n + held_sum member_words one_each (state_at c.loop-j.members.items c.loop-j.j)) c.from-parts.ensures
     ∙ c.in_ok-came.ensures.parts in
     let most =
     few_held member_words members_hold c.args.g.now (logs g.begun) can.logs.are
-    (alone_at c.gather_at.new.members.items c.loop-j.j) c.gather_at.ensures.gains.truly in
+    (state_at c.gather_at.new.members.items c.loop-j.j) c.gather_at.ensures.gains.consistent in
     let most_octets =
     few_octets member_words members_hold c.args.g.now (logs g.begun) can.logs.are
-    (alone_at c.gather_at.new.members.items c.loop-j.j) c.gather_at.ensures.gains.truly in
+    (state_at c.gather_at.new.members.items c.loop-j.j) c.gather_at.ensures.gains.consistent in
     let few = can.logs.few in
     record {
       so_far =
@@ -143,7 +143,7 @@ returns g c =
           gathered_all c.args.g.now g.begun can.sound can.logs.are ms can.learnt c.loop-j.members.items
           (subst (λ n. GatheredSoFar c.args.g.now g.begun ms n c.loop-j.members.items) all so_far);
       len = so_far.all.len;
-      truly = so_far.all.truly;
+      consistent = so_far.all.consistent;
       numbers = so_far.all.numbers;
       counts = so_far.all.counts;
       err = tt;

@@ -1,14 +1,14 @@
 use Rattle.std.proofs.Common.{rules, List, refl, sym, subst, ◌∙◌}
 use Rattle.std.specs.Prelude.{IfOk, OnOk}
 use Rattle.std.proofs.lemmas.List.{get_or_default}
-use Rattle.repo_member.specs.Alone.{Alone, alone_holdings}
-use Rattle.repo_member.specs.TrueMembers.{IsTrueMember}
+use Rattle.repo_member.specs.MemberState.{MemberState, member_holdings}
+use Rattle.repo_member.specs.ConsistentMembers.{IsConsistentMember}
 use Rattle.bench_world.specs.Truth.{TriedFew}
-use Rattle.bench_world.specs.Worlds.{nobody, alone_at, AreTrueMembers}
+use Rattle.bench_world.specs.Worlds.{nobody, state_at, AreConsistentMembers}
 use Rattle.bench_world.specs.MemberWords.{member_words}
 use Rattle.bench_world.specs.Gathering.{Counts, NothingLeft, one_each}
 use Rattle.bench_world.specs.Sizes.{size_of}
-use Rattle.bench_world.proofs.TrueOthers.{others_true}
+use Rattle.bench_world.proofs.ConsistentOthers.{others_consistent}
 use Rattle.bench_world.proofs.TakenOut.{put_at, put_between, put_changed}
 use Rattle.bench_world.proofs.Bounded.{condition, member_passed_on}
 use Rattle.bench_world.proofs.member_gathering.gather_at.Goals as goal
@@ -31,14 +31,14 @@ gather-kept-requires g c κs within =
       workers = can.workers;
       logs = can.logs;
       others =
-          subst (AreTrueMembers c.args.g.now g.logs) (sym c.as_slice.ensures.value)
-          (others_true c.args.g.now g.logs c.args.members.now.items c.remove-member.new.self.items c.args.j
+          subst (AreConsistentMembers c.args.g.now g.logs) (sym c.as_slice.ensures.value)
+          (others_consistent c.args.g.now g.logs c.args.members.now.items c.remove-member.new.self.items c.args.j
           can.members c.remove-member.ensures.items);
       loss = refl;
-      truly =
-          subst (IsTrueMember c.args.g.now g.logs) (sym here)
+      consistent =
+          subst (IsConsistentMember c.args.g.now g.logs) (sym here)
           (can.members c.args.j can.there);
-      tried = subst (λ (a : Alone). TriedFew (alone_holdings a)) (sym here) (can.tried c.args.j can.there);
+      tried = subst (λ (a : MemberState). TriedFew (member_holdings a)) (sym here) (can.tried c.args.j can.there);
     })
 
 pub returns-clause-left : goal.returns-clause-left
@@ -47,16 +47,17 @@ returns-clause-left g c =
     let here =
     put_at nobody c.args.members.now.items c.remove-member.new.self.items c.put_back.new.row.items c.args.j
     c.gather-kept.new.holder can.there c.remove-member.ensures.items c.put_back.ensures in
-    subst (λ (others : List Alone).
-    OnOk c.gather-kept.result (NothingLeft member_words others (alone_at c.put_back.new.row.items c.args.j)))
+    subst (λ (others : List MemberState).
+    OnOk c.gather-kept.result (NothingLeft member_words others (state_at c.put_back.new.row.items c.args.j)))
     (c.as_slice.ensures.value ∙ c.remove-member.ensures.items)
-    (subst (λ (a : Alone). OnOk c.gather-kept.result (NothingLeft member_words c.as_slice.result.now a)) (sym here)
+    (subst (λ (a : MemberState). OnOk c.gather-kept.result (NothingLeft member_words c.as_slice.result.now a))
+    (sym here)
     c.gather-kept.ensures.left)
 
 pub returns-clause-parts : goal.returns-clause-parts
 returns-clause-parts g c =
     let can = condition c.requires in
-    let P : Alone → Alone → Type 0 =
+    let P : MemberState → MemberState → Type 0 =
     λ a b. IfOk c.gather-kept.result (λ kept. Counts member_words one_each kept.parts a b) in
     put_between nobody c.args.members.now.items c.remove-member.new.self.items c.put_back.new.row.items c.args.j
     c.gather-kept.new.holder can.there c.remove-member.ensures.items c.put_back.ensures c.remove-member.result P
@@ -67,7 +68,7 @@ returns-clause-parts g c =
 pub returns-clause-octets : goal.returns-clause-octets
 returns-clause-octets g c =
     let can = condition c.requires in
-    let P : Alone → Alone → Type 0 =
+    let P : MemberState → MemberState → Type 0 =
     λ a b. IfOk c.gather-kept.result (λ kept. Counts member_words (size_of c.args.g.now g.logs) kept.octets a b) in
     put_between nobody c.args.members.now.items c.remove-member.new.self.items c.put_back.new.row.items c.args.j
     c.gather-kept.new.holder can.there c.remove-member.ensures.items c.put_back.ensures c.remove-member.result P

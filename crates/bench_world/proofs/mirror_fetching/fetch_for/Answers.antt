@@ -6,7 +6,7 @@ use Rattle.repo_holdings.specs.Taking.{Fetched}
 use Rattle.repo_member.specs.InGroup.{that_came}
 use Rattle.repo_mirror.specs.MirrorState.{MirrorState, mirror_holdings}
 use Rattle.repo_mirror.specs.Passing.{mirror_takes}
-use Rattle.repo_mirror.specs.TrueMirrors.{IsTrueMirror}
+use Rattle.repo_mirror.specs.ConsistentMirrors.{IsConsistentMirror}
 use Rattle.bench_world.specs.Gathering.{next_parts}
 use Rattle.bench_world.specs.MirrorSteps.{no_mirror, mirror_at, mirror_fetched}
 use Rattle.bench_world.specs.Truth.{TriedFew}
@@ -29,7 +29,8 @@ fetch_of_all-fetched-requires g c κs =
           tries = can.tries;
           logs = can.logs;
           others = can.others;
-          truly = subst (IsTrueMirror c.args.g.now (logs_around c.args.members.now)) (sym here) can.truly;
+          consistent = subst (IsConsistentMirror c.args.g.now (logs_around c.args.members.now)) (sym here)
+              can.consistent;
           tried = subst (λ (m : MirrorState). TriedFew (mirror_holdings m)) (sym here) can.tried;
         },
       ),

@@ -2,7 +2,7 @@ use Rattle.std.proofs.Common.{rules, refl}
 use Rattle.std.proofs.lemmas.Result.{on_ok_weaker, IfOk-weaker}
 use Rattle.bench_world.specs.Worlds.{logs_around}
 use Rattle.bench_world.proofs.MirrorSettling.{gains_of}
-use Rattle.bench_world.proofs.MirrorGathering.{as_wide, truly_learnt, few_learnt, gathered}
+use Rattle.bench_world.proofs.MirrorGathering.{as_wide, consistently_learnt, few_learnt, gathered}
 use Rattle.bench_world.proofs.mirror_gathering.gather_for.Goals as goal
 
 pub learn-requires : goal.learn-requires
@@ -22,8 +22,8 @@ gather_of_all-came-requires g c κs =
           logs = can.logs;
           others = can.others;
           loss = refl;
-          truly =
-              truly_learnt c.args.g.now c.args.workers c.args.i c.args.members.now c.args.known.now ms can
+          consistent =
+              consistently_learnt c.args.g.now c.args.workers c.args.i c.args.members.now c.args.known.now ms can
               c.remove-mirror.result c.remove-mirror.ensures.value c.learn.new.self c.learn.ensures;
           tried =
               few_learnt c.args.g.now c.args.workers c.args.i c.args.members.now c.args.known.now ms can
@@ -43,7 +43,7 @@ returns g c =
     c.gather_of_all-came.ensures.gains) in
     record {
       others = done.others;
-      truly = done.truly;
+      consistent = done.consistent;
       settled = on_ok_weaker c.gather_of_all-came.result done.settled c.gather_of_all-came.ensures.left;
       parts =
           IfOk-weaker c.gather_of_all-came.result _ _ (λ parts came. done.held parts came)

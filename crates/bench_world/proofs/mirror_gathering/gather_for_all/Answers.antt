@@ -11,7 +11,7 @@ pub loop-i-init : goal.loop-i-init
 loop-i-init g c =
     let can = c.requires in
     record {
-      so_far = settled_none c.args.g.now (only_members c.args.members.now) c.args.mirrors.now.items can.truly;
+      so_far = settled_none c.args.g.now (only_members c.args.members.now) c.args.mirrors.now.items can.consistent;
       parts = omega arith;
       few = omega arith;
     }
@@ -34,7 +34,7 @@ gather_for-requires g c =
         sound = can.sound;
         others = can.others;
         known = can.known;
-        truly = so_far.truly c.loop-i.i inside;
+        consistent = so_far.consistent c.loop-i.i inside;
         tried =
             subst (λ (m : MirrorState). TriedFew (mirror_holdings m)) (sym (so_far.still c.loop-i.i (omega arith)))
             (can.tried c.loop-i.i begun);
@@ -48,10 +48,10 @@ returns-in_err-came g c =
     let more =
     one_more c.args.g.now (only_members c.args.members.now) c.args.mirrors.now.items c.loop-i.i c.loop-i.mirrors.items
     c.loop-i.invariant.so_far inside c.gather_for.new.mirrors.items c.gather_for.ensures.others
-    c.gather_for.ensures.truly c.gather_for.ensures.partly in
+    c.gather_for.ensures.consistent c.gather_for.ensures.partly in
     record {
       len = more.len;
-      truly = more.truly;
+      consistent = more.consistent;
       settled = search rules;
       parts = search rules;
       partly = more.partly;
@@ -64,7 +64,7 @@ loop-i-preserved g c =
     let more =
     one_more c.args.g.now (only_members c.args.members.now) c.args.mirrors.now.items c.loop-i.i c.loop-i.mirrors.items
     c.loop-i.invariant.so_far inside c.gather_for.new.mirrors.items c.gather_for.ensures.others
-    c.gather_for.ensures.truly c.gather_for.ensures.partly in
+    c.gather_for.ensures.consistent c.gather_for.ensures.partly in
     record {
       so_far = more.settled c.in_ok-came.ensures.settled;
       parts =

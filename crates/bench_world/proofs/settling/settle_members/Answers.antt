@@ -1,6 +1,6 @@
 use Rattle.std.proofs.Common.{◌≡◌, List, length, ap, sym, ◌∙◌, arith}
 use Rattle.svs_vector.specs.Vectors.{join_all}
-use Rattle.repo_member.specs.Alone.{Alone}
+use Rattle.repo_member.specs.MemberState.{MemberState}
 use Rattle.bench_world.proofs.KnownByAll.{knowns, joined_short}
 use Rattle.bench_world.proofs.EitherAnswer.{where_err}
 use Rattle.bench_world.proofs.Learnt.{few_members, widths, own_known, all_width, have_learnt, counts_then}
@@ -8,35 +8,36 @@ use Rattle.bench_world.proofs.Learnt.{partly_none}
 use Rattle.bench_world.proofs.Bounded.{condition, passed_on}
 use Rattle.bench_world.proofs.settling.settle_members.Goals as goal
 
-pub returns-in_err-told-clause-err : goal.returns-in_err-told-clause-err
-returns-in_err-told-clause-err g c =
+pub returns-in_err-reported-clause-err : goal.returns-in_err-reported-clause-err
+returns-in_err-reported-clause-err g c =
     let can = condition c.requires in
     where_err c.from_residual.result
-    (partly_none c.args.g.now g.begun can.logs.are can.sound c.args.members.now.items can.begun can.truly)
+    (partly_none c.args.g.now g.begun can.logs.are can.sound c.args.members.now.items can.begun can.consistent)
 
 pub returns-in_err-known-clause-err : goal.returns-in_err-known-clause-err
 returns-in_err-known-clause-err g c =
     let can = condition c.requires in
     where_err c.from_residual-in_err-known.result
-    (partly_none c.args.g.now g.begun can.logs.are can.sound c.args.members.now.items can.begun can.truly)
+    (partly_none c.args.g.now g.begun can.logs.are can.sound c.args.members.now.items can.begun can.consistent)
 
 pub learn_all-requires : goal.learn_all-requires
 learn_all-requires g c =
     let can = condition c.requires in
     let ms = c.args.members.now.items in
     let all : c.in_ok-known.known ≡ join_all (knowns ms) =
-    c.in_ok-known.ensures ∙ ap (λ (as_ : List Alone). join_all (knowns as_)) c.as_slice-2.ensures.value in
+    c.in_ok-known.ensures ∙ ap (λ (as_ : List MemberState). join_all (knowns as_)) c.as_slice-2.ensures.value in
     let long : length c.in_ok-known.known ≡ length (join_all (knowns ms)) = ap length all in
-    let wide = widths c.args.g.now g.begun can.logs.are can.sound ms can.begun can.truly in
+    let wide = widths c.args.g.now g.begun can.logs.are can.sound ms can.begun can.consistent in
     let short = joined_short ms wide in
-    let few = few_members c.args.g.now g.begun can.logs.are can.sound ms can.begun can.truly in
+    let few = few_members c.args.g.now g.begun can.logs.are can.sound ms can.begun can.consistent in
     record {
       few = omega (arith, long, short, few);
       width = λ j l.
           wide j l
-          ∙ sym (all_width c.args.g.now g.begun can.logs.are can.sound ms can.begun can.truly c.in_ok-known.known all
+          ∙ sym (all_width c.args.g.now g.begun can.logs.are can.sound ms can.begun can.consistent c.in_ok-known.known
+          all
           j l);
-      own = own_known c.args.g.now g.begun can.logs.are can.sound ms can.begun can.truly c.in_ok-known.known all;
+      own = own_known c.args.g.now g.begun can.logs.are can.sound ms can.begun can.consistent c.in_ok-known.known all;
     }
 
 pub gather_all-requires : goal.gather_all-requires
@@ -44,9 +45,9 @@ gather_all-requires g c κs within =
     let can = condition c.requires in
     let ms = c.args.members.now.items in
     let all : c.in_ok-known.known ≡ join_all (knowns ms) =
-    c.in_ok-known.ensures ∙ ap (λ (as_ : List Alone). join_all (knowns as_)) c.as_slice-2.ensures.value in
+    c.in_ok-known.ensures ∙ ap (λ (as_ : List MemberState). join_all (knowns as_)) c.as_slice-2.ensures.value in
     let done =
-    have_learnt c.args.g.now g.begun can.logs.are can.sound ms can.begun can.truly c.in_ok-known.known all
+    have_learnt c.args.g.now g.begun can.logs.are can.sound ms can.begun can.consistent c.in_ok-known.known all
     c.learn_all.new.members.items c.learn_all.ensures.len c.learn_all.ensures.each in
     passed_on within c.requires
     (record {
@@ -54,7 +55,7 @@ gather_all-requires g c κs within =
       logs = can.logs;
       sound = can.sound;
       learnt = done.learnt;
-      truly = done.truly;
+      consistent = done.consistent;
       numbers = done.numbers can.numbers;
       tried = done.tried can.tried;
     })
@@ -64,9 +65,9 @@ returns-clause-counts g c =
     let can = condition c.requires in
     let ms = c.args.members.now.items in
     let all : c.in_ok-known.known ≡ join_all (knowns ms) =
-    c.in_ok-known.ensures ∙ ap (λ (as_ : List Alone). join_all (knowns as_)) c.as_slice-2.ensures.value in
+    c.in_ok-known.ensures ∙ ap (λ (as_ : List MemberState). join_all (knowns as_)) c.as_slice-2.ensures.value in
     let done =
-    have_learnt c.args.g.now g.begun can.logs.are can.sound ms can.begun can.truly c.in_ok-known.known all
+    have_learnt c.args.g.now g.begun can.logs.are can.sound ms can.begun can.consistent c.in_ok-known.known all
     c.learn_all.new.members.items c.learn_all.ensures.len c.learn_all.ensures.each in
     counts_then ms c.learn_all.new.members.items c.gather_all.new.members.items done.counts
     c.gather_all.ensures.counts
@@ -76,9 +77,9 @@ returns-in_err-parts-clause-counts g c =
     let can = condition c.requires in
     let ms = c.args.members.now.items in
     let all : c.in_ok-known.known ≡ join_all (knowns ms) =
-    c.in_ok-known.ensures ∙ ap (λ (as_ : List Alone). join_all (knowns as_)) c.as_slice-2.ensures.value in
+    c.in_ok-known.ensures ∙ ap (λ (as_ : List MemberState). join_all (knowns as_)) c.as_slice-2.ensures.value in
     let done =
-    have_learnt c.args.g.now g.begun can.logs.are can.sound ms can.begun can.truly c.in_ok-known.known all
+    have_learnt c.args.g.now g.begun can.logs.are can.sound ms can.begun can.consistent c.in_ok-known.known all
     c.learn_all.new.members.items c.learn_all.ensures.len c.learn_all.ensures.each in
     counts_then ms c.learn_all.new.members.items c.gather_all.new.members.items done.counts
     c.gather_all.ensures.counts

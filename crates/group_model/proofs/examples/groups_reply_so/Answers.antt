@@ -70,9 +70,9 @@ pub returns-clause-deleted_before : goal.returns-clause-deleted_before
 unfolding join join_all covers
 returns-clause-deleted_before c = (refl, refl)
 
-pub returns-clause-told_of_all : goal.returns-clause-told_of_all
+pub returns-clause-informed_of_all : goal.returns-clause-informed_of_all
 unfolding join join_all covers
-returns-clause-told_of_all c = (refl, refl)
+returns-clause-informed_of_all c = (refl, refl)
 
 pub returns-clause-join_of_them : goal.returns-clause-join_of_them
 unfolding join join_all covers
@@ -82,9 +82,9 @@ pub returns-clause-withdrawn_before : goal.returns-clause-withdrawn_before
 unfolding join join_all covers
 returns-clause-withdrawn_before c = (refl, refl)
 
-pub returns-clause-behind_index_packets : goal.returns-clause-behind_index_packets
+pub returns-clause-after_index_packets : goal.returns-clause-after_index_packets
 unfolding join join_all covers
-returns-clause-behind_index_packets c = (refl, refl)
+returns-clause-after_index_packets c = (refl, refl)
 
 pub returns-clause-withdrawn_after : goal.returns-clause-withdrawn_after
 unfolding join join_all covers

@@ -1,5 +1,5 @@
 use Rattle.std.specs.Option.{option_map}
-use Rattle.script_story.specs.Judging.{given_by}
+use Rattle.script_story.specs.Judging.{env_by}
 use Rattle.lab_text.specs.declared.status.LabStatus.TheVariants.{NoMemory}
 use Rattle.lab_lines.specs.Carrying.{RunEnds}
 use Rattle.lab_lines.specs.Folding.{form_outcome}
@@ -10,13 +10,13 @@ use Rattle.lab_lines.proofs.reading.run_form.Goals as goal
 
 pub returns-in_default-clause-writes : goal.returns-in_default-clause-writes
 returns-in_default-clause-writes g c =
-    let of = form_outcome g.F.Form.form (given_by (g.D.Draws.draw c.args.draws.now) (g.N.Net.passes c.args.net.now))
+    let of = form_outcome g.F.Form.form (env_by (g.D.Draws.draw c.args.draws.now) (g.N.Net.passes c.args.net.now))
     c.args.form.now in
     unwritten (option_map of (g.S.Source.left c.args.source.now)) (g.K.Sink.out c.args.sink.now)
 
 pub returns-in_default-clause-causes : goal.returns-in_default-clause-causes
 returns-in_default-clause-causes g c =
-    let of = form_outcome g.F.Form.form (given_by (g.D.Draws.draw c.args.draws.now) (g.N.Net.passes c.args.net.now))
+    let of = form_outcome g.F.Form.form (env_by (g.D.Draws.draw c.args.draws.now) (g.N.Net.passes c.args.net.now))
     c.args.form.now in
     let out = g.K.Sink.out c.args.sink.now in
     let story = option_map of (g.S.Source.left c.args.source.now) in
@@ -25,43 +25,43 @@ returns-in_default-clause-causes g c =
 pub returns-in_default-clause-lines : goal.returns-in_default-clause-lines
 returns-in_default-clause-lines g c =
     let f = g.F.Form.form in
-    let given = given_by (g.D.Draws.draw c.args.draws.now) (g.N.Net.passes c.args.net.now) in
+    let env = env_by (g.D.Draws.draw c.args.draws.now) (g.N.Net.passes c.args.net.now) in
     let out = g.K.Sink.out c.args.sink.now in
-    known_same (WritesLines f given c.args.form.now out out NoMemory)
-    (λ input. failing_lines f given c.args.form.now out out NoMemory input input (λ e. cc) (λ e. e))
+    known_same (WritesLines f env c.args.form.now out out NoMemory)
+    (λ input. failing_lines f env c.args.form.now out out NoMemory input input (λ e. cc) (λ e. e))
     (g.S.Source.left c.args.source.now)
 
 pub returns-clause-writes : goal.returns-clause-writes
 returns-clause-writes g c =
     let f = g.F.Form.form in
-    let given = given_by (g.D.Draws.draw c.args.draws.now) (g.N.Net.passes c.args.net.now) in
+    let env = env_by (g.D.Draws.draw c.args.draws.now) (g.N.Net.passes c.args.net.now) in
     let out = g.K.Sink.out c.args.sink.now in
     let after = g.K.Sink.out c.run_lines.new.sink in
-    outcome_written (form_outcome f given c.args.form.now)
-    (RunEnds f given c.args.form.now out after c.run_lines.result)
+    outcome_written (form_outcome f env c.args.form.now)
+    (RunEnds f env c.args.form.now out after c.run_lines.result)
     (g.S.Source.left c.args.source.now) (g.S.Source.left c.run_lines.new.source) out after c.run_lines.result
     (λ input rest run. run.ends) c.run_lines.ensures.runs
 
 pub returns-clause-causes : goal.returns-clause-causes
 returns-clause-causes g c =
     let f = g.F.Form.form in
-    let given = given_by (g.D.Draws.draw c.args.draws.now) (g.N.Net.passes c.args.net.now) in
+    let env = env_by (g.D.Draws.draw c.args.draws.now) (g.N.Net.passes c.args.net.now) in
     let out = g.K.Sink.out c.args.sink.now in
     let after = g.K.Sink.out c.run_lines.new.sink in
-    let writes = outcome_written (form_outcome f given c.args.form.now)
-    (RunEnds f given c.args.form.now out after c.run_lines.result) (g.S.Source.left c.args.source.now)
+    let writes = outcome_written (form_outcome f env c.args.form.now)
+    (RunEnds f env c.args.form.now out after c.run_lines.result) (g.S.Source.left c.args.source.now)
     (g.S.Source.left c.run_lines.new.source) out after c.run_lines.result (λ input rest run. run.ends)
     c.run_lines.ensures.runs in
-    has_cause (option_map (form_outcome f given c.args.form.now) (g.S.Source.left c.args.source.now)) out after
+    has_cause (option_map (form_outcome f env c.args.form.now) (g.S.Source.left c.args.source.now)) out after
     c.run_lines.result c.run_lines.ensures.read_fault c.run_lines.ensures.write_fault c.run_lines.ensures.never_usage
     writes
 
 pub returns-clause-lines : goal.returns-clause-lines
 returns-clause-lines g c =
     let f = g.F.Form.form in
-    let given = given_by (g.D.Draws.draw c.args.draws.now) (g.N.Net.passes c.args.net.now) in
+    let env = env_by (g.D.Draws.draw c.args.draws.now) (g.N.Net.passes c.args.net.now) in
     let out = g.K.Sink.out c.args.sink.now in
     let after = g.K.Sink.out c.run_lines.new.sink in
-    known_map (RunEnds f given c.args.form.now out after c.run_lines.result)
-    (WritesLines f given c.args.form.now out after c.run_lines.result) (λ input rest run. run.lines)
+    known_map (RunEnds f env c.args.form.now out after c.run_lines.result)
+    (WritesLines f env c.args.form.now out after c.run_lines.result) (λ input rest run. run.lines)
     (g.S.Source.left c.args.source.now) (g.S.Source.left c.run_lines.new.source) c.run_lines.ensures.runs

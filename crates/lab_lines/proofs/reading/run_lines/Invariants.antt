@@ -1,5 +1,5 @@
 use Rattle.std.proofs.Common.{◌≤◌, ◌-◌}
-use Rattle.script_story.specs.Judging.{given_by}
+use Rattle.script_story.specs.Judging.{env_by}
 use Rattle.script_lines.specs.Scripts.{IsScript, reached}
 use Rattle.lab_lines.specs.Carrying.{Carried, passed}
 use Rattle.lab_lines.specs.Folding.{most_lines, most_octets}
@@ -9,7 +9,7 @@ use Rattle.lab_lines.proofs.reading.run_lines.Given as goal
 abbrev pub invariant-loop-count : goal.invariant-loop-count
 invariant-loop-count g l = record {
   so_far : Known (g.S.Source.left l.fn.source) (g.S.Source.left l.source)
-      (Carried g.F.Form.form (given_by (g.D.Draws.draw l.draws) (g.N.Net.passes l.net)) l.fn.form l.reader
+      (Carried g.F.Form.form (env_by (g.D.Draws.draw l.draws) (g.N.Net.passes l.net)) l.fn.form l.reader
       (passed l.totals (reached l.script)) l.form (g.K.Sink.out l.fn.sink) (g.K.Sink.out l.sink));
   is : IsScript l.script;
   lines : l.totals.lines ≤ most_lines;

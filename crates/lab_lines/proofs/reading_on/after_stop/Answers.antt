@@ -23,7 +23,7 @@ returns-in-Ok-clause-ends g c =
     after_on f c.args.ending c.args.totals c.args.form.now (take c.args.count c.args.reader.now)
     (drop c.args.count c.args.reader.now) (g.K.Sink.out c.args.sink.now) (g.K.Sink.out c.end_form-in-Ok.new.sink)
     c.end_form-in-Ok.result c.has_end-ended.result c.read_on.new.form (sym c.reads_on.ensures ∙ c.if-not-reads_on.false)
-    (c.has_end-ended.ensures ∙ ap (ends_with 10) c.front.ensures) c.end_form-in-Ok.ensures.settled
+    (c.has_end-ended.ensures ∙ ap (ends_with 10) c.prefix.ensures) c.end_form-in-Ok.ensures.settled
     c.end_form-in-Ok.ensures.ends before now (subst P c.pass.ensures c.in-Ok.ensures.read)
 
 pub returns-in-Err-clause-ends : goal.returns-in-Err-clause-ends

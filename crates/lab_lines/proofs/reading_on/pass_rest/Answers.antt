@@ -20,7 +20,7 @@ returns-then-ended-clause-passed g c =
     let P : Bool → Type 0 = λ ended. IsPiece left now count ended in
     let piece = subst P c.if-ended.true c.in_ok-count.ensures.piece in
     let more : List ℕ → ℕ = λ x. t.octets + length x in
-    let octets = c.count_more.ensures.octets ∙ ap more c.front.ensures in
+    let octets = c.count_more.ensures.octets ∙ ap more c.prefix.ensures in
     let Q : List ℕ → Type 0 = λ x. Known before now (RestIsPassed old c.count_more.new.self entry x (Ok (tt {0}))) in
     subst Q (sym c.pass.ensures)
     (known_passed old t entry left c.count_more.new.self count octets c.count_more.ensures.lines before now piece h)
@@ -39,7 +39,7 @@ loop-reader-preserved g c =
     let P : Bool → Type 0 = λ ended. IsPiece left now count ended in
     let piece = subst P c.if-ended.false c.in_ok-count.ensures.piece in
     let more : List ℕ → ℕ = λ x. t.octets + length x in
-    let octets = c.count_more.ensures.octets ∙ ap more c.front.ensures in
+    let octets = c.count_more.ensures.octets ∙ ap more c.prefix.ensures in
     let Q : List ℕ → Type 0 = λ x. Known before now (Passing old c.count_more.new.self entry x) in
     record {
       passing = subst Q (sym c.pass.ensures)

@@ -35,7 +35,7 @@ returns-then-not-is_next_note-clause-read g c =
     let h = notes_kept f old m entry t n c.loop-count.reader left before (g.S.Source.left c.loop-count.source) now
     c.in-Ok.ensures.kept c.loop-count.invariant.so_far in
     let P : List ℕ → Type 0 = λ x. (fits t.lines t.octets x && is_note x) ≡ false in
-    let other = subst P c.front-line.ensures (sym c.is_next_note.ensures ∙ c.if-not-is_next_note.true) in
+    let other = subst P c.prefix-line.ensures (sym c.is_next_note.ensures ∙ c.if-not-is_next_note.true) in
     known_notes f old m entry t n left c.in-Ok.count c.in-Ok.field-0-1 before now c.in-Ok.ensures.piece other h
 
 pub returns-in_default-note-clause-read : goal.returns-in_default-note-clause-read
@@ -68,10 +68,10 @@ loop-count-preserved g c =
     let h = notes_kept f old m entry t n c.loop-count.reader left before (g.S.Source.left c.loop-count.source) now
     c.in-Ok.ensures.kept c.loop-count.invariant.so_far in
     let P : List ℕ → Type 0 = λ x. (fits t.lines t.octets x && is_note x) ≡ true in
-    let taken = subst P c.front-line.ensures (sym c.is_next_note.ensures ∙ c.if-not-is_next_note.false) in
+    let taken = subst P c.prefix-line.ensures (sym c.is_next_note.ensures ∙ c.if-not-is_next_note.false) in
     let more : List ℕ → ℕ = λ x. t.octets + length x in
-    let octets = c.count.ensures.octets ∙ ap more c.front-line.ensures in
-    let kept = c.in-Ok-note.ensures ∙ ap (f.note n) c.front-line.ensures in
+    let octets = c.count.ensures.octets ∙ ap more c.prefix-line.ensures in
+    let kept = c.in-Ok-note.ensures ∙ ap (f.note n) c.prefix-line.ensures in
     let Q : List ℕ → Type 0 = λ x. Known before now (NotesSoFar f old c.count.new.self m c.note.new.self entry x) in
     record {
       so_far = subst Q (sym c.pass.ensures)

@@ -14,4 +14,4 @@ pub returns-clause-writes : goal.returns-clause-writes
 returns-clause-writes g c =
     let same : c.deref.result.now ≡ (outcome_in c.args.octets.now).text = search rules in
     written_short (outcome_in c.args.octets.now) (g.K.Sink.out c.args.sink.now) (g.K.Sink.out c.write_whole.new.sink)
-    c.deref.result.now c.in-Err.field-0.written same c.in-Err.ensures.missing c.in-Err.ensures.front
+    c.deref.result.now c.in-Err.field-0.written same c.in-Err.ensures.missing c.in-Err.ensures.prefix

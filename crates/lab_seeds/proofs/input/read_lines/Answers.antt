@@ -19,7 +19,7 @@ returns-then-not-branch-clause-read g c =
     let was = c.in_ok-take-in-Line.was in
     let result : c.take.result ≡ Ok false = cc in
     let beyond : fits so.totals (take count held) ≡ false =
-    subst (λ (l : List ℕ). fits so.totals l ≡ false) c.front.ensures (c.take.ensures.cut result) in
+    subst (λ (l : List ℕ). fits so.totals l ≡ false) c.prefix.ensures (c.take.ensures.cut result) in
     let is : lines_read c.cut_off.result ≡ script_lines_are (octets_of so.lines.items) true =
     c.cut_off.ensures ∙ ap (λ (ls : List (List ℕ)). script_lines_are ls true) (c.take.ensures.same result) in
     known_cut held a b count h (octets_of so.lines.items) so.totals c.cut_off.result beyond is read
@@ -39,7 +39,7 @@ loop-so_far-preserved g c =
     let was = c.in_ok-take-in-Line.was in
     let result : c.take.result ≡ Ok true = cc in
     let takes : Takes so (take count held) new =
-    subst (λ (l : List ℕ). Takes so l new) c.front.ensures (c.take.ensures.taken result) in
+    subst (λ (l : List ℕ). Takes so l new) c.prefix.ensures (c.take.ensures.taken result) in
     let line = known_taken held a b count h so new takes read in
     record {
       so_far = subst (λ (left : List ℕ). Known a b (Reads left (octets_of new.lines.items) new.totals))

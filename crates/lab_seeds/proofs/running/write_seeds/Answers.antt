@@ -52,4 +52,4 @@ returns g c =
     let n = c.in-Err.field-0.written in
     let value = c.as_bytes.ensures.value in
     fell_short it a Failed b text is n (subst (λ (t : List ℕ). n < length t) value c.in-Err.ensures.missing)
-    (subst (λ (t : List ℕ). GainsText a b (take n t)) value c.in-Err.ensures.front) c.in-Err.ensures.risen
+    (subst (λ (t : List ℕ). GainsText a b (take n t)) value c.in-Err.ensures.prefix) c.in-Err.ensures.risen

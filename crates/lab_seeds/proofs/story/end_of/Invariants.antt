@@ -1,6 +1,6 @@
 use Rattle.std.proofs.Common.{drop}
 use Rattle.bench_net.specs.Keystream.{seeded_draw, seeded_passes}
-use Rattle.script_story.specs.Judging.{given_by}
+use Rattle.script_story.specs.Judging.{env_by}
 use Rattle.script_lines.specs.Scripts.{IsScript, reached}
 use Rattle.lab_seeds.specs.Reading.{lines_read, octets_of}
 use Rattle.lab_seeds.proofs.StoryEnds.{Carries}
@@ -8,7 +8,7 @@ use Rattle.lab_seeds.proofs.story.end_of.Given as goal
 
 abbrev pub invariant-loop-line : goal.invariant-loop-line
 invariant-loop-line g l = record {
-  so_far : Carries (given_by (seeded_draw l.seeded) (seeded_passes l.seeded)) (lines_read l.script)
+  so_far : Carries (env_by (seeded_draw l.seeded) (seeded_passes l.seeded)) (lines_read l.script)
       (octets_of (drop l.line-index l.script.lines.items)) (reached l.state);
   is : IsScript l.state;
 }

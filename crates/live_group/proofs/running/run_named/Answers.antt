@@ -3,7 +3,7 @@ use Rattle.std.specs.List.{All}
 use Rattle.std.proofs.lemmas.List.{length-map}
 use Rattle.live_actors.specs.declared.actor.Actor.{Actor}
 use Rattle.live_member.specs.Meanings.{Meaning}
-use Rattle.live_group.specs.Jobs.{actor_of, actors_below, all_tickets, IsActorBelow, HasLines}
+use Rattle.live_group.specs.Jobs.{actor_of, actors_below, all_tickets, IsActorBelow, HasSenders}
 use Rattle.live_group.specs.Desks.{tickets_each}
 use Rattle.live_group.specs.Outs.{all_left}
 use Rattle.live_settle.proofs.Places.{length-below}
@@ -80,8 +80,8 @@ act_all-requires-clause-jobs g c κs within =
     (subst (λ (k : ℕ). All (IsActorBelow k) c.in_ok-jobs.jobs.items) same
     (actors_there {L = g.row.L.Denot} c.len-members.result c.in_ok-jobs.jobs.items c.in_ok-jobs.ensures.actors))
 
-pub act_all-requires-clause-lines : goal.act_all-requires-clause-lines
-act_all-requires-clause-lines g c κs within =
+pub act_all-requires-clause-senders : goal.act_all-requires-clause-senders
+act_all-requires-clause-senders g c κs within =
     let n = length g.L.Lists.meaning.lists in
     let seats : length c.as_slice.result.now ≡ n =
     ap length c.as_slice.ensures.value ∙ ap length c.in_ok-seats.ensures.seats ∙ length-below n in
@@ -89,9 +89,9 @@ act_all-requires-clause-lines g c κs within =
     let wide = length-map c.args.lists.items (λ v. v.items) in
     let same : c.len-members.result ≡ length c.as_slice.result.now = omega (arith, seats, lists, wide) in
     let jobs = c.in_ok-jobs.ensures in
-    of_each {L = g.row.L.Denot} (λ t. t.job) (HasLines (length c.as_slice.result.now)) c.in_ok-jobs-2.jobs.items
+    of_each {L = g.row.L.Denot} (λ t. t.job) (HasSenders (length c.as_slice.result.now)) c.in_ok-jobs-2.jobs.items
     c.in_ok-jobs.jobs.items c.in_ok-jobs-2.ensures.jobs
-    (subst (λ (k : ℕ). All (HasLines k) c.in_ok-jobs.jobs.items) same
+    (subst (λ (k : ℕ). All (HasSenders k) c.in_ok-jobs.jobs.items) same
     (lines_there {L = g.row.L.Denot} c.len-members.result jobs.inboxes c.in_ok-jobs.jobs.items jobs.width jobs.wired))
 
 pub all_placed-requires-clause-none_left : goal.all_placed-requires-clause-none_left
@@ -155,4 +155,4 @@ pub returns-clause-acted : goal.returns-clause-acted
 returns-clause-acted g c =
     have_run g.L.Lists.meaning g.L.Run.turns c.in_ok-lives.lives.items c.in_ok-seats.seats.items
     (c.in_ok-lives.ensures.numbers ∙ c.in_ok-outs.ensures.numbers) c.in_ok-lives.ensures.outs c.settle.result
-    c.in_ok-seats.ensures.seats c.settle.ensures.rans c.settle.ensures.fronts
+    c.in_ok-seats.ensures.seats c.settle.ensures.rans c.settle.ensures.prefixes

@@ -1,7 +1,7 @@
 use Rattle.std.proofs.Common.{◌∙◌, ◌<◌, ◌≤◌, arith, length}
 use Rattle.live_member.specs.Lives.{Living}
 use Rattle.live_settle.specs.Ready.{IsGathering, IsJoined}
-use Rattle.live_settle.proofs.Places.{ready_still, rest_stays, one_more, fronts_still}
+use Rattle.live_settle.proofs.Places.{ready_still, rest_stays, one_more, prefixes_still}
 use Rattle.live_settle.proofs.gather.all_gather.Goals as goal
 
 pub loop-j-preserved : goal.loop-j-preserved
@@ -18,5 +18,5 @@ loop-j-preserved g c =
       h.only.width ∙ is.2,
       rest_stays j old new h.only (IsGathering t) is.3,
       one_more j old new h.only (IsJoined t) h.joined is.4,
-      fronts_still j old new h.only c.args.lives.now is.5,
+      prefixes_still j old new h.only c.args.lives.now is.5,
     )

@@ -1,5 +1,5 @@
 use Rattle.std.proofs.Common.{◌≡◌, ℕ, ◌<◌, ◌≤◌, length}
-use Rattle.live_settle.specs.Ready.{at, AreReady, HasRoom, KeepFronts, IsGathering, IsJoined}
+use Rattle.live_settle.specs.Ready.{at, AreReady, HasRoom, KeepPrefixes, IsGathering, IsJoined}
 use Rattle.live_settle.proofs.gather.all_gather.Given as goal
 
 abbrev pub invariant-loop-j : goal.invariant-loop-j
@@ -7,4 +7,4 @@ invariant-loop-j g l =
     AreReady g.L.Lists.meaning l.lives × HasRoom l.j 900232 l.lives × (length l.lives ≡ length l.fn.lives)
     × ((p : ℕ) → l.j ≤ p → p < length l.lives → IsGathering g.L.Lists.meaning (at l.lives p))
     × ((p : ℕ) → p < l.j → IsJoined g.L.Lists.meaning (at l.lives p))
-    × KeepFronts l.fn.lives l.lives
+    × KeepPrefixes l.fn.lives l.lives

@@ -2,7 +2,7 @@ use Rattle.std.proofs.Common.{◌≡◌, ◌∙◌, ap, sym, subst, arith, Optio
 use Rattle.std.specs.Prelude.{IfSome}
 use Rattle.std.specs.Option.{option_map}
 use Rattle.std.proofs.lemmas.List.{length-set}
-use Rattle.live_member.specs.Tellings.{Loan}
+use Rattle.live_member.specs.Reports.{Loan}
 use Rattle.live_settle.proofs.Passes.{joins_at, publisher_in, never_none, turned_at}
 use Rattle.live_settle.proofs.gather.turn.Goals as goal
 

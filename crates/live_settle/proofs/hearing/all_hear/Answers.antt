@@ -2,7 +2,7 @@ use Rattle.std.proofs.Common.{◌∙◌, ◌<◌, ◌≤◌, arith, length}
 use Rattle.live_member.specs.Lives.{Living}
 use Rattle.live_settle.specs.Ready.{IsGathering}
 use Rattle.live_settle.proofs.Passes.{hears_gathering}
-use Rattle.live_settle.proofs.Places.{ready_still, rest_stays, one_more, fronts_still}
+use Rattle.live_settle.proofs.Places.{ready_still, rest_stays, one_more, prefixes_still}
 use Rattle.live_settle.proofs.hearing.all_hear.Goals as goal
 
 pub loop-j-preserved : goal.loop-j-preserved
@@ -20,5 +20,5 @@ loop-j-preserved g c =
       h.only.width ∙ is.2,
       one_more j old new h.only (λ (l : Living). IsGathering t l × (length l.journal ≤ 900232))
           (hears_gathering t j old new h, omega (arith, h.few, room)) is.3,
-      fronts_still j old new h.only c.args.lives.now is.4,
+      prefixes_still j old new h.only c.args.lives.now is.4,
     )

@@ -1,7 +1,7 @@
 use Rattle.std.proofs.Common.{◌∙◌, ◌<◌, ◌≤◌, ap, sym, subst, arith, length, set}
 use Rattle.live_member.specs.Lives.{Living, IsLive}
 use Rattle.live_settle.specs.Ready.{Continues, Only, IsReady}
-use Rattle.live_settle.proofs.Places.{at_found, at_set, only_set, placed_still, rest_stays, one_more, fronts_still}
+use Rattle.live_settle.proofs.Places.{at_found, at_set, only_set, placed_still, rest_stays, one_more, prefixes_still}
 use Rattle.live_settle.proofs.ready.all_ready.Goals as goal
 
 pub loop-j-preserved : goal.loop-j-preserved
@@ -16,7 +16,7 @@ loop-j-preserved g c =
     let found = at_found old j c.index-lives-j.result there in
     let only : Only j old (set old j live) =
     only_set old j live there (h.number ∙ ap (λ (l : Living). l.state.number) found)
-    (subst (λ (l : Living). Continues l.journal live.journal) found h.front) in
+    (subst (λ (l : Living). Continues l.journal live.journal) found h.prefix) in
     let new = set old j live in (
       placed_still j old new only t there is.0,
       rest_stays j old new only (λ (l : Living). length l.journal ≤ 900000) is.1,
@@ -25,5 +25,5 @@ loop-j-preserved g c =
       one_more j old new only (λ (l : Living). IsReady t l × (length l.journal ≤ 900216))
           (subst (λ (l : Living). IsReady t l × (length l.journal ≤ 900216)) (sym (at_set old j live there))
           (h.ready, h.entries)) is.4,
-      fronts_still j old new only c.args.lives.now is.5,
+      prefixes_still j old new only c.args.lives.now is.5,
     )

@@ -1,10 +1,10 @@
 use Rattle.std.proofs.Common.{◌≡◌, ◌∙◌, List, sym, ap, subst, arith, length}
 use Rattle.std.proofs.lemmas.Result.{IfOk-weaker}
 use Rattle.live_member.specs.Lives.{Living}
-use Rattle.live_settle.specs.Ready.{ArePlaced, KeepFronts}
-use Rattle.live_settle.proofs.Ending.{fronts_come_out}
-use Rattle.live_settle.proofs.Fronts.{fronts_on}
-use Rattle.live_settle.proofs.Places.{placed_from, numbers_in_front, in_front}
+use Rattle.live_settle.specs.Ready.{ArePlaced, KeepPrefixes}
+use Rattle.live_settle.proofs.Ending.{prefixes_come_out}
+use Rattle.live_settle.proofs.Prefixes.{prefixes_on}
+use Rattle.live_settle.proofs.Places.{placed_from, numbers_in_prefix, in_prefix}
 use Rattle.live_settle.proofs.settling.settle.Goals as goal
 
 pub all_ready-requires-clause-placed : goal.all_ready-requires-clause-placed
@@ -17,11 +17,11 @@ all_ran-requires-clause-numbers g c =
     let t = g.L.Lists.meaning in
     let first = placed_from t c.args.lives.items c.requires.numbers in
     let placed = c.in_ok-all_gather.ensures.ready.placed in
-    numbers_in_front t _ c.all_gather.new.lives _ placed
+    numbers_in_prefix t _ c.all_gather.new.lives _ placed
     (omega (arith, first.width, placed.width, c.as_mut_slice.ensures.len, ap length c.as_mut_slice.ensures.value))
 
-pub returns-clause-fronts : goal.returns-clause-fronts
-returns-clause-fronts g c =
+pub returns-clause-prefixes : goal.returns-clause-prefixes
+returns-clause-prefixes g c =
     let t = g.L.Lists.meaning in
     let n = c.args.lives.len in
     let old = c.args.lives.items in
@@ -33,16 +33,16 @@ returns-clause-fronts g c =
     (let first = placed_from t old c.requires.numbers in
     omega (arith, first.width, c.as_mut_slice.ensures.len, ap length given)) in
     let ready : c.as_mut_slice-2.result.now ≡ one =
-    c.as_mut_slice-2.ensures.value ∙ in_front n one _ (long ∙ sym c.in_ok-all_ready.ensures.ready.placed.width) in
+    c.as_mut_slice-2.ensures.value ∙ in_prefix n one _ (long ∙ sym c.in_ok-all_ready.ensures.ready.placed.width) in
     let heard : c.as_mut_slice-3.result.now ≡ two =
-    c.as_mut_slice-3.ensures.value ∙ in_front n two _ (long ∙ sym c.in_ok-all_hear.ensures.ready.placed.width) in
-    let fronts : KeepFronts old three =
-    fronts_on old one three
-    (subst (λ (ls : List Living). KeepFronts ls one) given c.in_ok-all_ready.ensures.fronts)
-    (fronts_on one two three
-    (subst (λ (ls : List Living). KeepFronts ls two) ready c.in_ok-all_hear.ensures.fronts)
-    (subst (λ (ls : List Living). KeepFronts ls three) heard c.in_ok-all_gather.ensures.fronts)) in
+    c.as_mut_slice-3.ensures.value ∙ in_prefix n two _ (long ∙ sym c.in_ok-all_hear.ensures.ready.placed.width) in
+    let prefixes : KeepPrefixes old three =
+    prefixes_on old one three
+    (subst (λ (ls : List Living). KeepPrefixes ls one) given c.in_ok-all_ready.ensures.prefixes)
+    (prefixes_on one two three
+    (subst (λ (ls : List Living). KeepPrefixes ls two) ready c.in_ok-all_hear.ensures.prefixes)
+    (subst (λ (ls : List Living). KeepPrefixes ls three) heard c.in_ok-all_gather.ensures.prefixes)) in
     IfOk-weaker c.all_ran.result _ _ (λ rans journals.
-    fronts_come_out old three _ rans.items fronts
-    (in_front n three _ (long ∙ sym c.in_ok-all_gather.ensures.ready.placed.width)) journals)
+    prefixes_come_out old three _ rans.items prefixes
+    (in_prefix n three _ (long ∙ sym c.in_ok-all_gather.ensures.ready.placed.width)) journals)
     c.all_ran.ensures.journals

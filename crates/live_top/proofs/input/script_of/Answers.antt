@@ -13,7 +13,7 @@ loop-rest-preserved c =
 pub returns-in-Err-clause-halted : goal.returns-in-Err-clause-halted
 returns-in-Err-clause-halted c =
     rw (c.halt_at.ensures, c.next_line-number.ensures) (stops_at (outcome_of c.args.input.now) c.loop-rest.script
-    c.loop-rest.rest.now c.first_line.result.0.now c.first_line.result.1.now c.in-Err.stop c.loop-rest.invariant
+    c.loop-rest.rest.now c.first_line.result.0.now c.first_line.result.1.now c.in-Err.error c.loop-rest.invariant
     c.first_line.ensures.cut c.in-Err.ensures.stopped)
 
 pub returns-clause-taken : goal.returns-clause-taken

@@ -6,8 +6,8 @@ use Rattle.live_member.specs.Meanings.{Meaning}
 use Rattle.live_settle.specs.declared.ran.Ran.{Ran}
 use Rattle.live_settle.specs.Rans.{AreRans}
 use Rattle.repo_io.specs.declared.status.Status.TheVariants as status
-use Rattle.repo_io.specs.Outside.{GainsFront, GainsText}
-use Rattle.repo_io.proofs.Outputs.{front_taken}
+use Rattle.repo_io.specs.Outside.{GainsPrefix, GainsText}
+use Rattle.repo_io.proofs.Outputs.{prefix_taken}
 use Rattle.live_top.specs.Answers.{Runs, RunsTo}
 use Rattle.live_top.specs.Journals.{live_text}
 use Rattle.live_top.proofs.Running.{nobody_ran, same_meaning, within_limits}
@@ -46,7 +46,7 @@ returns-clause-ran g c =
     let labels = ap (map string_bytes) c.deref.ensures.value ∙ c.in-Some.ensures.some.labels in
     let text = c.deref-3.ensures.value ∙ c.in-Ok-live_text.ensures
     ∙ (λ i. live_text (labels i) (c.deref-2.ensures.value i)) in
-    let front : List ℕ → Type 0 = λ t. GainsFront a b t ⊤ in
+    let prefix : List ℕ → Type 0 = λ t. GainsPrefix a b t ⊤ in
     subst (λ (end : Option (Vec Ran Global)). Runs draw c.args.script a b end status.WriteFault) (sym c.requires)
     (record {
       text = c.deref-3.result.now;
@@ -55,6 +55,6 @@ returns-clause-ran g c =
         ran = subst (λ (t : Meaning). AreRans t c.in-Ok.rans.items) same c.in-Ok.ensures;
         is = text;
       };
-      front = front_taken a b c.in-Err.field-0.written c.deref-3.result.now c.in-Err.ensures.missing
-          c.in-Err.ensures.front;
+      prefix = prefix_taken a b c.in-Err.field-0.written c.deref-3.result.now c.in-Err.ensures.missing
+          c.in-Err.ensures.prefix;
     })

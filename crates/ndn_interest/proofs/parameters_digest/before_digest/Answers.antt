@@ -19,11 +19,11 @@ overflow_sub-octets c =
 pub returns : goal.returns
 returns c =
     let ends = digest_ends c.args.name.now c.octets-octets.ensures.name c.requires in
-    let front = encoding (without_last c.args.name.now) in
+    let prefix = encoding (without_last c.args.name.now) in
     let last = element 2 ends.digest in
     let whole = c.octets-octets.ensures.spelled ∙ ends.spelled in
-    let long : length front ≡ length c.octets-octets.result.now - 34 =
-    omega (arith, ends.size, ap length whole, length-append front last) in
+    let long : length prefix ≡ length c.octets-octets.result.now - 34 =
+    omega (arith, ends.size, ap length whole, length-append prefix last) in
     c.split_at.ensures.front
     ∙ ap (λ (o : List ℕ). take (length c.octets-octets.result.now - 34) o) whole
-    ∙ take_at front last (length c.octets-octets.result.now - 34) long
+    ∙ take_at prefix last (length c.octets-octets.result.now - 34) long

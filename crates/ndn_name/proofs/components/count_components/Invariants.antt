@@ -7,9 +7,9 @@ use Rattle.ndn_name.proofs.components.count_components.Given as goal
 
 abbrev pub invariant-loop-element : goal.invariant-loop-element
 invariant-loop-element l = record {
-  front : List Component;
-  counted : l.len ≡ length front;
-  so_far : gathered with_component Tlv front l.elements ≡ name_of l.base l.value;
+  prefix : List Component;
+  counted : l.len ≡ length prefix;
+  so_far : gathered with_component Tlv prefix l.elements ≡ name_of l.base l.value;
   low : ℕ;
   passed : l.base + l.len ≤ low;
   within : AreWithin low (l.base + length l.value) l.elements.items;

@@ -4,7 +4,7 @@ use Rattle.ndn_name.proofs.uri_digits.read_digest.Given as goal
 
 abbrev pub invariant-loop-octet : goal.invariant-loop-octet
 invariant-loop-octet l = record {
-  front : List ℕ;
-  split : front ++ l.rest ≡ l.text;
-  read : IsDigits (take l.octet-index l.octet-items) front;
+  prefix : List ℕ;
+  split : prefix ++ l.rest ≡ l.text;
+  read : IsDigits (take l.octet-index l.octet-items) prefix;
 }

@@ -20,21 +20,21 @@ failed f = Err f
 abbrev names : List UriPart → List Component
 names parts = name_of_parts (map uri_part parts)
 
--- the part at an index, and those behind it
+-- the part at an index, and those after it
 at_index : (parts : List UriPart) (i : ℕ) (d : UriPart) → i < length parts → d ≡ get_or parts i d
     → names (drop i parts) ≡ (uri_part d).1 ∷ names (drop (i + 1) parts)
 at_index parts i d lt is =
     rw (add-one)
     (ap names (drop-cons parts i d lt) ∙ ap (λ (x : UriPart). (uri_part x).1 ∷ names (drop (suc i) parts)) (sym is))
 
-longer : (front : List Component) (c : Component) (rest whole : List Component) → front ++ c ∷ rest ≡ whole
-    → length (encoding (front ++ c ∷ [])) ≤ length (encoding whole)
-longer front c rest whole e =
-    let split : whole ≡ (front ++ c ∷ []) ++ rest = sym e ∙ sym (append_assoc front (c ∷ []) rest) in
+longer : (prefix : List Component) (c : Component) (rest whole : List Component) → prefix ++ c ∷ rest ≡ whole
+    → length (encoding (prefix ++ c ∷ [])) ≤ length (encoding whole)
+longer prefix c rest whole e =
+    let split : whole ≡ (prefix ++ c ∷ []) ++ rest = sym e ∙ sym (append_assoc prefix (c ∷ []) rest) in
     omega (
       arith,
-      ap length (ap encoding split ∙ encoding-append (front ++ c ∷ []) rest),
-      length-append (encoding (front ++ c ∷ [])) (encoding rest),
+      ap length (ap encoding split ∙ encoding-append (prefix ++ c ∷ []) rest),
+      length-append (encoding (prefix ++ c ∷ [])) (encoding rest),
     )
 
 pub loop-part-init : goal.loop-part-init

@@ -10,11 +10,11 @@ use Rattle.ndn_name.proofs.PathTexts.{PathSoFar, path-step, after_first, compone
 use Rattle.ndn_name.proofs.uri_read.read_path.Goals as goal
 
 -- how long what is left is
-left_size : (front text path : List ℕ) → front ++ 47 ∷ text ≡ 47 ∷ path → length front + length text ≡ length path
-left_size front text path e = omega (arith, ap length e, length-append front (47 ∷ text))
+left_size : (prefix text path : List ℕ) → prefix ++ 47 ∷ text ≡ 47 ∷ path → length prefix + length text ≡ length path
+left_size prefix text path e = omega (arith, ap length e, length-append prefix (47 ∷ text))
 
-shrinks : (text first : List ℕ) (behind : Option (List ℕ)) → Splits 47 text first behind
-    → option_map_or (λ t. length t + 1) behind 0 < length text + 1
+shrinks : (text first : List ℕ) (following : Option (List ℕ)) → Splits 47 text first following
+    → option_map_or (λ t. length t + 1) following 0 < length text + 1
 shrinks text first None s = omega arith
 shrinks text first (Some rest) s = omega (arith, ap length s.0, length-append first (47 ∷ rest))
 

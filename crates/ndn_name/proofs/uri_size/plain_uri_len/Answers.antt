@@ -8,7 +8,7 @@ returns-in_err-path c =
     let text = c.as_bytes-text.result in
     let rooted = c.unwrap_or.result.now in
     let e : rooted ≡ without_scheme text.now =
-    rw c.unwrap_or.ensures (scheme-is c.behind_scheme.result text c.behind_scheme.ensures) in
+    rw c.unwrap_or.ensures (scheme-is c.after_scheme.result text c.after_scheme.ensures) in
     rw c.from_residual.ensures
     (sym (ap text_size (sym c.as_bytes-text.ensures.value) ∙ text_size-none text.now rooted e c.in_err-path.ensures))
 
@@ -18,7 +18,7 @@ returns-then-is_empty c =
     let rooted = c.unwrap_or.result.now in
     let path = c.in_ok-path.path.now in
     let e : rooted ≡ without_scheme text.now =
-    rw c.unwrap_or.ensures (scheme-is c.behind_scheme.result text c.behind_scheme.ensures) in
+    rw c.unwrap_or.ensures (scheme-is c.after_scheme.result text c.after_scheme.ensures) in
     let none : length path ≡ 0 = search rules in
     sym
     (ap text_size (sym c.as_bytes-text.ensures.value) ∙ text_size-root text.now rooted path e c.in_ok-path.ensures none)
@@ -29,7 +29,7 @@ returns c =
     let rooted = c.unwrap_or.result.now in
     let path = c.in_ok-path.path.now in
     let e : rooted ≡ without_scheme text.now =
-    rw c.unwrap_or.ensures (scheme-is c.behind_scheme.result text c.behind_scheme.ensures) in
+    rw c.unwrap_or.ensures (scheme-is c.after_scheme.result text c.after_scheme.ensures) in
     let some : 0 < length path = search rules in
     c.path_len.ensures
     ∙ sym

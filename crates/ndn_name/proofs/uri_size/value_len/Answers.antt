@@ -32,9 +32,9 @@ loop-rest-init c = so_far-start c.args.text.now
 
 pub loop-rest-smaller : goal.loop-rest-smaller
 loop-rest-smaller c =
-    so_far-shrinks c.loop-rest.rest.now c.in-Ok.behind.now c.in-Ok.octet c.in-Ok.ensures
+    so_far-shrinks c.loop-rest.rest.now c.in-Ok.following.now c.in-Ok.octet c.in-Ok.ensures
 
 pub loop-rest-preserved : goal.loop-rest-preserved
 loop-rest-preserved c =
-    so_far-step c.args.text.now c.loop-rest.rest.now c.in-Ok.behind.now c.loop-rest.len c.in-Ok.octet
+    so_far-step c.args.text.now c.loop-rest.rest.now c.in-Ok.following.now c.loop-rest.len c.in-Ok.octet
     c.loop-rest.periods c.loop-rest.invariant c.in-Ok.ensures

@@ -4,9 +4,9 @@ use Rattle.ndn_name.proofs.uri_value.unescape.Given as goal
 
 abbrev pub invariant-loop-rest : goal.invariant-loop-rest
 invariant-loop-rest l = record {
-  front : List ℕ;
-  split : front ++ l.rest ≡ l.text;
-  read : IsEscaped l.octets.items front;
+  prefix : List ℕ;
+  split : prefix ++ l.rest ≡ l.text;
+  read : IsEscaped l.octets.items prefix;
 }
 
 abbrev pub decreases-loop-rest : goal.decreases-loop-rest

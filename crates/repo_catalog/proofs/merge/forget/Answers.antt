@@ -9,11 +9,11 @@ use Rattle.repo_plan.proofs.Orders.{exact_pairs}
 use Rattle.repo_catalog.specs.declared.entry.Entry.{Entry}
 use Rattle.repo_catalog.specs.Entries.{publication_of, entry_of, without_all}
 use Rattle.repo_catalog.specs.NameKeys.{Key, KeyList, key_cmp, key_of, is_key, IsIndexOf}
-use Rattle.repo_catalog.specs.Sums.{sums_of}
+use Rattle.repo_catalog.specs.EntryTotals.{totals_of}
 use Rattle.repo_catalog.proofs.EntryLemmas.{found_place, entry_at, no_entry_between}
 use Rattle.repo_catalog.proofs.IndexLemmas.{is_key-listed, is_key-missing, index_less, index_same}
 use Rattle.repo_catalog.proofs.ManyLemmas.{entry_is_of, without_none}
-use Rattle.repo_catalog.proofs.SumLemmas.{is_behind, sums_with_one_gone, sums_with_none_gone}
+use Rattle.repo_catalog.proofs.SumLemmas.{is_past, sums_with_one_gone, sums_with_none_gone}
 use Rattle.repo_catalog.proofs.merge.forget.Goals as goal
 use Rattle.repo_catalog.proofs.merge.forget.Goals.{in-Ok, in_default}
 
@@ -22,7 +22,7 @@ loop-publisher-init c = record {
   indexed =
       subst (λ (es : List Entry). IsIndexOf es c.args.names.now.keys c.args.names.now.waiting)
       (sym (without_none c.args.entries.now)) c.requires.indexed;
-  summed = c.requires.summed ∙ ap sums_of (sym (without_none c.args.entries.now));
+  summed = c.requires.summed ∙ ap totals_of (sym (without_none c.args.entries.now));
   room = omega arith;
 }
 
@@ -50,7 +50,7 @@ loop-publisher-preserved c =
           let in_order : Rises pair_cmp (take i pairs ++ p ∷ []) =
           subst (Rises pair_cmp) more (rises_parts exact_pairs (i + 1) pairs c.requires.rises).0 in
           let stays : contains pair_cmp (take i pairs) k ≡ false =
-          ap (contains pair_cmp (take i pairs)) same ∙ is_behind (take i pairs) p in_order in
+          ap (contains pair_cmp (take i pairs)) same ∙ is_past (take i pairs) p in_order in
           record {
             indexed =
                 subst (λ (l : KeyList). IsIndexOf (without_all (take (i + 1) pairs) es) l.keys l.waiting)
@@ -65,11 +65,11 @@ loop-publisher-preserved c =
                 ∙ ap (λ (key : Key). not (eq_by_cmp key_cmp q key) && contains key_cmp c.loop-publisher.names.keys q)
                 w.key_of.ensures) c.loop-publisher.invariant.indexed));
             summed =
-                w.sums-is
+                w.entry_totals-is
                 ∙ w.subtract.ensures (without_all (take i pairs ++ k ∷ []) es)
                 (c.loop-publisher.invariant.summed
                 ∙ sums_with_one_gone (take i pairs) k x es c.requires.in_order there stays)
-                ∙ ap sums_of all;
+                ∙ ap totals_of all;
             room = omega (arith, ap (λ (l : KeyList). l.spare) w.names-is, w.remove.ensures.room);
           }
       | in_default w ↦
@@ -86,10 +86,10 @@ loop-publisher-preserved c =
                 (λ q. is_key-missing (take i pairs) k es q none ∙ ap (λ (es : List Entry). is_key es q) all)
                 c.loop-publisher.invariant.indexed);
             summed =
-                w.sums-is
+                w.entry_totals-is
                 ∙ c.loop-publisher.invariant.summed
                 ∙ sums_with_none_gone (take i pairs) k es none
-                ∙ ap sums_of all;
+                ∙ ap totals_of all;
             room = omega (arith, ap (λ (l : KeyList). l.spare) w.names-is);
           }
     ]
@@ -104,5 +104,5 @@ returns-clause-indexed c =
 pub returns-clause-summed : goal.returns-clause-summed
 returns-clause-summed c =
     c.loop-publisher.invariant.summed
-    ∙ ap (λ (ps : List Pair). sums_of (without_all ps c.args.entries.now))
+    ∙ ap (λ (ps : List Pair). totals_of (without_all ps c.args.entries.now))
     (take_all c.loop-publisher.publisher-index c.args.publications.now (omega (arith, c.loop-publisher-test.false)))

@@ -9,15 +9,15 @@ use Rattle.std.proofs.lemmas.List.Folds.{find-append}
 use Rattle.repo_catalog.specs.declared.entry.Entry.{Entry}
 use Rattle.repo_catalog.specs.Entries.{publication_of, is_of, beside, entry_of, with_entry, with_entries, IsCatalogue}
 use Rattle.repo_catalog.specs.NameKeys.{IsIndexOf}
-use Rattle.repo_catalog.specs.Sums.{sums_of}
+use Rattle.repo_catalog.specs.EntryTotals.{totals_of}
 use Rattle.repo_catalog.proofs.EntryLemmas.{found_place, entry_at, no_entry_between, with_entry_between}
 use Rattle.repo_catalog.proofs.EntryLemmas.{with_entry_rises}
 use Rattle.repo_catalog.proofs.EntryLemmas.{IsPlace}
 use Rattle.repo_catalog.proofs.IndexLemmas.{index_added}
 use Rattle.repo_catalog.proofs.LawLemmas.{entries_tell_all}
 use Rattle.repo_catalog.proofs.ManyLemmas.{adds_all, with_entries_rises, or_none}
-use Rattle.repo_catalog.proofs.MergeLemmas.{IsAhead, rest_rises, front_rises, rises_dropped, rises_joined, none_ahead}
-use Rattle.repo_catalog.proofs.MergeLemmas.{none_behind, with_entry-append, inserted_between, passed_by, taken_in}
+use Rattle.repo_catalog.proofs.MergeLemmas.{IsAhead, rest_rises, prefix_rises, rises_dropped, rises_joined, none_ahead}
+use Rattle.repo_catalog.proofs.MergeLemmas.{none_after, with_entry-append, inserted_between, passed_by, taken_in}
 use Rattle.repo_catalog.proofs.MergeLemmas.{no_items}
 use Rattle.repo_catalog.proofs.SumLemmas.{sums_with}
 use Rattle.repo_catalog.proofs.merge.merge.Goals as goal
@@ -39,7 +39,7 @@ loop-entry-init c =
       indexed =
           subst (λ (xs : List Entry). IsIndexOf xs c.args.names.now.keys c.args.names.now.waiting) (sym all)
           c.requires.indexed;
-      summed = c.requires.summed ∙ ap sums_of (sym all);
+      summed = c.requires.summed ∙ ap totals_of (sym all);
       len = omega (arith, empty, c.args.aside.now.ok);
       room = omega arith;
       room_aside = omega arith;
@@ -69,7 +69,7 @@ loop-entry-preserved-in-Err c =
     let es = c.loop-entry.entries.items in
     let aside = reverse c.loop-entry.aside.items in
     let kept = c.set_aside.new.entries.items in
-    let behind = reverse c.set_aside.new.aside.items in
+    let following = reverse c.set_aside.new.aside.items in
     let popped : c.loop-entry.fresh.items ≡ fs ++ x ∷ [] = c.in-Some.ensures.items in
     let ahead : IsCatalogue (fs ++ x ∷ aside) =
     subst IsCatalogue (ap (λ (xs : List Entry). xs ++ aside) popped ∙ append_assoc fs (x ∷ []) aside) before.ahead in
@@ -81,17 +81,17 @@ loop-entry-preserved-in-Err c =
     (subst (λ (s : ℕ). IsBinarySearchResult (beside (x.publisher, s)) c.deref.result.now (Err i)) c.from.ensures
     c.in-Err.ensures.position) in
     let at : IsPlace (publication_of x) es (Err i) =
-    found_place es (publication_of x) (Err i) (front_rises es aside before.in_order) bound position in
-    let moved : take i es ++ behind ≡ es ++ aside =
-    ap (λ (xs : List Entry). xs ++ behind) (sym c.set_aside.ensures.kept) ∙ c.set_aside.ensures.all in
-    let split : with_entry x (es ++ aside) ≡ kept ++ x ∷ behind =
+    found_place es (publication_of x) (Err i) (prefix_rises es aside before.in_order) bound position in
+    let moved : take i es ++ following ≡ es ++ aside =
+    ap (λ (xs : List Entry). xs ++ following) (sym c.set_aside.ensures.kept) ∙ c.set_aside.ensures.all in
+    let split : with_entry x (es ++ aside) ≡ kept ++ x ∷ following =
     with_entry-append x es aside x_ahead
     ∙ ap (λ (xs : List Entry). xs ++ aside) (with_entry_between x es i at)
-    ∙ inserted_between es i x aside behind (omega (arith, bound)) moved
-    ∙ ap (λ (xs : List Entry). xs ++ x ∷ behind) (sym c.set_aside.ensures.kept) in
+    ∙ inserted_between es i x aside following (omega (arith, bound)) moved
+    ∙ ap (λ (xs : List Entry). xs ++ x ∷ following) (sym c.set_aside.ensures.kept) in
     let pushed : c.push.new.self.items ≡ c.set_aside.new.aside.items ++ x ∷ [] =
     c.push.ensures.items ∙ rw c.unwrap.ensures refl in
-    let reversed : reverse c.push.new.self.items ≡ x ∷ behind =
+    let reversed : reverse c.push.new.self.items ≡ x ∷ following =
     ap reverse pushed ∙ reverse-append c.set_aside.new.aside.items (x ∷ []) in
     let whole : kept ++ reverse c.push.new.self.items ≡ with_entry x (es ++ aside) =
     ap (λ (ys : List Entry). kept ++ ys) reversed ∙ sym split in
@@ -100,12 +100,12 @@ loop-entry-preserved-in-Err c =
     find-append (is_of (publication_of x)) es aside
     ∙ ap (λ (o : Option Entry). option_or o (entry_of (publication_of x) aside))
     (no_entry_between (publication_of x) es i at)
-    ∙ none_behind x aside x_ahead in
+    ∙ none_after x aside x_ahead in
     record {
       in_order = subst IsCatalogue (sym whole) rises;
       ahead =
           subst (λ (ys : List Entry). IsCatalogue (fs ++ ys)) (sym reversed)
-          (rises_joined fs aside behind x ahead (rest_rises kept (x ∷ behind) (subst IsCatalogue split rises)));
+          (rises_joined fs aside following x ahead (rest_rises kept (x ∷ following) (subst IsCatalogue split rises)));
       all = λ k.
           ap (λ (xs : List Entry). option_or (entry_of k xs) (entry_of k fs)) whole
           ∙ taken_in (es ++ aside) fs x k before.in_order (none_ahead fs aside x ahead)
@@ -115,7 +115,7 @@ loop-entry-preserved-in-Err c =
           rw (whole, c.wait.ensures.keys, c.wait.ensures.waiting)
           (index_added x (es ++ aside) c.loop-entry.names.keys c.loop-entry.names.waiting before.in_order
           (ap is_some missing) before.indexed);
-      summed = c.add.ensures (es ++ aside) before.summed ∙ sums_with x (es ++ aside) missing ∙ ap sums_of (sym whole);
+      summed = c.add.ensures (es ++ aside) before.summed ∙ sums_with x (es ++ aside) missing ∙ ap totals_of (sym whole);
       len =
           omega (
             arith,
@@ -148,7 +148,7 @@ loop-entry-preserved c =
     subst (λ (ys : List Entry). IsBinarySearchResult (beside (publication_of x)) ys (Ok i)) c.deref.ensures.value
     (subst (λ (s : ℕ). IsBinarySearchResult (beside (x.publisher, s)) c.deref.result.now (Ok i)) c.from.ensures
     c.in_default-place_of.ensures.position) in
-    let in_order : IsCatalogue es = front_rises es aside before.in_order in
+    let in_order : IsCatalogue es = prefix_rises es aside before.in_order in
     let at : IsPlace (publication_of x) es (Ok i) = found_place es (publication_of x) (Ok i) in_order bound position in
     let there : entry_of (publication_of x) (es ++ aside)
     ≡ option_or (Some (get_or es i x)) (entry_of (publication_of x) aside) =

@@ -3,7 +3,7 @@ use Rattle.std.specs.Option.{option_or}
 use Rattle.repo_plan.specs.Parts.{Pair}
 use Rattle.repo_catalog.specs.Entries.{entry_of, with_entries, IsCatalogue}
 use Rattle.repo_catalog.specs.NameKeys.{IsIndexOf}
-use Rattle.repo_catalog.specs.Sums.{sums_of}
+use Rattle.repo_catalog.specs.EntryTotals.{totals_of}
 use Rattle.repo_catalog.proofs.merge.merge.Given as goal
 
 abbrev pub invariant-loop-entry : goal.invariant-loop-entry
@@ -14,7 +14,7 @@ invariant-loop-entry l =
       all : (k : Pair) → option_or (entry_of k now) (entry_of k l.fresh.items)
           ≡ entry_of k (with_entries l.initial.fresh.items l.initial.entries.items);
       indexed : IsIndexOf now l.names.keys l.names.waiting;
-      summed : l.sums ≡ sums_of now;
+      summed : l.entry_totals ≡ totals_of now;
       len : vec_len l.entries + vec_len l.aside + vec_len l.fresh
           ≤ vec_len l.initial.entries + vec_len l.initial.fresh;
       room : vec_capacity l.initial.entries ≤ vec_capacity l.entries;

@@ -20,15 +20,15 @@ returns-in_default c = sym (false_from_ne_true _ (λ yes.
 pub returns-in-None : goal.returns-in-None
 returns-in-None c = sym (false_from_ne_true _ (λ yes.
     let d = has_digest c.args.node.now c.args.verb c.args.name.now c.octets.ensures.name yes in
-    let front =
-    strip_prefix_is Decides-eqb c.octets.result.now c.octets-2.result.now (Some c.in-Some.behind)
+    let prefix =
+    strip_prefix_is Decides-eqb c.octets.result.now c.octets-2.result.now (Some c.in-Some.after)
     c.in-Some.ensures.cases in
-    let behind =
-    append_cancel_left (encoding c.args.node.now) c.in-Some.behind.now (between c.args.verb ++ d.digest)
-    (ap (λ o. o ++ c.in-Some.behind.now) (sym c.octets-2.ensures.spelled) ∙ sym front ∙ c.octets.ensures.spelled
+    let after =
+    append_cancel_left (encoding c.args.node.now) c.in-Some.after.now (between c.args.verb ++ d.digest)
+    (ap (λ o. o ++ c.in-Some.after.now) (sym c.octets-2.ensures.spelled) ∙ sym prefix ∙ c.octets.ensures.spelled
     ∙ d.octets) in
-    strip_prefix_is Decides-eqb c.in-Some.behind.now c.between.result.now None c.in-None.ensures.cases d.digest
-    (behind ∙ ap (λ o. o ++ d.digest) (sym c.between.ensures))))
+    strip_prefix_is Decides-eqb c.in-Some.after.now c.between.result.now None c.in-None.ensures.cases d.digest
+    (after ∙ ap (λ o. o ++ d.digest) (sym c.between.ensures))))
 
 pub returns-in-Some-strip_prefix : goal.returns-in-Some-strip_prefix
 returns-in-Some-strip_prefix c =
@@ -36,17 +36,17 @@ returns-in-Some-strip_prefix c =
     let verb = c.args.verb in
     let name = c.args.name.now in
     let digest = c.in-Some-strip_prefix.digest.now in
-    let front =
-    strip_prefix_is Decides-eqb c.octets.result.now c.octets-2.result.now (Some c.in-Some.behind)
+    let prefix =
+    strip_prefix_is Decides-eqb c.octets.result.now c.octets-2.result.now (Some c.in-Some.after)
     c.in-Some.ensures.cases in
-    let behind =
-    strip_prefix_is Decides-eqb c.in-Some.behind.now c.between.result.now (Some c.in-Some-strip_prefix.digest)
+    let after =
+    strip_prefix_is Decides-eqb c.in-Some.after.now c.between.result.now (Some c.in-Some-strip_prefix.digest)
     c.in-Some-strip_prefix.ensures.cases in
     let whole : encoding name ≡ encoding node ++ (between verb ++ digest) =
     sym c.octets.ensures.spelled
-    ∙ front
-    ∙ ap (λ o. o ++ c.in-Some.behind.now) c.octets-2.ensures.spelled
-    ∙ ap (λ o. encoding node ++ o) (behind ∙ ap (λ o. o ++ digest) c.between.ensures) in
+    ∙ prefix
+    ∙ ap (λ o. o ++ c.in-Some.after.now) c.octets-2.ensures.spelled
+    ∙ ap (λ o. encoding node ++ o) (after ∙ ap (λ o. o ++ digest) c.between.ensures) in
     both_ways (eqb (length digest) 32) _
     (λ long. is_of_node node verb name digest c.octets-2.ensures.name c.octets.ensures.name whole
     (eqb-true (length digest) 32 long))

@@ -1,4 +1,4 @@
-use Rattle.repo_object.proofs.Telling.{records_differ, segments_differ, records_are_no_segments}
+use Rattle.repo_object.proofs.Report.{records_differ, segments_differ, records_are_no_segments}
 use Rattle.repo_object.proofs.laws.names_tell_parts_apart.Goals as goal
 
 pub returns-clause-records : goal.returns-clause-records

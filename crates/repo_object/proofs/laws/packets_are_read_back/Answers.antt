@@ -1,8 +1,8 @@
-use Rattle.repo_object.proofs.Publications.{record_said, shape_again, index_again, content_again}
+use Rattle.repo_object.proofs.Publications.{record_stated, shape_again, index_again, content_again}
 use Rattle.repo_object.proofs.laws.packets_are_read_back.Goals as goal
 
 pub returns-clause-records : goal.returns-clause-records
-returns-clause-records c = λ publisher seq post is_publisher is_post low. record_said publisher is_publisher seq post
+returns-clause-records c = λ publisher seq post is_publisher is_post low. record_stated publisher is_publisher seq post
     is_post low
 
 pub returns-clause-shapes : goal.returns-clause-shapes

@@ -1,5 +1,5 @@
 use Rattle.repo_object.proofs.Publications.{packets-length, all_fit}
-use Rattle.repo_object.proofs.Telling.{part_fits}
+use Rattle.repo_object.proofs.Report.{part_fits}
 use Rattle.repo_object.proofs.laws.packets_fit.Goals as goal
 
 pub returns-clause-count : goal.returns-clause-count

@@ -1,4 +1,4 @@
-use Rattle.repo_object.proofs.Telling.{records_pass, indexes_pass, segments_pass}
+use Rattle.repo_object.proofs.Report.{records_pass, indexes_pass, segments_pass}
 use Rattle.repo_object.proofs.laws.packets_that_pass_are_the_parts.Goals as goal
 
 pub returns-clause-records : goal.returns-clause-records

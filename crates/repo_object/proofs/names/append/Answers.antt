@@ -6,7 +6,7 @@ use Rattle.ndn_name.specs.Names.{Component}
 use Rattle.ndn_name.proofs.Encodings.{pairs}
 use Rattle.ndn_name.proofs.OnlyMemory.{only_memory_of_name}
 use Rattle.repo_object.proofs.Sizes.{appended-size}
-use Rattle.repo_object.proofs.NameLemmas.{reads_name, front-size}
+use Rattle.repo_object.proofs.NameLemmas.{reads_name, prefix-size}
 use Rattle.repo_object.proofs.names.append.Goals as goal
 
 pub loop-component-init : goal.loop-component-init
@@ -27,7 +27,7 @@ map_err-requires c =
     let whole =
     sym (ap (λ (read : Listing Item TlvFault). c.loop-component.name ++ pairs read.items) seen)
     ∙ c.loop-component.invariant.whole in
-    let front =
-    front-size c.loop-component.name found (pairs c.next.new.self.items) (c.args.name.now ++ c.args.more.now) whole in
+    let prefix =
+    prefix-size c.loop-component.name found (pairs c.next.new.self.items) (c.args.name.now ++ c.args.more.now) whole in
     only_memory_of_name c.push.result _ (λ e. c.push.ensures.too_long.0 e) c.push.ensures.refused
-    (omega (arith, front, appended-size c.args.name.now c.args.more.now))
+    (omega (arith, prefix, appended-size c.args.name.now c.args.more.now))

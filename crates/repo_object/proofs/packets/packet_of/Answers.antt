@@ -42,7 +42,7 @@ returns-in_default-checked_sub c =
     let object = c.args.object.now in
     let key = c.args.key.now in
     let name = record_name c.args.node.now c.args.group.now c.args.seq in
-    let k = c.in-Some.behind in
+    let k = c.in-Some.after in
     let last = c.of-shape.result.index - 1 in
     let count : length c.contents.result.now ≡ length object.contents =
     sym (length-map c.contents.result.now items) ∙ ap (λ (cs : List (List ℕ)). length cs) c.contents.ensures.same in

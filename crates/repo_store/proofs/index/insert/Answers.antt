@@ -2,7 +2,7 @@ use Rattle.std.proofs.Common.{◌≡◌, List, subst, sym}
 use Rattle.std.specs.List.{insert}
 use Rattle.sorted_lists.proofs.Members.{same_insert}
 use Rattle.sorted_lists.proofs.Climbs.{climbs_inserted}
-use Rattle.repo_store.specs.Kept.{Held}
+use Rattle.repo_store.specs.PacketTable.{Held}
 use Rattle.repo_store.specs.Indexes.{IsPlace, GainsOne, key_in, AreInOrder}
 use Rattle.repo_store.proofs.IndexLemmas.{exact_keys}
 use Rattle.repo_store.proofs.index.insert.Goals as goal

@@ -13,7 +13,7 @@ use Rattle.sorted_lists.proofs.Members.{in_at}
 use Rattle.repo_plan.specs.declared.part.Part.{Part}
 use Rattle.repo_plan.specs.Parts.{part_cmp}
 use Rattle.repo_plan.proofs.Orders.{exact_parts}
-use Rattle.repo_store.specs.Kept.{Held}
+use Rattle.repo_store.specs.PacketTable.{Held}
 use Rattle.repo_store.specs.Indexes.{first_part}
 use Rattle.repo_store.proofs.IndexLemmas.{PartLe}
 use Rattle.repo_store.proofs.index.least_of.Goals as goal

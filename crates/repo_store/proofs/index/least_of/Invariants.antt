@@ -1,6 +1,6 @@
 use Rattle.std.proofs.Common.{take}
 use Rattle.sorted_lists.specs.Members.{In}
-use Rattle.repo_store.specs.Kept.{Held}
+use Rattle.repo_store.specs.PacketTable.{Held}
 use Rattle.repo_store.proofs.IndexLemmas.{PartLe}
 use Rattle.repo_store.proofs.index.least_of.Given as goal
 

@@ -1,5 +1,5 @@
 use Rattle.std.proofs.Common.{◌+◌, Option, take, sym, subst, ◌∙◌}
-use Rattle.repo_store.specs.Kept.{Held}
+use Rattle.repo_store.specs.PacketTable.{Held}
 use Rattle.sorted_lists.proofs.LeastOnes.{first_more, first_past, first_all}
 use Rattle.repo_plan.proofs.Orders.{exact_parts}
 use Rattle.repo_store.specs.Indexes.{first_part, held_part, IsFirstOf}

@@ -1,6 +1,6 @@
 use Rattle.std.proofs.Common.{◌≡◌, ◌+◌, List, [], ◌∷◌, ◌++◌, get_or, drop, length, vec_len, sym, ap, subst, ◌∙◌, arith}
 use Rattle.sorted_lists.proofs.Climbs.{Merging, merging_none, merging_rest, merging_more, merging_all}
-use Rattle.repo_store.specs.Kept.{Held}
+use Rattle.repo_store.specs.PacketTable.{Held}
 use Rattle.repo_store.specs.Indexes.{first_part, key_in}
 use Rattle.repo_store.specs.NameLayers.{IsMerged}
 use Rattle.repo_store.proofs.IndexLemmas.{exact_keys}
@@ -15,8 +15,8 @@ loop-held-init c = record {
   capacity = omega arith;
 }
 
-pub place_near_front-requires : goal.place_near_front-requires
-place_near_front-requires c =
+pub place_near_start-requires : goal.place_near_start-requires
+place_near_start-requires c =
     merging_rest exact_keys (key_in c.args.kept.now.slots) c.args.settled.now c.args.recent.now
     c.loop-held.merged.items c.loop-held.rest.now c.loop-held.held-index c.loop-held.invariant.merging
 
@@ -28,7 +28,7 @@ loop-held-preserved c =
     let merged = c.loop-held.merged.items in
     let rest = c.loop-held.rest.now in
     let i = c.loop-held.held-index in
-    let place = c.place_near_front.result in
+    let place = c.place_near_start.result in
     let extended : c.extend_from_slice.new.self.items ≡ merged ++ c.split_at.result.0.now =
     rw c.unwrap.ensures at c.extend_from_slice.ensures.items in
     let extended_len : vec_len c.extend_from_slice.new.self
@@ -46,7 +46,7 @@ loop-held-preserved c =
     (extended ∙ ap (λ (xs : List Held). merged ++ xs) c.split_at.ensures.front) in
     let more =
     merging_more exact_keys key settled recent merged rest i place none c.loop-held-test.true c.requires.recent
-    c.place_near_front.ensures c.loop-held.invariant.merging in
+    c.place_near_start.ensures c.loop-held.invariant.merging in
     record {
       merging =
           subst (λ (r : List Held). Merging exact_keys key settled recent c.push.new.self.items r (i + 1))
@@ -61,7 +61,7 @@ loop-held-preserved c =
             pushed_len,
             c.split_at.ensures.front_len,
             c.split_at.ensures.back_len,
-            c.place_near_front.ensures.within,
+            c.place_near_start.ensures.within,
           );
       capacity =
           omega (arith, c.loop-held.invariant.capacity, c.extend_from_slice.ensures.capacity, c.push.ensures.capacity);

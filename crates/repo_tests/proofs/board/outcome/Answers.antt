@@ -4,7 +4,7 @@ use Rattle.fetch_board.specs.Counts.{items}
 use Rattle.fetch_board.proofs.Marks.{items-append}
 use Rattle.repo_tests.proofs.board.outcome.Goals as goal
 
--- a list that has both items has them with another list behind it
+-- a list that has both items has them with another list after it
 both : (xs ys : List ℕ) → (0 < items 0 xs) × (0 < items 1 xs) → (i : ℕ) → i < 2 → 0 < items i (xs ++ ys)
 both xs ys h i low =
     ⊎_elim (λ e. subst (λ k. 0 < items k (xs ++ ys)) (sym e) (omega (arith, items-append 0 xs ys, h.0)))

@@ -1,5 +1,5 @@
 use Rattle.std.proofs.Common.{◌≡◌, ◌≤◌, ◌-◌, None}
-use Rattle.script_story.specs.Judging.{given_by}
+use Rattle.script_story.specs.Judging.{env_by}
 use Rattle.script_lines.specs.Scripts.{IsScript, reached}
 use Rattle.repo_top.specs.Carrying.{Carried, Known}
 use Rattle.repo_top.proofs.running.run_lines.Given as goal
@@ -7,7 +7,7 @@ use Rattle.repo_top.proofs.running.run_lines.Given as goal
 abbrev pub invariant-loop-count : goal.invariant-loop-count
 invariant-loop-count g l = record {
   so_far : Known (g.S.Source.left l.fn.source) (g.S.Source.left l.source)
-      (Carried (given_by (g.D.Draws.draw l.draws) (g.N.Net.passes l.net)) l.reader (reached l.script)
+      (Carried (env_by (g.D.Draws.draw l.draws) (g.N.Net.passes l.net)) l.reader (reached l.script)
       (g.K.Sink.out l.fn.sink) (g.K.Sink.out l.sink));
   is : IsScript l.script;
   none : l.end ≡ None;

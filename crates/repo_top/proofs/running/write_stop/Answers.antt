@@ -1,6 +1,6 @@
 use Rattle.std.proofs.Common.{◌≡◌, ◌+◌, ◌<◌, ◌∙◌, subst, take, length, List, ℕ}
 use Rattle.repo_io.specs.Outside.{GainsText}
-use Rattle.script_lines.specs.Stopping.{stop_text}
+use Rattle.script_lines.specs.LineErrors.{line_error_text}
 use Rattle.repo_top.proofs.Stops.{halts_unwritten}
 use Rattle.repo_top.proofs.running.write_stop.Goals as goal
 
@@ -10,8 +10,8 @@ returns-in-Err-clause-halts g c =
     let n = c.in-Err.field-0.written in
     let before = g.K.Sink.out c.args.sink.now in
     let after = g.K.Sink.out c.write_whole.new.sink in
-    let text : c.deref.result.now ≡ stop_text line c.args.stop = c.deref.ensures.value ∙ c.in-Ok.ensures.text in
+    let text : c.deref.result.now ≡ line_error_text line c.args.error = c.deref.ensures.value ∙ c.in-Ok.ensures.text in
     let P : List ℕ → Type 0 = λ t. GainsText before after (take n t) in
     let Q : List ℕ → Type 0 = λ t. n < length t in
-    halts_unwritten line c.args.stop before after n (subst P text c.in-Err.ensures.front)
+    halts_unwritten line c.args.error before after n (subst P text c.in-Err.ensures.prefix)
     (subst Q text c.in-Err.ensures.missing)

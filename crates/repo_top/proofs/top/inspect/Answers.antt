@@ -1,33 +1,34 @@
 use Rattle.std.proofs.Common.{◌≡◌, ◌⊎◌, sym, ◌∙◌, subst}
 use Rattle.repo_io.specs.declared.status.Status.TheVariants.{NoMemory, WriteFault}
-use Rattle.repo_io.specs.Statuses.{IsTold}
+use Rattle.repo_io.specs.Statuses.{IsReported}
 use Rattle.script_story.specs.Answers.{status_of}
-use Rattle.repo_io.specs.Outside.{GainsText, GainsFront}
+use Rattle.repo_io.specs.Outside.{GainsText, GainsPrefix}
 use Rattle.script_story.specs.Story.{Story}
 use Rattle.repo_top.specs.Inspection.{inspect_story}
-use Rattle.repo_top.proofs.InspectRuns.{by_story, told_ends, unfailing_ends, none_left}
+use Rattle.repo_top.proofs.InspectRuns.{by_story, reported_ends, unfailing_ends, none_left}
 use Rattle.repo_top.proofs.top.inspect.Goals as goal
 
 pub returns-clause-end : goal.returns-clause-end
-returns-clause-end g c = λ told.
+returns-clause-end g c = λ reported.
     let read = c.in-Ok.input.items in
-    let ends = told_ends c.write_inspection.result (inspect_story read).ending c.write_inspection.ensures.ends told in
+    let ends = reported_ends c.write_inspection.result (inspect_story read).ending c.write_inspection.ensures.ends
+    reported in
     let Q : Story → Type 0 = λ s. c.write_inspection.result ≡ status_of s.ending in
     by_story Q (g.S.Source.left c.args.source.now) (g.S.Source.left c.read_up_to.new.source) read c.in-Ok.ensures.taken
     c.in-Ok.ensures.whole ends
 
 pub returns-clause-text : goal.returns-clause-text
-returns-clause-text g c = λ told.
-    let gained = c.write_inspection.ensures.text told in
+returns-clause-text g c = λ reported.
+    let gained = c.write_inspection.ensures.text reported in
     let Q : Story → Type 0 = λ s. GainsText (g.K.Sink.out c.args.sink.now) (g.K.Sink.out c.write_inspection.new.sink)
     s.text in
     by_story Q (g.S.Source.left c.args.source.now) (g.S.Source.left c.read_up_to.new.source) c.in-Ok.input.items
     c.in-Ok.ensures.taken c.in-Ok.ensures.whole gained
 
-pub returns-clause-front : goal.returns-clause-front
-returns-clause-front g c =
-    let gained = c.write_inspection.ensures.front in
-    let Q : Story → Type 0 = λ s. GainsFront (g.K.Sink.out c.args.sink.now) (g.K.Sink.out c.write_inspection.new.sink)
+pub returns-clause-prefix : goal.returns-clause-prefix
+returns-clause-prefix g c =
+    let gained = c.write_inspection.ensures.prefix in
+    let Q : Story → Type 0 = λ s. GainsPrefix (g.K.Sink.out c.args.sink.now) (g.K.Sink.out c.write_inspection.new.sink)
     s.text (c.write_inspection.result ≡ WriteFault) in
     by_story Q (g.S.Source.left c.args.source.now) (g.S.Source.left c.read_up_to.new.source) c.in-Ok.input.items
     c.in-Ok.ensures.taken c.in-Ok.ensures.whole gained
@@ -35,8 +36,9 @@ returns-clause-front g c =
 pub returns-clause-read_to_end : goal.returns-clause-read_to_end
 returns-clause-read_to_end g c = λ done.
     let read = c.in-Ok.input.items in
-    let told : IsTold c.write_inspection.result = subst IsTold (sym done) tt in
-    let ends = told_ends c.write_inspection.result (inspect_story read).ending c.write_inspection.ensures.ends told in
+    let reported : IsReported c.write_inspection.result = subst IsReported (sym done) tt in
+    let ends = reported_ends c.write_inspection.result (inspect_story read).ending c.write_inspection.ensures.ends
+    reported in
     none_left (g.S.Source.left c.args.source.now) (g.S.Source.left c.read_up_to.new.source) read c.in-Ok.ensures.taken
     c.in-Ok.ensures.whole (sym done ∙ ends)
 

@@ -15,12 +15,12 @@ returns c =
     let name : List Component = c.args.name.now in
     both_ways c.is_prefix_of.result (begins_with prefix name)
     (λ h.
-    let front : take (length prefix) name ≡ prefix =
+    let leading : take (length prefix) name ≡ prefix =
     rw (← c.view.ensures, ← c.view-2.ensures) (c.is_prefix_of.ensures.0 h) in
-    ap (λ (x : List Component). eq_by_cmp canonical_cmp x prefix) front
+    ap (λ (x : List Component). eq_by_cmp canonical_cmp x prefix) leading
     ∙ ap is_eq (tied_itself canonical_cmp_total prefix))
     (λ h.
-    let front : IsPrefix prefix name =
+    let leading : IsPrefix prefix name =
     canonical_cmp-equal (take (length prefix) name) prefix
     (equal_from_is_eq (canonical_cmp (take (length prefix) name) prefix) h) in
-    c.is_prefix_of.ensures.1 (rw (c.view.ensures, c.view-2.ensures) front))
+    c.is_prefix_of.ensures.1 (rw (c.view.ensures, c.view-2.ensures) leading))

@@ -2,7 +2,7 @@ use Rattle.std.proofs.Common.{◌≡◌, rules, length-append}
 use Rattle.std.specs.Slice.Iter.{iter_rest}
 use Rattle.std.specs.Iterator.Adapters.{zip_first, zip_second}
 use Rattle.std.proofs.lemmas.Slice.Zip.{zip_turn, zip_end}
-use Rattle.script_report.proofs.Fronts.{keeps_then}
+use Rattle.script_report.proofs.Prefixes.{keeps_then}
 use Rattle.script_report.proofs.Together.{writes_none, writes_more, writes_all, counts, count, counts_text}
 use Rattle.script_report.proofs.piece.put_counts.Goals as goal
 

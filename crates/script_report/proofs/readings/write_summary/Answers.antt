@@ -1,5 +1,5 @@
 use Rattle.std.proofs.Common.{◌∙◌, sym, ap, ◌++◌, append-nil}
-use Rattle.script_report.proofs.Fronts.{keeps_then}
+use Rattle.script_report.proofs.Prefixes.{keeps_then}
 use Rattle.script_report.proofs.Together.{one_more, totals_more, totals_end}
 use Rattle.script_report.proofs.readings.write_summary.Goals as goal
 

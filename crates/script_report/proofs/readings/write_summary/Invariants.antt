@@ -1,6 +1,6 @@
 use Rattle.std.proofs.Common.{◌≡◌, ◌++◌, drop, map, string_bytes}
 use Rattle.script_report.specs.Texts.{summary_text}
-use Rattle.script_report.specs.Pieces.{KeepsFront}
+use Rattle.script_report.specs.Pieces.{KeepsPrefix}
 use Rattle.script_report.proofs.readings.write_summary.Given as goal
 
 abbrev pub invariant-loop-i : goal.invariant-loop-i
@@ -8,5 +8,5 @@ invariant-loop-i l = record {
   written : l.out.items ++ summary_text (map string_bytes (drop l.i l.labels)) (drop l.i l.entries)
       (drop l.i l.segments) (drop l.i l.octets)
       ≡ l.fn.out.items ++ summary_text (map string_bytes l.labels) l.entries l.segments l.octets;
-  kept : KeepsFront l.fn.out.items l.out.items;
+  kept : KeepsPrefix l.fn.out.items l.out.items;
 }

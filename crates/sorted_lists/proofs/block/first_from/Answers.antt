@@ -1,6 +1,6 @@
 use Rattle.std.proofs.Common.{◌∙◌, ◌<◌, ◌≤◌, length, arith, ap, sym, Some, Ok, Err, rules}
 use Rattle.std.proofs.lemmas.List.Sorted.{answers_always}
-use Rattle.sorted_lists.proofs.Search.{found, first_at, first_behind, none_behind}
+use Rattle.sorted_lists.proofs.Search.{found, first_at, first_after, none_after}
 use Rattle.sorted_lists.proofs.block.first_from.Goals as goal
 
 pub returns-in-Ok : goal.returns-in-Ok
@@ -22,7 +22,7 @@ returns-in-Err g c =
     let within : c.in-Err.place < length c.args.block.now =
     omega (arith, c.if-place-block.true) in
     ap Some c.index-block-place-in-Err.is
-    ∙ sym (first_behind o c.args.block.now c.args.key c.in-Err.place place within c.index-block-place-in-Err.result)
+    ∙ sym (first_after o c.args.block.now c.args.key c.in-Err.place place within c.index-block-place-in-Err.result)
 
 pub returns-in-Err-2 : goal.returns-in-Err-2
 returns-in-Err-2 g c =
@@ -33,4 +33,4 @@ returns-in-Err-2 g c =
     by_key in
     let past : length c.args.block.now ≤ c.in-Err.place =
     omega (arith, c.if-place-block.false) in
-    sym (none_behind o c.args.block.now c.args.key c.in-Err.place place past)
+    sym (none_after o c.args.block.now c.args.key c.in-Err.place place past)

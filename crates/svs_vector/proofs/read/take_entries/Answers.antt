@@ -4,7 +4,7 @@ use Rattle.std.proofs.lemmas.Result.{err_from_is_err_and}
 use Rattle.ndn_tlv.specs.Listing.{Listing, gathered}
 use Rattle.ndn_tlv.specs.Elements.{AreWithin, Item, item, elements}
 use Rattle.ndn_tlv.specs.OrderTable.{fields}
-use Rattle.ndn_tlv.specs.declared.order_table.FieldFault.{FieldFault}
+use Rattle.ndn_tlv.specs.declared.order_table.FieldError.{FieldError}
 use Rattle.ndn_tlv.proofs.Gathers.{all_gathered, ends_at_fault, ends_at_step, goes_on}
 use Rattle.svs_vector.specs.declared.vector_fault.VectorFault.{VectorFault}
 use Rattle.svs_vector.specs.declared.read.VectorField.{VectorField}
@@ -47,7 +47,7 @@ returns-in_err-take_entry-in-Ok-Some c =
 pub loop-next-preserved : goal.loop-next-preserved
 loop-next-preserved c =
     let seen = rw c.in-Ok-Some.field-0-is at c.in-Ok-Some.ensures.ok in
-    let P : Listing (VectorField × Item) FieldFault → Type 0 =
+    let P : Listing (VectorField × Item) FieldError → Type 0 =
     λ read. AreWithin c.loop-next.invariant.low (c.args.element.value_start + length c.args.element.value.now)
     (map (λ f. f.1) read.items) in
     let within = subst P seen c.loop-next.invariant.within in

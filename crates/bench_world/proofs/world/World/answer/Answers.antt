@@ -5,10 +5,10 @@ use Rattle.group_model.specs.World.{Tally}
 use Rattle.group_model.specs.Refusals.{refusal}
 use Rattle.group_model.specs.Steps.{after_event, claim_at, came_from, passes_checks}
 use Rattle.bench_world.specs.Serving.{keyed}
-use Rattle.bench_world.specs.EventValues.{answer_told}
+use Rattle.bench_world.specs.EventValues.{answer_reported}
 use Rattle.bench_world.specs.Steps.{IsFaultOf}
 use Rattle.bench_world.specs.Answering.{claim_in, came_in}
-use Rattle.bench_world.specs.Worlds.{GroupState, IsTrueState, world_of, logs_around}
+use Rattle.bench_world.specs.Worlds.{GroupState, IsConsistentState, world_of, logs_around}
 use Rattle.bench_world.specs.Kept.{world_state}
 use Rattle.bench_world.proofs.AnswersAndFeeds.{answer_refusal, answer_taken, answer_passes, answer_world, answer_state}
 use Rattle.bench_world.proofs.AnswersAndFeeds.{answer_fits, fault_by}
@@ -22,7 +22,7 @@ returns-in_err-kept c =
     rw (p.1, p.2) record {
       taken = tt;
       world = tt;
-      told = tt;
+      reported = tt;
       joined = tt;
       steps = tt;
       keys = search rules;
@@ -69,7 +69,7 @@ invariant_of-self-2 c =
     let there = subst (λ (x : GroupState). c.args.m < length x.members) (sym c.self.view_is) c.requires.there in
     let one = c.parts_of.ensures in
     subst (λ (t : Tally).
-    IsTrueState (record s { members = c.answer.new.members.items; tally = t; steps = s.steps + 1 }))
+    IsConsistentState (record s { members = c.answer.new.members.items; tally = t; steps = s.steps + 1 }))
     (λ i. record s.tally {
       attempts = s.tally.attempts + 1;
       parts = s.tally.parts + sym one i;
@@ -103,12 +103,12 @@ returns c =
           c.answer.new.members.items c.in_ok-kept.ensures.members
           ∙ ap (λ (x : GroupState). after_event (keyed x.keys) (world_of x) (Event.Answer c.args.m c.args.f c.args.q))
           c.self.view_is;
-      told =
-          c.answered.ensures ∙ (λ i. answer_told c.args.m (c.from.ensures i) (c.is_some.ensures i))
-          ∙ ap (answer_told c.args.m c.args.f)
+      reported =
+          c.answered.ensures ∙ (λ i. answer_reported c.args.m (c.from.ensures i) (c.is_some.ensures i))
+          ∙ ap (answer_reported c.args.m c.args.f)
           (answer_passes s c.self.invariant c.args.m there c.args.f c.args.q c.in_ok-kept.kept
           c.in_ok-kept.ensures.kept)
-          ∙ ap (λ (x : GroupState). answer_told c.args.m c.args.f
+          ∙ ap (λ (x : GroupState). answer_reported c.args.m c.args.f
           (passes_checks (came_from (keyed x.keys) (world_of x) c.args.q (claim_at (world_of x) c.args.m c.args.f))))
           c.self.view_is;
       joined = tt;

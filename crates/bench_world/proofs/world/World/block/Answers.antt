@@ -7,12 +7,12 @@ use Rattle.group_model.specs.Steps.{after_event, block_at, next_seq_at, next_syn
 use Rattle.repo_member.specs.declared.refusals.PublishRefusal.{PublishRefusal}
 use Rattle.repo_member.specs.declared.refusals.PublishRefusal.TheVariants.{NumbersSpent}
 use Rattle.repo_member.specs.declared.member.block.Blocked.{Blocked}
-use Rattle.bench_world.specs.declared.event.EventFault.TheVariants as fault
-use Rattle.bench_world.specs.EventValues.{block_told}
+use Rattle.bench_world.specs.declared.event.EventError.TheVariants as fault
+use Rattle.bench_world.specs.EventValues.{block_reported}
 use Rattle.bench_world.specs.Kept.{world_state}
 use Rattle.bench_world.specs.Steps.{IsFaultOf}
 use Rattle.bench_world.specs.Worlds.{GroupState, world_of, drawing}
-use Rattle.bench_world.proofs.BlockEvents.{block_refused, finds_number, block_taken, told_so, after_so}
+use Rattle.bench_world.proofs.BlockEvents.{block_refused, finds_number, block_taken, reported_so, after_so}
 use Rattle.bench_world.proofs.States.{few_draws}
 use Rattle.bench_world.proofs.world.World.block.Goals as goal
 
@@ -36,7 +36,7 @@ returns-in-Err-NumbersSpent g c =
     record {
       taken = tt;
       world = tt;
-      told = tt;
+      reported = tt;
       joined = tt;
       steps = tt;
       keys = search rules;
@@ -63,7 +63,7 @@ invariant_of-self-2 g c =
     after_so s c.self.invariant c.args.m there old c.index_mut-member.ensures.value c.args.process c.args.index
     c.args.content.now room c.block.new.self (g.D.Draws.draw c.args.draws.now) c.draw-draw.result
     (c.draw-draw.ensures ∙ ap (g.D.Draws.draw c.args.draws.now c.args.m) c.next_draw.ensures) c.in-Ok.ensures.ok
-    c.in-Ok.blocked c.in-Ok.ensures.told few c.in-Ok.ensures.object
+    c.in-Ok.blocked c.in-Ok.ensures.reported few c.in-Ok.ensures.object
     c.send_blocked-happened.new.sent.packets c.reserve.new.self.packets c.in_ok-vector.vector.items
     (ap (λ x. x.packets) c.in_ok-reserve.ensures.ok) (c.in_ok-vector.ensures ∙ c.vector.ensures.known)
     c.send_blocked-happened.ensures.sent in
@@ -84,7 +84,7 @@ returns g c =
     after_so s c.self.invariant c.args.m there old c.index_mut-member.ensures.value c.args.process c.args.index
     c.args.content.now room c.block.new.self (g.D.Draws.draw c.args.draws.now) c.draw-draw.result
     (c.draw-draw.ensures ∙ ap (g.D.Draws.draw c.args.draws.now c.args.m) c.next_draw.ensures) c.in-Ok.ensures.ok
-    c.in-Ok.blocked c.in-Ok.ensures.told few c.in-Ok.ensures.object
+    c.in-Ok.blocked c.in-Ok.ensures.reported few c.in-Ok.ensures.object
     c.send_blocked-happened.new.sent.packets c.reserve.new.self.packets c.in_ok-vector.vector.items
     (ap (λ x. x.packets) c.in_ok-reserve.ensures.ok) (c.in_ok-vector.ensures ∙ c.vector.ensures.known)
     c.send_blocked-happened.ensures.sent in
@@ -99,14 +99,14 @@ returns g c =
           after.world
           ∙ ap (λ (x : GroupState). after_event (drawing (g.D.Draws.draw c.args.draws.now)) (world_of x) event)
           c.self.view_is;
-      told =
-          told_so s c.self.invariant c.args.m there old c.index_mut-member.ensures.value c.args.process c.args.index
+      reported =
+          reported_so s c.self.invariant c.args.m there old c.index_mut-member.ensures.value c.args.process c.args.index
           c.args.content.now room c.block.new.self (g.D.Draws.draw c.args.draws.now) c.draw-draw.result
           (c.draw-draw.ensures ∙ ap (g.D.Draws.draw c.args.draws.now c.args.m) c.next_draw.ensures) c.in-Ok.ensures.ok
-          c.in-Ok.blocked c.in-Ok.ensures.told _ (length c.reserve.new.self.packets + 1)
-          c.send_blocked-happened.ensures.told
+          c.in-Ok.blocked c.in-Ok.ensures.reported _ (length c.reserve.new.self.packets + 1)
+          c.send_blocked-happened.ensures.reported
           (ap (λ x. length x.packets + 1) c.in_ok-reserve.ensures.ok)
-          ∙ ap (λ (x : GroupState). block_told c.args.m (next_seq_at (world_of x) c.args.m) (next_sync (world_of x))
+          ∙ ap (λ (x : GroupState). block_reported c.args.m (next_seq_at (world_of x) c.args.m) (next_sync (world_of x))
           (block_at (world_of x) c.args.m c.args.process c.args.index c.args.content.now)) c.self.view_is;
       joined = tt;
       steps = ap (λ (x : GroupState). x.steps + 1) c.self.view_is;

@@ -2,8 +2,8 @@ use Rattle.std.proofs.Common.{refl, ◌<◌, length, None, sym, ap, ◌∙◌, s
 use Rattle.std.specs.Prelude.{if◌then◌else◌}
 use Rattle.group_model.specs.Member.{member_holds}
 use Rattle.group_model.specs.World.{member, logs}
-use Rattle.repo_member.specs.InGroup.{true_packet}
-use Rattle.bench_world.specs.EventValues.{part_at, dump_told}
+use Rattle.repo_member.specs.InGroup.{published_packet}
+use Rattle.bench_world.specs.EventValues.{part_at, dump_reported}
 use Rattle.bench_world.specs.Worlds.{GroupState, world_of}
 use Rattle.bench_world.specs.Kept.{world_state}
 use Rattle.bench_world.proofs.Readers.{packet_of_held}
@@ -16,14 +16,15 @@ returns c =
     record {
       taken = refl;
       world = c.count.ensures.world;
-      told =
+      reported =
           c.in_ok-happened.ensures
-          ∙ ap (dump_told c.args.m)
+          ∙ ap (dump_reported c.args.m)
           (packet_of_held s c.self.invariant c.args.m there c.index.result.now c.index.ensures
           (part_at c.args.p c.args.s c.args.x))
-          ∙ ap (λ (w : GroupState). dump_told c.args.m
+          ∙ ap (λ (w : GroupState). dump_reported c.args.m
           (if member_holds (member (world_of w) c.args.m) (part_at c.args.p c.args.s c.args.x)
-          then true_packet w.keys (logs (world_of w)) (part_at c.args.p c.args.s c.args.x) else None)) c.self.view_is;
+          then published_packet w.keys (logs (world_of w)) (part_at c.args.p c.args.s c.args.x) else None))
+          c.self.view_is;
       joined = tt;
       steps = c.count.ensures.steps;
       keys = c.count.ensures.keys;

@@ -6,11 +6,11 @@ use Rattle.group_model.specs.World.{Tally}
 use Rattle.group_model.specs.Refusals.{refusal}
 use Rattle.group_model.specs.Steps.{after_event, claim_at}
 use Rattle.bench_world.specs.Serving.{keyed, octets_as}
-use Rattle.bench_world.specs.EventValues.{feed_told}
+use Rattle.bench_world.specs.EventValues.{feed_reported}
 use Rattle.bench_world.specs.Replying.{fed_reply}
 use Rattle.bench_world.specs.Steps.{IsFaultOf}
 use Rattle.bench_world.specs.Answering.{claim_in, came_for}
-use Rattle.bench_world.specs.Worlds.{GroupState, IsTrueState, world_of, logs_around}
+use Rattle.bench_world.specs.Worlds.{GroupState, IsConsistentState, world_of, logs_around}
 use Rattle.bench_world.specs.Kept.{world_state}
 use Rattle.bench_world.proofs.AnswersAndFeeds.{feed_refusal, feed_taken, feed_is, feed_world, feed_state, feed_fits}
 use Rattle.bench_world.proofs.AnswersAndFeeds.{fault_by}
@@ -24,7 +24,7 @@ returns-in_err-fed c =
     rw (p.1, p.2) record {
       taken = tt;
       world = tt;
-      told = tt;
+      reported = tt;
       joined = tt;
       steps = tt;
       keys = search rules;
@@ -72,7 +72,8 @@ invariant_of-self-2 c =
     let s = world_state c.self.inside in
     let there = subst (λ (x : GroupState). c.args.m < length x.members) (sym c.self.view_is) c.requires.there in
     let one = c.parts_of.ensures in
-    subst (λ (t : Tally). IsTrueState (record s { members = c.feed.new.members.items; tally = t; steps = s.steps + 1 }))
+    subst (λ (t : Tally). IsConsistentState (record s
+    { members = c.feed.new.members.items; tally = t; steps = s.steps + 1 }))
     (λ i. record s.tally { parts = s.tally.parts + sym one i; octets = s.tally.octets + sym c.unwrap_or.ensures i })
     (feed_state s c.self.invariant c.args.m there c.args.f c.args.octets.now c.kept_octets-kept.result
     (c.in_ok-fed.ensures.kept ∙ ap (λ k. Ok k) (sym c.kept_octets-kept.ensures)) c.feed.new.members.items
@@ -99,11 +100,12 @@ returns c =
           c.in_ok-fed.ensures.members
           ∙ ap (λ (x : GroupState). after_event (keyed x.keys) (world_of x)
           (Event.Feed c.args.m c.args.f (λ logs t. octets_as x.keys logs t c.args.octets.now))) c.self.view_is;
-      told =
+      reported =
           c.fed_happened.ensures ∙ ap (λ n. fed_reply c.args.m n c.in_ok-fed.fed) c.from.ensures
           ∙ feed_is s c.self.invariant c.args.m there c.args.f c.args.octets.now c.in_ok-fed.fed c.in_ok-fed.ensures.fed
           ∙ ap (λ (x : GroupState).
-          feed_told x.keys (world_of x) c.args.m c.args.f c.args.octets.now (claim_at (world_of x) c.args.m c.args.f))
+          feed_reported x.keys (world_of x) c.args.m c.args.f c.args.octets.now
+          (claim_at (world_of x) c.args.m c.args.f))
           c.self.view_is;
       joined = tt;
       steps = ap (λ (x : GroupState). x.steps + 1) c.self.view_is;

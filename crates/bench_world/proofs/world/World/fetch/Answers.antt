@@ -1,7 +1,7 @@
 use Rattle.std.proofs.Common.{◌<◌, length, refl, sym, ap, ◌∙◌, subst, arith, ◌+◌}
 use Rattle.group_model.specs.Steps.{planned_parts, fetched_parts, attempts_made, after_fetch}
-use Rattle.bench_world.specs.Serving.{outside}
-use Rattle.bench_world.specs.EventValues.{Told}
+use Rattle.bench_world.specs.Serving.{environment}
+use Rattle.bench_world.specs.EventValues.{Reported}
 use Rattle.bench_world.specs.Worlds.{GroupState, world_of}
 use Rattle.bench_world.specs.Kept.{world_state}
 use Rattle.bench_world.proofs.States.{few_logs, tried_few}
@@ -26,7 +26,7 @@ fetch_at-fetched-requires g c κs within =
               logs = few_logs s c.self.invariant;
               begun = refl;
               numbers = c.self.invariant.numbers;
-              truly = c.self.invariant.members;
+              consistent = c.self.invariant.members;
               tried = tried_few s c.self.invariant;
             },
           ),
@@ -62,7 +62,7 @@ invariant_of-self-2 g c =
     c.requires.tries.1 c.in-Ok.counts.attempts c.from.result c.in-Ok.counts.kept.octets
     c.in-Ok.ensures.attempts (c.from.ensures ∙ c.in-Ok.ensures.parts) c.in-Ok.ensures.octets
     c.fetch_at-fetched.new.members.items c.in-Ok.ensures.members c.fetch_at-fetched.ensures.len
-    c.fetch_at-fetched.ensures.numbers c.fetch_at-fetched.ensures.truly
+    c.fetch_at-fetched.ensures.numbers c.fetch_at-fetched.ensures.consistent
 
 pub returns : goal.returns
 returns g c =
@@ -75,15 +75,17 @@ returns g c =
           c.requires.tries.1 c.in-Ok.counts.attempts c.from.result c.in-Ok.counts.kept.octets
           c.in-Ok.ensures.attempts (c.from.ensures ∙ c.in-Ok.ensures.parts) c.in-Ok.ensures.octets
           c.fetch_at-fetched.new.members.items c.in-Ok.ensures.members
-          ∙ ap (λ (x : GroupState). after_fetch (outside x.keys (λ _ _. 0) (g.N.Net.passes c.args.net.now)) (world_of x)
+          ∙ ap (λ (x : GroupState). after_fetch (environment x.keys (λ _ _. 0) (g.N.Net.passes c.args.net.now))
+          (world_of x)
           c.args.m c.args.tries c.args.loss) c.self.view_is;
-      told =
-          (λ i. Told.Fetch c.args.m (c.in-Ok.ensures.planned i) ((c.from-2.ensures ∙ c.in-Ok.ensures.parts) i)
+      reported =
+          (λ i. Reported.Fetch c.args.m (c.in-Ok.ensures.planned i) ((c.from-2.ensures ∙ c.in-Ok.ensures.parts) i)
           (c.in-Ok.ensures.attempts i))
-          ∙ ap (λ (x : GroupState). Told.Fetch c.args.m (length (planned_parts (world_of x) c.args.m))
-          (length (fetched_parts (outside x.keys (λ _ _. 0) (g.N.Net.passes c.args.net.now)) (world_of x) c.args.m
+          ∙ ap (λ (x : GroupState). Reported.Fetch c.args.m (length (planned_parts (world_of x) c.args.m))
+          (length (fetched_parts (environment x.keys (λ _ _. 0) (g.N.Net.passes c.args.net.now)) (world_of x) c.args.m
           c.args.tries c.args.loss))
-          (attempts_made (outside x.keys (λ _ _. 0) (g.N.Net.passes c.args.net.now)) (world_of x) c.args.m c.args.tries
+          (attempts_made (environment x.keys (λ _ _. 0) (g.N.Net.passes c.args.net.now)) (world_of x) c.args.m
+          c.args.tries
           c.args.loss)) c.self.view_is;
       joined = tt;
       steps = ap (λ (x : GroupState). x.steps + 1) c.self.view_is;

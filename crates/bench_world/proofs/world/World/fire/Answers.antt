@@ -1,6 +1,6 @@
 use Rattle.std.proofs.Common.{refl, ◌<◌, ◌+◌, length, sym, ap, ◌∙◌, subst}
 use Rattle.group_model.specs.Steps.{after_fire, timer_at, next_sync}
-use Rattle.bench_world.specs.EventValues.{fired_told}
+use Rattle.bench_world.specs.EventValues.{fired_reported}
 use Rattle.bench_world.specs.Worlds.{GroupState, world_of, drawing}
 use Rattle.bench_world.specs.Kept.{world_state}
 use Rattle.bench_world.proofs.States.{few_draws}
@@ -43,11 +43,12 @@ returns g c =
           ∙ ap (λ (x : GroupState).
           after_fire (drawing (g.D.Draws.draw c.args.draws.now)) (world_of x) c.args.m (timer_at (world_of x) c.args.m))
           c.self.view_is;
-      told =
+      reported =
           fires_so s c.self.invariant c.args.m there c.index_mut-member.result.now c.index_mut-member.ensures.value
-          (length c.reserve.new.self.packets + 1) c.in-Ok.fire _ c.in-Ok.ensures.fire c.send_fired-happened.ensures.told
+          (length c.reserve.new.self.packets + 1) c.in-Ok.fire _ c.in-Ok.ensures.fire
+          c.send_fired-happened.ensures.reported
           (ap (λ x. length x.packets + 1) c.in_ok-reserve.ensures.ok)
-          ∙ ap (λ (x : GroupState). fired_told c.args.m (next_sync (world_of x)) (timer_at (world_of x) c.args.m))
+          ∙ ap (λ (x : GroupState). fired_reported c.args.m (next_sync (world_of x)) (timer_at (world_of x) c.args.m))
           c.self.view_is;
       joined = tt;
       steps = ap (λ (x : GroupState). x.steps + 1) c.self.view_is;

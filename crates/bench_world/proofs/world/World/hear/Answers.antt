@@ -5,25 +5,25 @@ use Rattle.std.proofs.lemmas.List.{get_or_default}
 use Rattle.svs_sync.specs.declared.sync_refusal.SyncRefusal.{SyncRefusal}
 use Rattle.group_model.specs.Refusals.{if_unsent}
 use Rattle.group_model.specs.Steps.{after_hear}
-use Rattle.repo_member.specs.Alone.{Alone}
+use Rattle.repo_member.specs.MemberState.{MemberState}
 use Rattle.repo_member.specs.Verdicts.{group_verdict}
 use Rattle.repo_member.specs.declared.refusals.HearRefusal.TheVariants as hear
-use Rattle.bench_world.specs.EventValues.{Told}
-use Rattle.bench_world.specs.Hearing.{told_sync}
+use Rattle.bench_world.specs.EventValues.{Reported}
+use Rattle.bench_world.specs.Hearing.{reported_sync}
 use Rattle.bench_world.specs.Readings.{read_as}
 use Rattle.bench_world.specs.Steps.{IsFaultOf}
 use Rattle.bench_world.specs.Worlds.{GroupState, nobody, world_of, drawing}
 use Rattle.bench_world.specs.Kept.{world_state}
 use Rattle.bench_world.proofs.States.{few_draws}
-use Rattle.bench_world.proofs.Hearings.{hears_told, refused_so, foreign_so, sent_taken, heard_world, heard_state}
-use Rattle.bench_world.proofs.Hearings.{heard_told}
+use Rattle.bench_world.proofs.Hearings.{hears_reported, refused_so, foreign_so, sent_taken, heard_world, heard_state}
+use Rattle.bench_world.proofs.Hearings.{heard_reported}
 use Rattle.bench_world.proofs.world.World.hear.Goals as goal
 
 sync_apart : (refusal : SyncRefusal) → hear.Sync refusal ≡ hear.NoMemory → ⊥
 sync_apart refusal h = cc
 
-ahead_apart : (own told : ℕ) → hear.OwnNumberAhead own told ≡ hear.NoMemory → ⊥
-ahead_apart own told h = cc
+ahead_apart : (own reported : ℕ) → hear.OwnNumberAhead own reported ≡ hear.NoMemory → ⊥
+ahead_apart own reported h = cc
 
 pub returns-in-Err-Sync : goal.returns-in-Err-Sync
 returns-in-Err-Sync g c =
@@ -45,10 +45,10 @@ returns-in-Err-Sync g c =
           ∙ subst (λ (x : GroupState). world_of x
           ≡ after_hear (drawing (g.D.Draws.draw c.args.draws.now)) (world_of x) c.args.m
           (read_as (group_verdict x.keys c.args.octets.now))) c.self.view_is (sym all.1);
-      told =
-          ap (Told.HearRefused c.args.m) (sym c.in-Err-Sync.field-0-is)
-          ∙ subst (λ (x : GroupState). Told.HearRefused c.args.m c.in-Err-Sync.field-0
-          ≡ hears_told (drawing (g.D.Draws.draw c.args.draws.now)) (world_of x) c.args.m
+      reported =
+          ap (Reported.HearRefused c.args.m) (sym c.in-Err-Sync.field-0-is)
+          ∙ subst (λ (x : GroupState). Reported.HearRefused c.args.m c.in-Err-Sync.field-0
+          ≡ hears_reported (drawing (g.D.Draws.draw c.args.draws.now)) (world_of x) c.args.m
           (group_verdict x.keys c.args.octets.now)) c.self.view_is (sym all.2);
       joined = tt;
       steps = c.count.ensures.steps;
@@ -79,10 +79,10 @@ returns-in-Err-OwnNumberAhead g c =
           ∙ subst (λ (x : GroupState). world_of x
           ≡ after_hear (drawing (g.D.Draws.draw c.args.draws.now)) (world_of x) c.args.m
           (read_as (group_verdict x.keys c.args.octets.now))) c.self.view_is (sym all.1);
-      told =
-          ap (Told.HearRefused c.args.m) (sym c.in-Err-OwnNumberAhead.field-0-is)
-          ∙ subst (λ (x : GroupState). Told.HearRefused c.args.m c.in-Err-OwnNumberAhead.field-0
-          ≡ hears_told (drawing (g.D.Draws.draw c.args.draws.now)) (world_of x) c.args.m
+      reported =
+          ap (Reported.HearRefused c.args.m) (sym c.in-Err-OwnNumberAhead.field-0-is)
+          ∙ subst (λ (x : GroupState). Reported.HearRefused c.args.m c.in-Err-OwnNumberAhead.field-0
+          ≡ hears_reported (drawing (g.D.Draws.draw c.args.draws.now)) (world_of x) c.args.m
           (group_verdict x.keys c.args.octets.now)) c.self.view_is (sym all.2);
       joined = tt;
       steps = c.count-in-Err-OwnNumberAhead.ensures.steps;
@@ -109,12 +109,13 @@ returns-in_err-mode g c =
     ∙ get_or_default s.members c.args.m c.index.result.now nobody there
     ∙ sym
     (c.index_mut-member.ensures.value ∙ get_or_default s.members c.args.m c.index_mut-member.result.now nobody there) in
-    let told = ap (λ (a : Alone). told_sync (length a.log) c.args.m r) (sym same) ∙ c.in-Ok.ensures.told in
+    let reported = ap (λ (a : MemberState). reported_sync (length a.log) c.args.m r) (sym same)
+    ∙ c.in-Ok.ensures.reported in
     let p = err_from_is_err_and c.from_residual.result c.from_residual.ensures.1 in
     rw (p.1, p.2) record {
       taken = tt;
       world = tt;
-      told = tt;
+      reported = tt;
       joined = tt;
       steps = tt;
       keys = search rules;
@@ -124,9 +125,9 @@ returns-in_err-mode g c =
           IsFaultOf (if_unsent (world_of x) c.args.m (read_as (group_verdict x.keys c.args.octets.now)))
           c.in_err-mode.field-0.0)
           c.self.view_is
-          (foreign_so s c.self.invariant c.args.m there old c.index_mut-member.ensures.value r c.in-Ok.told.0
-          c.in-Ok.told.1
-          told c.in_err-mode.field-0.0 c.in_err-mode.ensures.foreign);
+          (foreign_so s c.self.invariant c.args.m there old c.index_mut-member.ensures.value r c.in-Ok.reported.0
+          c.in-Ok.reported.1
+          reported c.in_err-mode.field-0.0 c.in_err-mode.ensures.foreign);
       err = grind (arith, common_steps);
     }
 
@@ -141,10 +142,12 @@ invariant_of-self-2 g c =
     ∙ get_or_default s.members c.args.m c.index.result.now nobody there
     ∙ sym
     (c.index_mut-member.ensures.value ∙ get_or_default s.members c.args.m c.index_mut-member.result.now nobody there) in
-    let told = ap (λ (a : Alone). told_sync (length a.log) c.args.m r) (sym same) ∙ c.in-Ok.ensures.told in
+    let reported = ap (λ (a : MemberState). reported_sync (length a.log) c.args.m r) (sym same)
+    ∙ c.in-Ok.ensures.reported in
     let drawn = c.draw-draw.ensures ∙ ap (g.D.Draws.draw c.args.draws.now c.args.m) c.next_draw.ensures in
-    heard_state s c.self.invariant c.args.m there old c.index_mut-member.ensures.value r c.in-Ok.told.0 c.in-Ok.told.1
-    told c.in_ok-mode.ensures.sent (g.D.Draws.draw c.args.draws.now) c.hear_sent.new.member c.draw-draw.result
+    heard_state s c.self.invariant c.args.m there old c.index_mut-member.ensures.value r c.in-Ok.reported.0
+    c.in-Ok.reported.1
+    reported c.in_ok-mode.ensures.sent (g.D.Draws.draw c.args.draws.now) c.hear_sent.new.member c.draw-draw.result
     c.in_ok-mode.ensures.ok drawn
     (subst (λ (x : GroupState). x.steps < 100000) (sym c.self.view_is) c.requires.few)
 
@@ -159,7 +162,8 @@ returns g c =
     ∙ get_or_default s.members c.args.m c.index.result.now nobody there
     ∙ sym
     (c.index_mut-member.ensures.value ∙ get_or_default s.members c.args.m c.index_mut-member.result.now nobody there) in
-    let told = ap (λ (a : Alone). told_sync (length a.log) c.args.m r) (sym same) ∙ c.in-Ok.ensures.told in
+    let reported = ap (λ (a : MemberState). reported_sync (length a.log) c.args.m r) (sym same)
+    ∙ c.in-Ok.ensures.reported in
     let drawn = c.draw-draw.ensures ∙ ap (g.D.Draws.draw c.args.draws.now c.args.m) c.next_draw.ensures in
     record {
       taken =
@@ -167,25 +171,25 @@ returns g c =
           (λ (x : GroupState). if_unsent (world_of x) c.args.m (read_as (group_verdict x.keys c.args.octets.now))
           ≡ None)
           c.self.view_is
-          (sent_taken s c.self.invariant c.args.m there old c.index_mut-member.ensures.value r c.in-Ok.told.0
-          c.in-Ok.told.1
-          told c.in_ok-mode.ensures.sent);
+          (sent_taken s c.self.invariant c.args.m there old c.index_mut-member.ensures.value r c.in-Ok.reported.0
+          c.in-Ok.reported.1
+          reported c.in_ok-mode.ensures.sent);
       world =
-          heard_world s c.self.invariant c.args.m there old c.index_mut-member.ensures.value r c.in-Ok.told.0
-          c.in-Ok.told.1
-          told c.in_ok-mode.ensures.sent (g.D.Draws.draw c.args.draws.now) c.hear_sent.new.member
+          heard_world s c.self.invariant c.args.m there old c.index_mut-member.ensures.value r c.in-Ok.reported.0
+          c.in-Ok.reported.1
+          reported c.in_ok-mode.ensures.sent (g.D.Draws.draw c.args.draws.now) c.hear_sent.new.member
           c.draw-draw.result
           c.in_ok-mode.ensures.ok drawn
           ∙ ap (λ (x : GroupState). after_hear (drawing (g.D.Draws.draw c.args.draws.now)) (world_of x) c.args.m
           (read_as (group_verdict x.keys c.args.octets.now))) c.self.view_is;
-      told =
+      reported =
           c.heard.ensures
-          ∙ heard_told s c.self.invariant c.args.m there old c.index_mut-member.ensures.value r c.in-Ok.told.0
-          c.in-Ok.told.1
-          told c.in_ok-mode.ensures.sent (g.D.Draws.draw c.args.draws.now) c.hear_sent.new.member
+          ∙ heard_reported s c.self.invariant c.args.m there old c.index_mut-member.ensures.value r c.in-Ok.reported.0
+          c.in-Ok.reported.1
+          reported c.in_ok-mode.ensures.sent (g.D.Draws.draw c.args.draws.now) c.hear_sent.new.member
           c.draw-draw.result
           c.in_ok-mode.ensures.ok drawn c.in_ok-mode.mode c.in_ok-mode.ensures.mode
-          ∙ ap (λ (x : GroupState). hears_told (drawing (g.D.Draws.draw c.args.draws.now)) (world_of x) c.args.m
+          ∙ ap (λ (x : GroupState). hears_reported (drawing (g.D.Draws.draw c.args.draws.now)) (world_of x) c.args.m
           (group_verdict x.keys c.args.octets.now)) c.self.view_is;
       joined = tt;
       steps = ap (λ (x : GroupState). x.steps + 1) c.self.view_is;

@@ -20,7 +20,7 @@ invariant_of-self-2 c =
     let taken =
     taken_is s c.self.invariant c.args.m there old c.index_mut-member.ensures.value c.args.client c.args.command known
     c.requires.spelled c.requires.command c.deref.result.now (c.deref.ensures.value ∙ c.in_ok-octets.ensures) in
-    let b_is = c.in_ok-answered.ensures.ok ∙ ap (λ r. commanded.alone_after_order r old) taken in
+    let b_is = c.in_ok-answered.ensures.ok ∙ ap (λ r. commanded.member_after_order r old) taken in
     let one : IssuedCommand = record { member = c.args.m; client = c.args.client; command = c.args.command } in
     let made =
     c.add_reserved.ensures.made
@@ -38,7 +38,7 @@ returns-clause-world c =
     let taken =
     taken_is s c.self.invariant c.args.m there old c.index_mut-member.ensures.value c.args.client c.args.command known
     c.requires.spelled c.requires.command c.deref.result.now (c.deref.ensures.value ∙ c.in_ok-octets.ensures) in
-    let b_is = c.in_ok-answered.ensures.ok ∙ ap (λ r. commanded.alone_after_order r old) taken in
+    let b_is = c.in_ok-answered.ensures.ok ∙ ap (λ r. commanded.member_after_order r old) taken in
     let one : IssuedCommand = record { member = c.args.m; client = c.args.client; command = c.args.command } in
     let made =
     c.add_reserved.ensures.made
@@ -58,6 +58,6 @@ returns-clause-answer c =
     taken_is s c.self.invariant c.args.m there old c.index_mut-member.ensures.value c.args.client c.args.command known
     c.requires.spelled c.requires.command c.deref.result.now (c.deref.ensures.value ∙ c.in_ok-octets.ensures) in
     c.in_ok-answered.ensures.answer
-    ∙ ap (λ r. commanded.alone_order_answer r old) taken
+    ∙ ap (λ r. commanded.member_order_answer r old) taken
     ∙ issue_answered s c.self.invariant c.args.m there old c.index_mut-member.ensures.value c.args.client c.args.command
     ∙ ap (λ (x : GroupState). command_answer (world_of x) c.args.m c.args.command) c.self.view_is

@@ -28,7 +28,7 @@ returns c =
           ∙ ap (λ (x : GroupState).
           with_member (world_of x) c.args.m (member_with_claim c.args.f None (member (world_of x) c.args.m)))
           c.self.view_is;
-      told = grind (arith, common_steps);
+      reported = grind (arith, common_steps);
       joined = tt;
       steps = ap (λ (x : GroupState). x.steps + 1) c.self.view_is;
       keys = ap (λ (x : GroupState). x.keys) c.self.view_is;

@@ -2,13 +2,13 @@ use Rattle.std.proofs.Common.{◌≡◌, ◌+◌, ◌<◌, List, length, map, se
 use Rattle.std.specs.Prelude.{slice_set, sum, sum_by}
 use Rattle.std.proofs.lemmas.List.{get_or_default, get_or-set_same}
 use Rattle.repo_holdings.specs.Taking.{Fetched}
-use Rattle.repo_member.specs.Alone.{Alone}
+use Rattle.repo_member.specs.MemberState.{MemberState}
 use Rattle.repo_member.specs.InGroup.{that_came}
 use Rattle.repo_mirror.specs.MirrorState.{MirrorState}
 use Rattle.bench_world.specs.Conditions.{CanFetchFor}
 use Rattle.bench_world.specs.MirrorSteps.{no_mirror, mirror_at, mirror_fetched, mirror_fetches}
 use Rattle.bench_world.specs.MirrorFetching.{mirror_asks, mirror_gets, mirror_attempts, HasFetched}
-use Rattle.bench_world.specs.Worlds.{GroupState, IsTrueState, world_of}
+use Rattle.bench_world.specs.Worlds.{GroupState, IsConsistentState, world_of}
 use Rattle.bench_world.specs.Kept.{world_state}
 use Rattle.bench_world.proofs.States.{few_logs}
 use Rattle.bench_world.proofs.MirrorAsks.{asks_are, gets_are, attempts_are, has_fetched}
@@ -23,7 +23,7 @@ fetch_for-requires g c =
       c.type_bounds.sync-N,
       (
         c.type_bounds.sync-R,
-        subst (λ (as_ : List Alone). CanFetchFor s.keys c.args.workers c.args.tries c.args.i as_ s.mirrors)
+        subst (λ (as_ : List MemberState). CanFetchFor s.keys c.args.workers c.args.tries c.args.i as_ s.mirrors)
             (sym c.as_slice.ensures.value)
             (record {
               workers = c.requires.workers;
@@ -32,7 +32,7 @@ fetch_for-requires g c =
               few = omega (arith, there, few);
               logs = few_logs s c.self.invariant;
               others = c.self.invariant.members;
-              truly = c.self.invariant.mirrors c.args.i no_mirror there;
+              consistent = c.self.invariant.mirrors c.args.i no_mirror there;
               tried =
                   mirror_tried s c.self.invariant c.args.i there (mirror_at s.mirrors c.args.i)
                   (get_or_default s.mirrors c.args.i no_mirror (mirror_at s.mirrors c.args.i) there);
@@ -43,7 +43,7 @@ fetch_for-requires g c =
 pub invariant_of-self : goal.invariant_of-self
 invariant_of-self g c =
     let s = world_state c.self.inside in
-    subst (λ (ms : List MirrorState). IsTrueState (record s { mirrors = ms })) (sym c.in_err-counts.ensures.err)
+    subst (λ (ms : List MirrorState). IsConsistentState (record s { mirrors = ms })) (sym c.in_err-counts.ensures.err)
     c.self.invariant
 
 pub invariant_of-self-2 : goal.invariant_of-self-2
@@ -56,7 +56,7 @@ invariant_of-self-2 g c =
     (g.N.Net.passes c.args.net.now) c.args.tries c.args.loss
     c.requires.tries.1 c.fetch_for.new.mirrors.items
     (c.in_ok-counts.ensures.ok
-    ∙ ap (λ (as_ : List Alone). set s.mirrors c.args.i
+    ∙ ap (λ (as_ : List MemberState). set s.mirrors c.args.i
     (mirror_fetches (g.N.Net.passes c.args.net.now) as_ c.args.i c.args.tries c.args.loss
     (mirror_at s.mirrors c.args.i)))
     c.as_slice.ensures.value)
@@ -66,7 +66,7 @@ returns-clause-ok g c =
     let s = world_state c.self.inside in
     ap (λ (ms : List MirrorState). let x : GroupState = record s { mirrors = ms; steps = s.steps + 1 } in x)
     (c.in_ok-counts.ensures.ok
-    ∙ ap (λ (as_ : List Alone). set s.mirrors c.args.i
+    ∙ ap (λ (as_ : List MemberState). set s.mirrors c.args.i
     (mirror_fetches (g.N.Net.passes c.args.net.now) as_ c.args.i c.args.tries c.args.loss
     (mirror_at s.mirrors c.args.i)))
     c.as_slice.ensures.value)
@@ -88,7 +88,7 @@ returns-clause-fetched g c =
     let now : mirror_at c.fetch_for.new.mirrors.items c.args.i ≡ made =
     ap (λ (ms : List MirrorState). mirror_at ms c.args.i)
     (c.in_ok-counts.ensures.ok
-    ∙ ap (λ (as_ : List Alone). set s.mirrors c.args.i
+    ∙ ap (λ (as_ : List MemberState). set s.mirrors c.args.i
     (mirror_fetches (g.N.Net.passes c.args.net.now) as_ c.args.i c.args.tries c.args.loss m)) c.as_slice.ensures.value)
     ∙ get_or-set_same s.mirrors c.args.i made no_mirror there in
     subst (λ (x : GroupState). HasFetched (g.N.Net.passes c.args.net.now) (world_of x) c.args.i c.args.tries c.args.loss
@@ -114,7 +114,7 @@ returns-clause-kept g c =
     let there = subst (λ (x : GroupState). c.args.i < length x.mirrors) (sym c.self.view_is) c.requires.there in
     let m : MirrorState = mirror_at s.mirrors c.args.i in
     c.in_ok-counts.ensures.parts
-    ∙ ap (λ (as_ : List Alone). length
+    ∙ ap (λ (as_ : List MemberState). length
     (that_came (mirror_fetched (g.N.Net.passes c.args.net.now) as_ c.args.i c.args.tries c.args.loss m)))
     c.as_slice.ensures.value
     ∙ ap length
@@ -129,7 +129,7 @@ returns-clause-attempts g c =
     let there = subst (λ (x : GroupState). c.args.i < length x.mirrors) (sym c.self.view_is) c.requires.there in
     let m : MirrorState = mirror_at s.mirrors c.args.i in
     c.in_ok-counts.ensures.attempts
-    ∙ ap (λ (as_ : List Alone). sum (map (λ (x : Fetched). x.attempts)
+    ∙ ap (λ (as_ : List MemberState). sum (map (λ (x : Fetched). x.attempts)
     (mirror_fetched (g.N.Net.passes c.args.net.now) as_ c.args.i c.args.tries c.args.loss m)))
     c.as_slice.ensures.value
     ∙ attempts_are (g.N.Net.passes c.args.net.now) s.keys (world_of s) c.self.invariant.are s.members refl m

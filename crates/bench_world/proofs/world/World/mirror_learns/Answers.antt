@@ -9,7 +9,7 @@ use Rattle.bench_world.specs.MirrorSteps.{mirror_at, mirror_learns}
 use Rattle.bench_world.specs.Worlds.{GroupState, world_of}
 use Rattle.bench_world.specs.Kept.{world_state}
 use Rattle.bench_world.proofs.Deliveries.{there, not_refused, few_numbers, sent_is}
-use Rattle.bench_world.proofs.MirrorStates.{mirror_is, as_many_told, told_mirror}
+use Rattle.bench_world.proofs.MirrorStates.{mirror_is, as_many_reported, reported_mirror}
 use Rattle.bench_world.proofs.world.World.mirror_learns.Goals as goal
 
 pub vector_of-requires : goal.vector_of-requires
@@ -23,8 +23,8 @@ learn-requires c =
     let s = world_state c.self.inside in
     let inside = subst (λ (x : GroupState). c.args.i < length x.mirrors) (sym c.self.view_is) c.requires.there in
     let at = there (λ (p : SentPacket). p.vector) s.sent c.args.k c.in-Some.numbers.now c.in-Some.ensures in
-    as_many_told s c.self.invariant c.args.i inside c.index_mut-mirror.result.now c.index_mut-mirror.ensures.value
-    c.args.k at.first at.last c.in_ok-told.told (c.in_ok-told.ensures ∙ at.same)
+    as_many_reported s c.self.invariant c.args.i inside c.index_mut-mirror.result.now c.index_mut-mirror.ensures.value
+    c.args.k at.first at.last c.in_ok-reported.reported (c.in_ok-reported.ensures ∙ at.same)
 
 pub invariant_of-self : goal.invariant_of-self
 invariant_of-self c =
@@ -32,10 +32,10 @@ invariant_of-self c =
     let inside = subst (λ (x : GroupState). c.args.i < length x.mirrors) (sym c.self.view_is) c.requires.there in
     let at = there (λ (p : SentPacket). p.vector) s.sent c.args.k c.in-Some.numbers.now c.in-Some.ensures in
     let old = c.index_mut-mirror.result.now in
-    told_mirror s c.self.invariant c.args.i inside old c.index_mut-mirror.ensures.value c.args.k at.first at.last
+    reported_mirror s c.self.invariant c.args.i inside old c.index_mut-mirror.ensures.value c.args.k at.first at.last
     (set s.mirrors c.args.i c.learn.new.self)
     (ap (set s.mirrors c.args.i)
-    (c.learn.ensures ∙ ap (λ v. mirror_learns v old) (c.in_ok-told.ensures ∙ at.same)))
+    (c.learn.ensures ∙ ap (λ v. mirror_learns v old) (c.in_ok-reported.ensures ∙ at.same)))
 
 pub returns-clause-sent : goal.returns-clause-sent
 returns-clause-sent c =
@@ -50,12 +50,12 @@ returns-clause-ok c =
     let inside = subst (λ (x : GroupState). c.args.i < length x.mirrors) (sym c.self.view_is) c.requires.there in
     let at = there (λ (p : SentPacket). p.vector) s.sent c.args.k c.in-Some.numbers.now c.in-Some.ensures in
     let old = c.index_mut-mirror.result.now in
-    let told : c.in_ok-told.told ≡ (sent_at (world_of s) c.args.k).vector =
-    c.in_ok-told.ensures ∙ at.same
+    let reported : c.in_ok-reported.reported ≡ (sent_at (world_of s) c.args.k).vector =
+    c.in_ok-reported.ensures ∙ at.same
     ∙ sym (ap (λ p. p.vector) (sent_is s c.self.invariant c.args.k at.first at.last)) in
     ap (λ (m : MirrorState). let x : GroupState = record s { mirrors = set s.mirrors c.args.i m } in x)
     (c.learn.ensures
-    ∙ ap (λ v. mirror_learns v old) told
+    ∙ ap (λ v. mirror_learns v old) reported
     ∙ ap (mirror_learns (sent_at (world_of s) c.args.k).vector)
     (mirror_is s c.self.invariant c.args.i inside old c.index_mut-mirror.ensures.value))
     ∙ ap (λ (x : GroupState). let y : GroupState = record x {

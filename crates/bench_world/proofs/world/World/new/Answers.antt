@@ -2,28 +2,28 @@ use Rattle.std.proofs.Common.{List, [], sym, ap, ◌∙◌, subst}
 use Rattle.group_model.specs.World.{Issued}
 use Rattle.repo_mirror.specs.MirrorState.{MirrorState}
 use Rattle.bench_world.specs.IssuedList.{IssuedList}
-use Rattle.bench_world.specs.Worlds.{IsTrueState, world_of}
+use Rattle.bench_world.specs.Worlds.{IsConsistentState, world_of}
 use Rattle.bench_world.proofs.Openings.{opening_state, opening_is}
 use Rattle.bench_world.proofs.world.World.new.Goals as goal
 
 pub invariant_of-result : goal.invariant_of-result
 invariant_of-result g c =
-    subst (λ (ms : List MirrorState). IsTrueState (record {
+    subst (λ (ms : List MirrorState). IsConsistentState (record {
       keys = c.args.group;
       members = c.in_ok-members.members.items;
       sent = c.new.result.packets;
-      moment = 0;
+      time = 0;
       issued = c.new-2.result.commands;
       tally = record { delivered = 0; attempts = 0; parts = 0; octets = 0 };
       steps = 0;
       mirrors = ms;
     }))
     (sym c.new-3.ensures.items)
-    (subst (λ (made : List Issued). IsTrueState (record {
+    (subst (λ (made : List Issued). IsConsistentState (record {
       keys = c.args.group;
       members = c.in_ok-members.members.items;
       sent = c.new.result.packets;
-      moment = 0;
+      time = 0;
       issued = made;
       tally = record { delivered = 0; attempts = 0; parts = 0; octets = 0 };
       steps = 0;
@@ -39,7 +39,7 @@ returns-clause-world g c =
       keys = c.args.group;
       members = c.in_ok-members.members.items;
       sent = c.new.result.packets;
-      moment = 0;
+      time = 0;
       issued = made;
       tally = record { delivered = 0; attempts = 0; parts = 0; octets = 0 };
       steps = 0;

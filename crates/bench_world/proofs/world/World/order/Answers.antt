@@ -3,7 +3,7 @@ use Rattle.std.proofs.lemmas.Result.{err_from_is_err_and}
 use Rattle.group_model.specs.Refusals.{if_unissued}
 use Rattle.group_model.specs.Steps.{after_order, order_answer}
 use Rattle.repo_member.specs.Commanded as commanded
-use Rattle.bench_world.specs.EventValues.{order_told}
+use Rattle.bench_world.specs.EventValues.{order_reported}
 use Rattle.bench_world.specs.Kept.{world_state}
 use Rattle.bench_world.specs.Steps.{IsFaultOf}
 use Rattle.bench_world.specs.Worlds.{GroupState, world_of}
@@ -29,7 +29,7 @@ invariant_of-self-2 c =
     let number = number_is s c.self.invariant c.args.m there old c.index_mut-member.ensures.value in
     let b_is =
     c.in_ok-answered.ensures.ok
-    ∙ ap (λ (k : ℕ). commanded.alone_after_order (commanded.order_of s.keys k c.args.octets.now) old) number in
+    ∙ ap (λ (k : ℕ). commanded.member_after_order (commanded.order_of s.keys k c.args.octets.now) old) number in
     obeyed_state s c.self.invariant c.args.m there old c.index_mut-member.ensures.value
     (commanded.order_of s.keys c.args.m c.args.octets.now) c.command_checked.new.self b_is few
     (order_range s.keys c.args.m c.args.octets.now)
@@ -42,7 +42,7 @@ returns c =
     let number = number_is s c.self.invariant c.args.m there old c.index_mut-member.ensures.value in
     let b_is =
     c.in_ok-answered.ensures.ok
-    ∙ ap (λ (k : ℕ). commanded.alone_after_order (commanded.order_of s.keys k c.args.octets.now) old) number in
+    ∙ ap (λ (k : ℕ). commanded.member_after_order (commanded.order_of s.keys k c.args.octets.now) old) number in
     let may = c.in_ok-verdict.ensures.issued in
     record {
       taken =
@@ -56,15 +56,15 @@ returns c =
           ∙ ap (λ (x : GroupState). after_order (world_of x) c.args.m
           (commanded.order_of x.keys c.args.m c.args.octets.now))
           c.self.view_is;
-      told =
+      reported =
           c.ordered.ensures
-          ∙ ap (order_told c.args.m)
+          ∙ ap (order_reported c.args.m)
           (c.in_ok-answered.ensures.answer
-          ∙ ap (λ (k : ℕ). commanded.alone_order_answer (commanded.order_of s.keys k c.args.octets.now) old) number
+          ∙ ap (λ (k : ℕ). commanded.member_order_answer (commanded.order_of s.keys k c.args.octets.now) old) number
           ∙ order_answered s c.self.invariant c.args.m there old c.index_mut-member.ensures.value
           (commanded.order_of s.keys c.args.m c.args.octets.now))
           ∙ ap (λ (x : GroupState).
-          order_told c.args.m (order_answer (world_of x) c.args.m
+          order_reported c.args.m (order_answer (world_of x) c.args.m
           (commanded.order_of x.keys c.args.m c.args.octets.now)))
           c.self.view_is;
       joined = tt;
@@ -83,7 +83,7 @@ returns-in_err-verdict c =
     rw (p.1, p.2) record {
       taken = tt;
       world = tt;
-      told = tt;
+      reported = tt;
       joined = tt;
       steps = tt;
       keys = refl;

@@ -3,7 +3,7 @@ use Rattle.std.proofs.lemmas.List.{length-map}
 use Rattle.group_model.specs.Steps.{after_event}
 use Rattle.group_model.specs.Refusals.{refusal}
 use Rattle.repo_member.specs.InGroup.{in_group}
-use Rattle.bench_world.specs.Serving.{outside}
+use Rattle.bench_world.specs.Serving.{environment}
 use Rattle.bench_world.specs.EventValues.{event_value, group_event}
 use Rattle.bench_world.specs.Steps.{IsReady, IsStepFaultOf}
 use Rattle.bench_world.specs.Runs.{event_values, IsStopped}
@@ -24,7 +24,7 @@ loop-event-init g c = record {
 
 pub loop-event-preserved : goal.loop-event-preserved
 loop-event-preserved g c =
-    let out = outside c.args.self.now.keys (g.D.Draws.draw c.args.draws.now) (g.N.Net.passes c.args.net.now) in
+    let out = environment c.args.self.now.keys (g.D.Draws.draw c.args.draws.now) (g.N.Net.passes c.args.net.now) in
     let inv = c.loop-event.invariant in
     let i = c.loop-event.event-index in
     let inside : c.loop-event.event-index < length c.args.events.now =
@@ -34,17 +34,17 @@ loop-event-preserved g c =
     subst (λ e. IsReady (length c.args.self.now.keys.members.names) (event_value e)) (sym c.event-item.is)
     (c.requires.ready i c.event-item.result inside) in
     let not_refused : refusal
-    (outside c.args.self.now.keys (g.D.Draws.draw c.args.draws.now) (g.N.Net.passes c.args.net.now))
+    (environment c.args.self.now.keys (g.D.Draws.draw c.args.draws.now) (g.N.Net.passes c.args.net.now))
     (world_of c.loop-event.self) (group_event c.args.self.now.keys (event_value c.event-item.result))
     ≡ None =
-    subst (λ k. refusal (outside k (g.D.Draws.draw c.args.draws.now) (g.N.Net.passes c.args.net.now))
+    subst (λ k. refusal (environment k (g.D.Draws.draw c.args.draws.now) (g.N.Net.passes c.args.net.now))
     (world_of c.loop-event.self) (group_event k (event_value c.event-item.result))
     ≡ None) inv.keys c.in-Ok.ensures.taken in
     let stepped : world_of c.step.new.self
-    ≡ after_event (outside c.args.self.now.keys (g.D.Draws.draw c.args.draws.now) (g.N.Net.passes c.args.net.now))
+    ≡ after_event (environment c.args.self.now.keys (g.D.Draws.draw c.args.draws.now) (g.N.Net.passes c.args.net.now))
     (world_of c.loop-event.self) (group_event c.args.self.now.keys (event_value c.event-item.result)) =
     c.in-Ok.ensures.world
-    ∙ ap (λ k. after_event (outside k (g.D.Draws.draw c.args.draws.now) (g.N.Net.passes c.args.net.now))
+    ∙ ap (λ k. after_event (environment k (g.D.Draws.draw c.args.draws.now) (g.N.Net.passes c.args.net.now))
     (world_of c.loop-event.self) (group_event k (event_value c.event-item.result))) inv.keys in
     record {
       made = omega (arith, inv.made);
@@ -67,7 +67,7 @@ loop-event-preserved g c =
 
 pub returns-clause-joined : goal.returns-clause-joined
 returns-clause-joined g c =
-    let out = outside c.args.self.now.keys (g.D.Draws.draw c.args.draws.now) (g.N.Net.passes c.args.net.now) in
+    let out = environment c.args.self.now.keys (g.D.Draws.draw c.args.draws.now) (g.N.Net.passes c.args.net.now) in
     let all : c.loop-event.event-index ≡ length c.args.events.now =
     omega (arith, c.loop-event-test.false, c.loop-event.auto.event-index-end) in
     all_joined out c.args.self.now.keys (world_of c.args.self.now) c.args.events.now c.is_sound.ensures.sound
@@ -75,7 +75,7 @@ returns-clause-joined g c =
 
 pub returns-in-Err-clause-stopped : goal.returns-in-Err-clause-stopped
 returns-in-Err-clause-stopped g c =
-    let out = outside c.args.self.now.keys (g.D.Draws.draw c.args.draws.now) (g.N.Net.passes c.args.net.now) in
+    let out = environment c.args.self.now.keys (g.D.Draws.draw c.args.draws.now) (g.N.Net.passes c.args.net.now) in
     let inv = c.loop-event.invariant in
     let i = c.loop-event.event-index in
     let inside : c.loop-event.event-index < length c.args.events.now =
@@ -85,13 +85,14 @@ returns-in-Err-clause-stopped g c =
     subst (λ e. IsReady (length c.args.self.now.keys.members.names) (event_value e)) (sym c.event-item.is)
     (c.requires.ready i c.event-item.result inside) in
     let because : IsStepFaultOf
-    (refusal (outside c.args.self.now.keys (g.D.Draws.draw c.args.draws.now) (g.N.Net.passes c.args.net.now))
+    (refusal (environment c.args.self.now.keys (g.D.Draws.draw c.args.draws.now) (g.N.Net.passes c.args.net.now))
     (world_of c.loop-event.self) (group_event c.args.self.now.keys (event_value c.event-item.result))) c.in-Err.fault =
     subst (λ k. IsStepFaultOf
-    (refusal (outside k (g.D.Draws.draw c.args.draws.now) (g.N.Net.passes c.args.net.now)) (world_of c.loop-event.self)
+    (refusal (environment k (g.D.Draws.draw c.args.draws.now) (g.N.Net.passes c.args.net.now))
+    (world_of c.loop-event.self)
     (group_event k (event_value c.event-item.result))) c.in-Err.fault) inv.keys c.in-Err.ensures.refused in
     subst
-    (λ k. IsStopped (outside c.args.self.now.keys (g.D.Draws.draw c.args.draws.now) (g.N.Net.passes c.args.net.now))
+    (λ k. IsStopped (environment c.args.self.now.keys (g.D.Draws.draw c.args.draws.now) (g.N.Net.passes c.args.net.now))
     c.args.self.now (event_values c.args.events.now) k c.in-Err.fault c.step.new.self) (sym inv.made)
     (stopped_here out c.args.self.now.keys (world_of c.args.self.now) c.args.events.now i inside item c.event-item.is
     (world_of c.loop-event.self) (world_of c.step.new.self) (length c.args.self.now.keys.members.names) inv.many ready

@@ -5,8 +5,8 @@ use Rattle.bench_net.specs.SentList.{SentPacket}
 use Rattle.group_model.specs.Steps.{settle_gains, after_gathering}
 use Rattle.bench_world.specs.Serving.{keyed}
 use Rattle.bench_world.specs.Runs.{HaveSettledPart}
-use Rattle.bench_world.specs.Settling.{told_of}
-use Rattle.bench_world.specs.Worlds.{GroupState, IsTrueState, tells, world_of}
+use Rattle.bench_world.specs.Settling.{reported_of}
+use Rattle.bench_world.specs.Worlds.{GroupState, IsConsistentState, tells, world_of}
 use Rattle.bench_world.specs.Kept.{world_state}
 use Rattle.bench_world.proofs.States.{few_logs, few_members, few_sent, tried_few}
 use Rattle.bench_world.proofs.Readers.{counted_state}
@@ -19,7 +19,7 @@ pub invariant_of-self : goal.invariant_of-self
 invariant_of-self g c =
     let s = world_state c.self.inside in
     let few = subst (λ (x : GroupState). x.steps < 100000) (sym c.self.view_is) c.requires.few in
-    subst (λ (ps : List SentPacket). IsTrueState (record s { sent = ps; steps = s.steps + 1 }))
+    subst (λ (ps : List SentPacket). IsConsistentState (record s { sent = ps; steps = s.steps + 1 }))
     (sym (ap (λ x. x.packets) c.in_err-reserve.ensures.err)) (counted_state s c.self.invariant few)
 
 pub returns-in_err-reserve-clause-err : goal.returns-in_err-reserve-clause-err
@@ -47,7 +47,7 @@ settle_members-requires g c κs within =
               logs = few_logs s c.self.invariant;
               begun = refl;
               numbers = c.self.invariant.numbers;
-              truly = c.self.invariant.members;
+              consistent = c.self.invariant.members;
               sound = sound_only s c.self.invariant;
               tried = tried_few s c.self.invariant;
             },
@@ -62,10 +62,10 @@ invariant_of-self-in_err-settled g c =
     let few = subst (λ (x : GroupState). x.steps < 100000) (sym c.self.view_is) c.requires.few in
     let same : c.reserve.new.self.packets ≡ s.sent = ap (λ x. x.packets) c.in_ok-reserve.ensures.ok in
     subst (λ (ps : List SentPacket).
-    IsTrueState (record s { members = c.settle_members.new.members.items; sent = ps; steps = s.steps + 1 }))
+    IsConsistentState (record s { members = c.settle_members.new.members.items; sent = ps; steps = s.steps + 1 }))
     (sym same)
     (failed_state s c.self.invariant few c.settle_members.new.members.items c.settle_members.ensures.len
-    c.settle_members.ensures.numbers c.settle_members.ensures.truly
+    c.settle_members.ensures.numbers c.settle_members.ensures.consistent
     c.settle_members.ensures.counts c.in_err-settled.ensures.err)
 
 pub returns-in_err-settled-clause-err : goal.returns-in_err-settled-clause-err
@@ -83,15 +83,15 @@ returns-in_err-settled-clause-err g c =
     (subst (λ (ps : List SentPacket). HaveSettledPart s
     (record s { members = c.settle_members.new.members.items; sent = ps; steps = s.steps + 1 })) (sym same)
     (partly s c.self.invariant few c.settle_members.new.members.items c.settle_members.ensures.len
-    c.settle_members.ensures.numbers c.settle_members.ensures.truly
+    c.settle_members.ensures.numbers c.settle_members.ensures.consistent
     c.settle_members.ensures.counts c.in_err-settled.ensures.err)))
 
 pub send_all-requires-clause-room : goal.send_all-requires-clause-room
 send_all-requires-clause-room g c =
     let s = world_state c.self.inside in
-    let a : length (map told_of c.in_ok-settled.settled.0.items) ≡ length (map (tells s.keys) s.members) =
-    ap length c.in_ok-settled.ensures.told in
-    let b = length-map c.in_ok-settled.settled.0.items told_of in
+    let a : length (map reported_of c.in_ok-settled.settled.0.items) ≡ length (map (tells s.keys) s.members) =
+    ap length c.in_ok-settled.ensures.reported in
+    let b = length-map c.in_ok-settled.settled.0.items reported_of in
     let d = length-map s.members (tells s.keys) in
     let room = ap (λ x. x.spare) c.in_ok-reserve.ensures.ok in
     omega (arith, a, b, d, room, c.len.ensures, c.self.inside.members.ok, c.in_ok-settled.settled.0.ok)
@@ -99,9 +99,9 @@ send_all-requires-clause-room g c =
 pub send_all-requires-clause-few : goal.send_all-requires-clause-few
 send_all-requires-clause-few g c =
     let s = world_state c.self.inside in
-    let a : length (map told_of c.in_ok-settled.settled.0.items) ≡ length (map (tells s.keys) s.members) =
-    ap length c.in_ok-settled.ensures.told in
-    let b = length-map c.in_ok-settled.settled.0.items told_of in
+    let a : length (map reported_of c.in_ok-settled.settled.0.items) ≡ length (map (tells s.keys) s.members) =
+    ap length c.in_ok-settled.ensures.reported in
+    let b = length-map c.in_ok-settled.settled.0.items reported_of in
     let d = length-map s.members (tells s.keys) in
     let e : length c.reserve.new.self.packets ≡ length s.sent = ap (λ x. length x.packets) c.in_ok-reserve.ensures.ok in
     let n = few_members s c.self.invariant in
@@ -112,15 +112,16 @@ pub overflow_add-self-3 : goal.overflow_add-self-3
 overflow_add-self-3 g c =
     let s = world_state c.self.inside in
     let few = subst (λ (x : GroupState). x.steps < 100000) (sym c.self.view_is) c.requires.few in
-    let sent : c.send_all.new.sent.packets ≡ c.self.inside.sent.packets ++ map told_of c.in_ok-settled.settled.0.items =
+    let sent : c.send_all.new.sent.packets ≡ c.self.inside.sent.packets
+    ++ map reported_of c.in_ok-settled.settled.0.items =
     c.send_all.ensures
-    ∙ ap (λ (ps : List SentPacket). ps ++ map told_of c.in_ok-settled.settled.0.items)
+    ∙ ap (λ (ps : List SentPacket). ps ++ map reported_of c.in_ok-settled.settled.0.items)
     (ap (λ x. x.packets) c.in_ok-reserve.ensures.ok) in
     let count : c.len-count.result ≡ length c.settle_members.new.members.items =
     omega (arith, c.len-count.ensures, c.settle_members.new.members.ok) in
     let fits =
     settle_fits s c.self.invariant few c.settle_members.new.members.items c.in_ok-settled.ensures.members
-    c.send_all.new.sent.packets c.in_ok-settled.settled.0.items sent c.in_ok-settled.ensures.told
+    c.send_all.new.sent.packets c.in_ok-settled.settled.0.items sent c.in_ok-settled.ensures.reported
     c.len-count.result c.saturating_sub.result c.in_ok-settled.settled.1 c.in_ok-settled.settled.2 count
     c.saturating_sub.ensures
     c.in_ok-settled.ensures.parts c.in_ok-settled.ensures.octets in
@@ -130,15 +131,16 @@ pub overflow_add-self-4 : goal.overflow_add-self-4
 overflow_add-self-4 g c =
     let s = world_state c.self.inside in
     let few = subst (λ (x : GroupState). x.steps < 100000) (sym c.self.view_is) c.requires.few in
-    let sent : c.send_all.new.sent.packets ≡ c.self.inside.sent.packets ++ map told_of c.in_ok-settled.settled.0.items =
+    let sent : c.send_all.new.sent.packets ≡ c.self.inside.sent.packets
+    ++ map reported_of c.in_ok-settled.settled.0.items =
     c.send_all.ensures
-    ∙ ap (λ (ps : List SentPacket). ps ++ map told_of c.in_ok-settled.settled.0.items)
+    ∙ ap (λ (ps : List SentPacket). ps ++ map reported_of c.in_ok-settled.settled.0.items)
     (ap (λ x. x.packets) c.in_ok-reserve.ensures.ok) in
     let count : c.len-count.result ≡ length c.settle_members.new.members.items =
     omega (arith, c.len-count.ensures, c.settle_members.new.members.ok) in
     let fits =
     settle_fits s c.self.invariant few c.settle_members.new.members.items c.in_ok-settled.ensures.members
-    c.send_all.new.sent.packets c.in_ok-settled.settled.0.items sent c.in_ok-settled.ensures.told
+    c.send_all.new.sent.packets c.in_ok-settled.settled.0.items sent c.in_ok-settled.ensures.reported
     c.len-count.result c.saturating_sub.result c.in_ok-settled.settled.1 c.in_ok-settled.settled.2 count
     c.saturating_sub.ensures
     c.in_ok-settled.ensures.parts c.in_ok-settled.ensures.octets in
@@ -148,41 +150,44 @@ pub invariant_of-self-2 : goal.invariant_of-self-2
 invariant_of-self-2 g c =
     let s = world_state c.self.inside in
     let few = subst (λ (x : GroupState). x.steps < 100000) (sym c.self.view_is) c.requires.few in
-    let sent : c.send_all.new.sent.packets ≡ c.self.inside.sent.packets ++ map told_of c.in_ok-settled.settled.0.items =
+    let sent : c.send_all.new.sent.packets ≡ c.self.inside.sent.packets
+    ++ map reported_of c.in_ok-settled.settled.0.items =
     c.send_all.ensures
-    ∙ ap (λ (ps : List SentPacket). ps ++ map told_of c.in_ok-settled.settled.0.items)
+    ∙ ap (λ (ps : List SentPacket). ps ++ map reported_of c.in_ok-settled.settled.0.items)
     (ap (λ x. x.packets) c.in_ok-reserve.ensures.ok) in
     let count : c.len-count.result ≡ length c.settle_members.new.members.items =
     omega (arith, c.len-count.ensures, c.settle_members.new.members.ok) in
     settle_state s c.self.invariant few c.settle_members.new.members.items c.in_ok-settled.ensures.members
-    c.send_all.new.sent.packets c.in_ok-settled.settled.0.items sent c.in_ok-settled.ensures.told
+    c.send_all.new.sent.packets c.in_ok-settled.settled.0.items sent c.in_ok-settled.ensures.reported
     c.len-count.result c.saturating_sub.result c.in_ok-settled.settled.1 c.in_ok-settled.settled.2 count
     c.saturating_sub.ensures
     c.in_ok-settled.ensures.parts c.in_ok-settled.ensures.octets
-    c.settle_members.ensures.len c.settle_members.ensures.numbers c.settle_members.ensures.truly
+    c.settle_members.ensures.len c.settle_members.ensures.numbers c.settle_members.ensures.consistent
 
 pub returns : goal.returns
 returns g c =
     let s = world_state c.self.inside in
     let few = subst (λ (x : GroupState). x.steps < 100000) (sym c.self.view_is) c.requires.few in
     let mid = c.settle_members.new.members.items in
-    let told = c.in_ok-settled.settled.0.items in
-    let sent : c.send_all.new.sent.packets ≡ c.self.inside.sent.packets ++ map told_of told =
+    let reported = c.in_ok-settled.settled.0.items in
+    let sent : c.send_all.new.sent.packets ≡ c.self.inside.sent.packets ++ map reported_of reported =
     c.send_all.ensures
-    ∙ ap (λ (ps : List SentPacket). ps ++ map told_of told) (ap (λ x. x.packets) c.in_ok-reserve.ensures.ok) in
+    ∙ ap (λ (ps : List SentPacket). ps ++ map reported_of reported) (ap (λ x. x.packets) c.in_ok-reserve.ensures.ok) in
     let count : c.len-count.result ≡ length mid =
     omega (arith, c.len-count.ensures, c.settle_members.new.members.ok) in
     record {
       world =
-          settle_world s c.self.invariant few mid c.in_ok-settled.ensures.members c.send_all.new.sent.packets told sent
-          c.in_ok-settled.ensures.told c.len-count.result c.saturating_sub.result c.in_ok-settled.settled.1
+          settle_world s c.self.invariant few mid c.in_ok-settled.ensures.members c.send_all.new.sent.packets reported
+          sent
+          c.in_ok-settled.ensures.reported c.len-count.result c.saturating_sub.result c.in_ok-settled.settled.1
           c.in_ok-settled.settled.2 count
           c.saturating_sub.ensures c.in_ok-settled.ensures.parts c.in_ok-settled.ensures.octets
           ∙ ap (λ (x : GroupState). after_gathering (keyed x.keys) (world_of x)) c.self.view_is;
       parts = c.in_ok-settled.ensures.parts ∙ ap (λ (x : GroupState). settle_gains (world_of x)) c.self.view_is;
       joined =
-          settle_joined s c.self.invariant few mid c.in_ok-settled.ensures.members c.send_all.new.sent.packets told sent
-          c.in_ok-settled.ensures.told c.len-count.result c.saturating_sub.result c.in_ok-settled.settled.1
+          settle_joined s c.self.invariant few mid c.in_ok-settled.ensures.members c.send_all.new.sent.packets reported
+          sent
+          c.in_ok-settled.ensures.reported c.len-count.result c.saturating_sub.result c.in_ok-settled.settled.1
           c.in_ok-settled.settled.2 count
           c.saturating_sub.ensures c.in_ok-settled.ensures.parts c.in_ok-settled.ensures.octets;
       steps = ap (λ (x : GroupState). x.steps + 1) c.self.view_is;

@@ -1,23 +1,24 @@
 use Rattle.std.proofs.Common.{◌≡◌, ◌+◌, ◌<◌, ℕ, List, length, refl, sym, ap, ◌∙◌, subst}
 use Rattle.svs_vector.specs.Vectors.{join_all}
 use Rattle.group_model.specs.Laws.{NothingHidden}
-use Rattle.repo_member.specs.Alone.{Alone}
+use Rattle.repo_member.specs.MemberState.{MemberState}
 use Rattle.bench_world.specs.MirrorSteps.{mirror_at}
 use Rattle.bench_world.specs.MirrorSettles.{HaveSettled, ListsItsJoin, ArePartlySettledMirrors, held_by_all}
-use Rattle.bench_world.specs.Worlds.{GroupState, alone_at, only_members, world_of}
+use Rattle.bench_world.specs.Worlds.{GroupState, state_at, only_members, world_of}
 use Rattle.bench_world.specs.Kept.{world_state}
 use Rattle.bench_world.proofs.FetchesAndSettles.{sound_only}
 use Rattle.bench_world.proofs.EitherAnswer.{where_err}
 use Rattle.bench_world.proofs.KnownByAll.{knowns}
 use Rattle.bench_world.proofs.Learnt.{widths}
 use Rattle.bench_world.proofs.MirrorSettling.{partly_same}
-use Rattle.bench_world.proofs.MirrorWorlds.{settled_mirrors, can_gather, are_settled, are_partly, all_truly, all_list}
+use Rattle.bench_world.proofs.MirrorWorlds.{settled_mirrors, can_gather, are_settled, are_partly, all_consistently}
+use Rattle.bench_world.proofs.MirrorWorlds.{all_list}
 use Rattle.bench_world.proofs.world.World.settle_mirrors.Goals as goal
 
 pub all_known-requires : goal.all_known-requires
 all_known-requires g c =
     let s = world_state c.self.inside in
-    subst (λ (ms : List Alone). (j : ℕ) → j < length ms → length (alone_at ms j).known ≡ length ms)
+    subst (λ (ms : List MemberState). (j : ℕ) → j < length ms → length (state_at ms j).known ≡ length ms)
     (sym c.as_slice.ensures.value)
     (widths s.keys (only_members s.members) c.self.invariant.are (sound_only s c.self.invariant) s.members refl
     c.self.invariant.members)
@@ -33,7 +34,7 @@ gather_for_all-requires g c =
       c.type_bounds.sync-R,
       can_gather s c.self.invariant c.as_slice-2.result.now c.as_slice-2.ensures.value c.args.workers c.requires.workers
           c.in_ok-known.known
-          (c.in_ok-known.ensures ∙ ap (λ (ms : List Alone). join_all (knowns ms))
+          (c.in_ok-known.ensures ∙ ap (λ (ms : List MemberState). join_all (knowns ms))
           (c.as_slice.ensures.value ∙ sym c.as_slice-2.ensures.value)),
     )
 
@@ -42,8 +43,8 @@ invariant_of-self g c =
     let s = world_state c.self.inside in
     settled_mirrors s c.self.invariant (only_members c.as_slice-2.result.now) c.gather_for_all.new.mirrors.items
     c.gather_for_all.ensures.len
-    (all_truly s c.self.invariant c.as_slice-2.result.now c.as_slice-2.ensures.value
-    c.gather_for_all.new.mirrors.items c.gather_for_all.ensures.truly)
+    (all_consistently s c.self.invariant c.as_slice-2.result.now c.as_slice-2.ensures.value
+    c.gather_for_all.new.mirrors.items c.gather_for_all.ensures.consistent)
     c.gather_for_all.ensures.partly
 
 pub invariant_of-self-2 : goal.invariant_of-self-2
@@ -51,8 +52,8 @@ invariant_of-self-2 g c =
     let s = world_state c.self.inside in
     settled_mirrors s c.self.invariant (only_members c.as_slice-2.result.now) c.gather_for_all.new.mirrors.items
     c.gather_for_all.ensures.len
-    (all_truly s c.self.invariant c.as_slice-2.result.now c.as_slice-2.ensures.value
-    c.gather_for_all.new.mirrors.items c.gather_for_all.ensures.truly)
+    (all_consistently s c.self.invariant c.as_slice-2.result.now c.as_slice-2.ensures.value
+    c.gather_for_all.new.mirrors.items c.gather_for_all.ensures.consistent)
     c.gather_for_all.ensures.partly
 
 pub returns-in_err-parts-clause-err : goal.returns-in_err-parts-clause-err
@@ -93,5 +94,5 @@ returns-clause-joined g c =
     → i < length c.gather_for_all.new.mirrors.items
     → ListsItsJoin (world_of x) (mirror_at c.gather_for_all.new.mirrors.items i)) c.self.view_is
     (all_list s c.self.invariant c.as_slice-2.result.now c.as_slice-2.ensures.value
-    c.gather_for_all.new.mirrors.items c.gather_for_all.ensures.len c.gather_for_all.ensures.truly
+    c.gather_for_all.new.mirrors.items c.gather_for_all.ensures.len c.gather_for_all.ensures.consistent
     c.in_ok-parts.ensures.settled)

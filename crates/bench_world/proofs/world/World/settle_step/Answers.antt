@@ -1,9 +1,9 @@
 use Rattle.std.proofs.Common.{◌≡◌, ◌<◌, ◌+◌, length, refl, sym, ap, ◌∙◌, subst, arith}
 use Rattle.std.proofs.lemmas.List.{length-map}
 use Rattle.group_model.specs.Steps.{after_gathering, after_settle}
-use Rattle.bench_world.specs.Serving.{outside, keyed}
+use Rattle.bench_world.specs.Serving.{environment, keyed}
 use Rattle.repo_member.specs.InGroup.{in_group}
-use Rattle.bench_world.specs.EventValues.{Told}
+use Rattle.bench_world.specs.EventValues.{Reported}
 use Rattle.bench_world.specs.Worlds.{GroupState, in_groups, world_of}
 use Rattle.bench_world.specs.Kept.{world_state}
 use Rattle.bench_world.proofs.Resets.{all_few, reset_world, reset_joined, reset_state}
@@ -52,9 +52,10 @@ returns g c =
           c.reset_all.ensures.len
           c.reset_all.ensures.each
           ∙ ap (λ (x : GroupState).
-          after_settle (outside x.keys (g.D.Draws.draw c.args.draws.now) (g.N.Net.passes c.args.net.now)) (world_of x))
+          after_settle (environment x.keys (g.D.Draws.draw c.args.draws.now) (g.N.Net.passes c.args.net.now))
+          (world_of x))
           c.self.view_is;
-      told = λ i. Told.Settle (syncs i) (c.in-Ok.ensures.parts i);
+      reported = λ i. Reported.Settle (syncs i) (c.in-Ok.ensures.parts i);
       joined =
           reset_joined s c.self.invariant few (g.D.Draws.draw c.args.draws.now) (g.N.Net.passes c.args.net.now)
           (world_state c.self-2.inside) c.self-2.invariant mid steps c.reset_all.new.members.items

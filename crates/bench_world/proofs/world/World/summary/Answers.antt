@@ -1,19 +1,19 @@
 use Rattle.std.proofs.Common.{refl, ◌<◌, ℕ, List, length, map, sym, ap, ◌∙◌, subst}
 use Rattle.std.proofs.lemmas.List.{length-map}
 use Rattle.sorted_lists.specs.Range.{numbers_from}
-use Rattle.repo_member.specs.Alone.{Alone}
+use Rattle.repo_member.specs.MemberState.{MemberState}
 use Rattle.repo_member.specs.InGroup.{in_group}
 use Rattle.group_model.specs.Steps.{all_totals}
-use Rattle.bench_world.specs.EventValues.{Told}
-use Rattle.bench_world.specs.Sums.{totals_in, HasFewTotals}
-use Rattle.bench_world.specs.Worlds.{GroupState, alone_at, world_of}
+use Rattle.bench_world.specs.EventValues.{Reported}
+use Rattle.bench_world.specs.MemberTotals.{totals_in, HasFewTotals}
+use Rattle.bench_world.specs.Worlds.{GroupState, state_at, world_of}
 use Rattle.bench_world.specs.Kept.{world_state}
 use Rattle.bench_world.proofs.Summaries.{few_totals_at, sums_are}
 use Rattle.bench_world.proofs.world.World.summary.Goals as goal
 
 pub add_up-requires : goal.add_up-requires
 add_up-requires c =
-    subst (λ (ms : List Alone). (j : ℕ) → j < length ms → HasFewTotals (totals_in (alone_at ms j)))
+    subst (λ (ms : List MemberState). (j : ℕ) → j < length ms → HasFewTotals (totals_in (state_at ms j)))
     (sym c.as_slice.ensures.value) (few_totals_at (world_state c.self.inside) c.self.invariant)
 
 pub returns : goal.returns
@@ -38,9 +38,9 @@ returns c =
     record {
       taken = refl;
       world = c.count.ensures.world;
-      told =
-          (λ i. Told.Summary (numbers i) (entries i) (segments i) (octets i))
-          ∙ ap (λ (x : GroupState). Told.Summary (numbers_from 0 (length (world_of x).members))
+      reported =
+          (λ i. Reported.Summary (numbers i) (entries i) (segments i) (octets i))
+          ∙ ap (λ (x : GroupState). Reported.Summary (numbers_from 0 (length (world_of x).members))
           (map (λ t. t.entries) (all_totals (world_of x))) (map (λ t. t.segments) (all_totals (world_of x)))
           (map (λ t. t.octets) (all_totals (world_of x)))) c.self.view_is;
       joined = tt;

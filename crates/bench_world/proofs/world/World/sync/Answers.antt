@@ -4,7 +4,7 @@ use Rattle.group_model.specs.Events.{Event}
 use Rattle.group_model.specs.World.{sent_at}
 use Rattle.group_model.specs.Refusals.{unless_sent}
 use Rattle.repo_member.specs.Verdicts.{sync_of}
-use Rattle.bench_world.specs.EventValues.{Told}
+use Rattle.bench_world.specs.EventValues.{Reported}
 use Rattle.bench_world.specs.Worlds.{GroupState, world_of, drawing}
 use Rattle.bench_world.specs.Kept.{world_state}
 use Rattle.bench_world.proofs.States.{stepped}
@@ -15,7 +15,7 @@ pub invariant_of-self : goal.invariant_of-self
 invariant_of-self c =
     let s = world_state c.self.inside in
     stepped s c.self.invariant (subst (λ (x : GroupState). x.steps < 100000) (sym c.self.view_is) c.requires.few)
-    (drawing (λ _ _. 0)) (λ t. omega arith) (Event.Sync c.args.k) tt s.members s.sent s.moment s.tally refl
+    (drawing (λ _ _. 0)) (λ t. omega arith) (Event.Sync c.args.k) tt s.members s.sent s.time s.tally refl
     c.self.invariant.numbers c.self.invariant.members c.self.invariant.sent refl
 
 pub returns : goal.returns
@@ -27,13 +27,13 @@ returns c =
           subst (λ (x : GroupState). unless_sent (world_of x) c.args.k ≡ None) c.self.view_is
           (not_refused s c.args.k at.first at.last);
       world = search rules;
-      told =
-          ap (λ k. Told.Sync k c.in_ok-octets.octets.items) c.from.ensures
-          ∙ ap (Told.Sync c.args.k)
+      reported =
+          ap (λ k. Reported.Sync k c.in_ok-octets.octets.items) c.from.ensures
+          ∙ ap (Reported.Sync c.args.k)
           (c.in_ok-octets.ensures.items_if_clones_equal (λ x y e. e) ∙ at.same
           ∙ octets_are s c.self.invariant c.args.k at.first at.last)
           ∙ ap (λ (x : GroupState).
-          Told.Sync c.args.k (sync_of x.keys (sent_at (world_of x) c.args.k).sender
+          Reported.Sync c.args.k (sync_of x.keys (sent_at (world_of x) c.args.k).sender
           (sent_at (world_of x) c.args.k).vector))
           c.self.view_is;
       joined = tt;

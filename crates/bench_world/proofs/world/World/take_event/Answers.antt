@@ -1,8 +1,8 @@
 use Rattle.std.proofs.Common.{length, refl, sym, ◌∙◌, subst}
 use Rattle.std.proofs.lemmas.List.{length-map}
 use Rattle.repo_member.specs.InGroup.{in_group}
-use Rattle.bench_world.specs.Serving.{outside}
-use Rattle.bench_world.specs.EventValues.{event_value, telling}
+use Rattle.bench_world.specs.Serving.{environment}
+use Rattle.bench_world.specs.EventValues.{event_value, event_report}
 use Rattle.bench_world.specs.Steps.{IsReady}
 use Rattle.bench_world.specs.Runs.{IsStep}
 use Rattle.bench_world.specs.Worlds.{GroupState, world_of}
@@ -25,18 +25,18 @@ returns g c =
     let event = event_value c.args.event.now in
     let made =
     subst (λ (s : GroupState).
-    IsStep (outside s.keys (g.D.Draws.draw c.args.draws.now) (g.N.Net.passes c.args.net.now)) event s
+    IsStep (environment s.keys (g.D.Draws.draw c.args.draws.now) (g.N.Net.passes c.args.net.now)) event s
     c.carry_out.result c.carry_out.new.self) c.order_names_for.ensures c.carry_out.ensures in
     let old = c.args.self.now in
     let n = length old.keys.members.names in
-    let out = outside old.keys (g.D.Draws.draw c.args.draws.now) (g.N.Net.passes c.args.net.now) in
+    let out = environment old.keys (g.D.Draws.draw c.args.draws.now) (g.N.Net.passes c.args.net.now) in
     let many = length-map old.members in_group ∙ c.is_sound.ensures.names in
     record {
       taken = made.taken;
       world = made.world;
-      told = made.told;
+      reported = made.reported;
       all =
-          all_named n (telling old.keys out (world_of old) event) c.carry_out.result made.told
+          all_named n (event_report old.keys out (world_of old) event) c.carry_out.result made.reported
           (names_all n old.keys out (world_of old) refl many c.is_sound.ensures.sound event c.requires.ready);
       joined = made.joined;
       steps = made.steps;

@@ -5,7 +5,7 @@ use Rattle.repo_object.specs.Objects.Post.{Withdraws}
 use Rattle.group_model.specs.Events.{Event}
 use Rattle.group_model.specs.Refusals.{refusal}
 use Rattle.group_model.specs.Steps.{after_event, next_seq_at, next_sync}
-use Rattle.bench_world.specs.EventValues.{Told}
+use Rattle.bench_world.specs.EventValues.{Reported}
 use Rattle.bench_world.specs.Steps.{IsFaultOf}
 use Rattle.bench_world.specs.Worlds.{GroupState, sync_in, world_of, drawing}
 use Rattle.bench_world.specs.Kept.{world_state}
@@ -32,7 +32,7 @@ returns-in-Err g c =
     record {
       taken = tt;
       world = tt;
-      told = tt;
+      reported = tt;
       joined = tt;
       steps = tt;
       keys = search rules;
@@ -109,7 +109,7 @@ returns g c =
           c.add_reserved-sync.new.self.packets sent
           ∙ ap (λ (x : GroupState). after_event (drawing (g.D.Draws.draw c.args.draws.now)) (world_of x) event)
           c.self.view_is;
-      told = λ i. Told.Withdraw c.args.m (seq i) (c.from-2.ensures i) (sync i);
+      reported = λ i. Reported.Withdraw c.args.m (seq i) (c.from-2.ensures i) (sync i);
       joined = tt;
       steps = ap (λ (x : GroupState). x.steps + 1) c.self.view_is;
       keys = ap (λ (x : GroupState). x.keys) c.self.view_is;

@@ -1,5 +1,5 @@
 use Rattle.std.proofs.Common.{◌≡◌, map, take}
-use Rattle.bench_world.specs.Sums.{totals_in}
+use Rattle.bench_world.specs.MemberTotals.{totals_in}
 use Rattle.bench_world.proofs.world.reading.add_up.Given as goal
 
 abbrev pub invariant-loop-member : goal.invariant-loop-member

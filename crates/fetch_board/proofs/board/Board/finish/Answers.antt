@@ -26,12 +26,13 @@ store-requires g c =
     let took = c.load-found.ensures.2 in
     let a : ℕ = took.0 in
     let put = c.exchange.ensures in
-    let hand = ap (λ m. m.0) put.3 ∙ took.5 in
+    let knowledge = ap (λ m. m.0) put.3 ∙ took.5 in
     let out = ap (λ m. m.1) put.3 in (
       put.0 ∙ (c.load-found.ensures.0 ∙ (at_fields c.seat.view_is c.self.view_is IsSeatOf c.requires.seat).0),
       omega (arith, laid.even, laid.room, near),
       files_at _ _ _ _ _ a _ c.args.value _ (omega (arith, took.2)) (omega (arith, laid.room, near))
-          (subst (λ v. 0 < v.shares) (sym hand) c.seat.invariant.some_share)
-          (subst (λ v. 0 < pairs i a v.placing) (sym hand) (pair_own i a (pairs i a c.seat.inside.inner.me.0.placing)))
+          (subst (λ v. 0 < v.shares) (sym knowledge) c.seat.invariant.some_share)
+          (subst (λ v. 0 < pairs i a v.placing) (sym knowledge)
+          (pair_own i a (pairs i a c.seat.inside.inner.me.0.placing)))
           (out ∙ (λ k. (i, Some c.args.value) ∷ sym (ap rest out) k)),
     )

@@ -13,5 +13,6 @@ store-requires g c =
     let last = at_fields c.seat.view_is c.self.view_is (λ b v. a + 1 ≡ b.tries) c.requires.held.2 in (
       (at_fields c.seat.view_is c.self.view_is IsSeatOf c.requires.seat).0,
       omega (arith, laid.even, laid.room, near),
-      spends_kept _ _ _ _ _ a _ (omega (arith, laid.room, near)) c.seat.invariant.some_share holds (last ∙ laid.told),
+      spends_kept _ _ _ _ _ a _ (omega (arith, laid.room, near)) c.seat.invariant.some_share holds
+          (last ∙ laid.reported),
     )

@@ -1,7 +1,7 @@
 use Rattle.std.proofs.Common.{◌∙◌, ap, sym, arith, subst}
 use Rattle.repo_member.specs.Groups.{GroupKeys}
 use Rattle.repo_member.specs.Verdicts.{accept_verdict}
-use Rattle.live_member.specs.Tellings.{IsLoan, loan}
+use Rattle.live_member.specs.Reports.{IsLoan, loan}
 use Rattle.live_member.proofs.AcceptSteps.{passes, accept_after, accept_quiet}
 use Rattle.live_member.proofs.Journals.{kept_on, steps_on}
 use Rattle.live_member.proofs.live.Live.accept.Goals as goal

@@ -15,8 +15,9 @@ invariant_of-self-2 g c =
       c.claimed-reply.ensures.reply,
     )
     (kept_on t g.row.M a _ c.self.inside.journal.items c.self.inside.coming.items _ _
-    (omega (arith, c.if-len.false, c.len.ensures)) (claim_after t a c.args.f live.logs live.truly _ refl) tt
-    c.self.inside.number c.self.inside.draw c.self.invariant (claim_quiet t a c.args.f live.logs live.truly _ refl))
+    (omega (arith, c.if-len.false, c.len.ensures)) (claim_after t a c.args.f live.logs live.consistent _ refl) tt
+    c.self.inside.number c.self.inside.draw c.self.invariant
+    (claim_quiet t a c.args.f live.logs live.consistent _ refl))
 
 pub returns : goal.returns
 returns g c =
@@ -31,5 +32,6 @@ returns g c =
       c.claimed-reply.ensures.reply,
     )
     (steps_on t g.row.M a _ c.self.inside.journal.items c.self.inside.coming.items _ _
-    (omega (arith, c.if-len.false, c.len.ensures)) (claim_after t a c.args.f live.logs live.truly _ refl) tt
-    c.self.inside.number c.self.inside.draw c.self.invariant (claim_quiet t a c.args.f live.logs live.truly _ refl))
+    (omega (arith, c.if-len.false, c.len.ensures)) (claim_after t a c.args.f live.logs live.consistent _ refl) tt
+    c.self.inside.number c.self.inside.draw c.self.invariant
+    (claim_quiet t a c.args.f live.logs live.consistent _ refl))

@@ -23,9 +23,11 @@ invariant_of-self-2 g c =
       c.requires,
     )
     (kept_on t g.row.M a _ journal coming _ _ (omega (arith, c.if-len.false, c.len.ensures))
-    (hear_after t g.row.M a journal coming c.args.told.now c.self.inside.draw kept.live c.octets.ensures.told value)
+    (hear_after t g.row.M a journal coming c.args.reported.now c.self.inside.draw kept.live c.octets.ensures.reported
+    value)
     tt c.self.inside.number c.self.inside.draw kept
-    (hear_quiet t g.row.M a journal coming c.args.told.now c.self.inside.draw kept.live c.octets.ensures.told value))
+    (hear_quiet t g.row.M a journal coming c.args.reported.now c.self.inside.draw kept.live c.octets.ensures.reported
+    value))
 
 pub returns : goal.returns
 returns g c =
@@ -47,6 +49,8 @@ returns g c =
       c.requires,
     )
     (steps_on t g.row.M a _ journal coming _ _ (omega (arith, c.if-len.false, c.len.ensures))
-    (hear_after t g.row.M a journal coming c.args.told.now c.self.inside.draw kept.live c.octets.ensures.told value)
+    (hear_after t g.row.M a journal coming c.args.reported.now c.self.inside.draw kept.live c.octets.ensures.reported
+    value)
     tt c.self.inside.number c.self.inside.draw kept
-    (hear_quiet t g.row.M a journal coming c.args.told.now c.self.inside.draw kept.live c.octets.ensures.told value))
+    (hear_quiet t g.row.M a journal coming c.args.reported.now c.self.inside.draw kept.live c.octets.ensures.reported
+    value))

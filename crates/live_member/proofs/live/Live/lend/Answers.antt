@@ -1,7 +1,7 @@
 use Rattle.std.proofs.Common.{◌≡◌, ◌∙◌, List, Some, ap, sym, ℕ}
 use Rattle.repo_plan.specs.Parts.{part_cmp}
 use Rattle.sorted_lists.specs.SortedList.{value_of}
-use Rattle.repo_member.specs.Alone.{logged}
+use Rattle.repo_member.specs.MemberState.{logged}
 use Rattle.live_member.specs.Lives.{Living}
 use Rattle.live_member.proofs.Loans.{lends, own_stored}
 use Rattle.live_member.proofs.live.Live.lend.Goals as goal

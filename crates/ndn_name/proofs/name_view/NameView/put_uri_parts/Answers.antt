@@ -6,7 +6,7 @@ use Rattle.ndn_tlv.specs.Listing.{Listing}
 use Rattle.ndn_tlv.specs.Elements.{Item, elements}
 use Rattle.ndn_name.specs.Names.{Component, IsName}
 use Rattle.ndn_name.specs.Uri.{path_text}
-use Rattle.ndn_name.proofs.Appends.{front-longer, front-more}
+use Rattle.ndn_name.proofs.Appends.{prefix-longer, prefix-more}
 use Rattle.ndn_name.proofs.Encodings.{Reads, elements-encoding}
 use Rattle.ndn_name.proofs.name_view.NameView.put_uri_parts.Goals as goal
 
@@ -18,30 +18,30 @@ loop-element-init c =
     let read = subst P (sym same) (elements-encoding 0 name c.octets.ensures.name) in
     let Q : List Component → Type 0 = λ n. IsName n in
     record {
-      front = take-length c.args.out.now.items;
+      prefix = take-length c.args.out.now.items;
       so_far = ap (λ (t : List ℕ). c.args.out.now.items ++ t) (ap path_text read.items);
       name = subst Q (sym read.items) c.octets.ensures.name;
       fault = read.fault;
     }
 
-pub returns-in_err-put_component-clause-front : goal.returns-in_err-put_component-clause-front
-returns-in_err-put_component-clause-front c =
+pub returns-in_err-put_component-clause-prefix : goal.returns-in_err-put_component-clause-prefix
+returns-in_err-put_component-clause-prefix c =
     let out = c.args.out.now.items in
     let slashed = c.extend_from_slice-in-Ok-Some.new.self.items in
     let mid : take (length out) slashed ≡ out =
-    front-more out c.loop-element.out.items slashed _ c.loop-element.invariant.front
+    prefix-more out c.loop-element.out.items slashed _ c.loop-element.invariant.prefix
     c.in_ok-extend_from_slice.ensures.items in
-    front-longer out slashed c.put_component.new.out.items mid c.put_component.ensures.front
+    prefix-longer out slashed c.put_component.new.out.items mid c.put_component.ensures.prefix
 
 pub loop-element-preserved : goal.loop-element-preserved
 loop-element-preserved c =
     let out = c.args.out.now.items in
     let slashed = c.extend_from_slice-in-Ok-Some.new.self.items in
     let mid : take (length out) slashed ≡ out =
-    front-more out c.loop-element.out.items slashed _ c.loop-element.invariant.front
+    prefix-more out c.loop-element.out.items slashed _ c.loop-element.invariant.prefix
     c.in_ok-extend_from_slice.ensures.items in
     record {
-      front = front-longer out slashed c.put_component.new.out.items mid c.put_component.ensures.front;
+      prefix = prefix-longer out slashed c.put_component.new.out.items mid c.put_component.ensures.prefix;
       so_far = grind (arith, common_steps);
       name = grind (arith, common_steps);
       fault = grind (arith, common_steps);

@@ -6,7 +6,7 @@ use Rattle.ndn_name.proofs.name_view.NameView.put_uri_parts.Given as goal
 
 abbrev pub invariant-loop-element : goal.invariant-loop-element
 invariant-loop-element l = record {
-  front : take (length l.fn.out.items) l.out.items ≡ l.fn.out.items;
+  prefix : take (length l.fn.out.items) l.out.items ≡ l.fn.out.items;
   so_far : l.out.items ++ path_text (pairs l.elements.items) ≡ l.fn.out.items ++ path_text l.self;
   name : IsName (pairs l.elements.items);
   fault : l.elements.fault ≡ None;

@@ -3,7 +3,7 @@ use Rattle.ndn_sign.specs.Ring.{IsRing, NamedKey, pair, pair_limit, key_number}
 use Rattle.ndn_sign.proofs.RingLemmas.{number_of-entries, pairs, still_ring, with_pair}
 use Rattle.ndn_sign.proofs.key_ring.KeyRing.insert.Goals as goal
 
--- the entries with the pair's behind them
+-- the entries with the pair's after them
 appended : (c : goal.Joined-branch-4)
     → pairs c.insert.new.self.entries ≡ pairs c.self.inside.pairs.entries ++ pair c.args.name.now c.args.key.now ∷ []
 appended c =

@@ -2,7 +2,7 @@ use Rattle.std.proofs.Common.{◌≡◌, not, sym, ap, subst, ◌∙◌, Ok, Err
 use Rattle.std.specs.Prelude.{is_some}
 use Rattle.std.specs.List.{insert}
 use Rattle.repo_catalog.specs.Entries.{EntryList, publication_of, lists, with_entry, IsCatalogue}
-use Rattle.repo_catalog.specs.Sums.{sums_of}
+use Rattle.repo_catalog.specs.EntryTotals.{totals_of}
 use Rattle.repo_catalog.proofs.EntryLemmas.{found_place, entry_at, no_entry_between, with_entry_at, with_entry_between}
 use Rattle.repo_catalog.proofs.EntryLemmas.{with_entry_rises}
 use Rattle.repo_catalog.proofs.IndexLemmas.{index_added}
@@ -49,7 +49,7 @@ invariant_of-self-2 c =
       summed =
           c.add.ensures es c.self.invariant.summed
           ∙ sums_with c.args.entry es missing
-          ∙ ap sums_of (sym entries);
+          ∙ ap totals_of (sym entries);
       room =
           omega (
             arith,

@@ -2,7 +2,7 @@ use Rattle.std.proofs.Common.{List, sym, ap, subst, ◌∙◌, arith}
 use Rattle.repo_catalog.specs.declared.entry.Entry.{Entry}
 use Rattle.repo_catalog.specs.Entries.{EntryList, without_all, IsCatalogue}
 use Rattle.repo_catalog.specs.NameKeys.{IsIndexOf}
-use Rattle.repo_catalog.specs.Sums.{sums_of}
+use Rattle.repo_catalog.specs.EntryTotals.{totals_of}
 use Rattle.repo_catalog.proofs.ManyLemmas.{without_all_rises}
 use Rattle.repo_catalog.proofs.catalogue.Catalogue.remove_in_one_pass.Goals as goal
 
@@ -19,8 +19,8 @@ invariant_of-self c =
           (ap (λ (xs : List Entry). without_all pairs xs) c.as_slice.ensures ∙ sym left) c.forget.ensures.indexed;
       summed =
           c.forget.ensures.summed
-          ∙ ap (λ (xs : List Entry). sums_of (without_all pairs xs)) c.as_slice.ensures
-          ∙ ap sums_of (sym left);
+          ∙ ap (λ (xs : List Entry). totals_of (without_all pairs xs)) c.as_slice.ensures
+          ∙ ap totals_of (sym left);
       room = omega (arith, c.remove_all.ensures.len, c.remove_all.ensures.capacity, c.self.invariant.room);
       room_aside = omega (arith, c.remove_all.ensures.len, c.self.invariant.room_aside);
       room_for_names = omega (arith, c.forget.ensures.room, c.self.invariant.room_for_names);

@@ -7,7 +7,7 @@ use Rattle.repo_plan.specs.Parts.{Pair}
 use Rattle.repo_catalog.specs.declared.entry.Entry.{Entry}
 use Rattle.repo_catalog.specs.Entries.{EntryList, publication_of, entry_of, without, IsCatalogue}
 use Rattle.repo_catalog.specs.NameKeys.{Key, key_cmp, key_of, is_key, IsIndexOf}
-use Rattle.repo_catalog.specs.Sums.{sums_of}
+use Rattle.repo_catalog.specs.EntryTotals.{totals_of}
 use Rattle.repo_catalog.proofs.EntryLemmas.{found_place, entry_at, no_entry_between, without_at, without_between}
 use Rattle.repo_catalog.proofs.EntryLemmas.{without_rises}
 use Rattle.repo_catalog.proofs.IndexLemmas.{is_key-without, index_less}
@@ -67,9 +67,9 @@ invariant_of-self c =
       summed =
           c.subtract.ensures (without k es)
           (c.self.invariant.summed
-          ∙ ap (λ (l : EntryList). sums_of l.entries) c.self.view_is
+          ∙ ap (λ (l : EntryList). totals_of l.entries) c.self.view_is
           ∙ sums_without k x es c.in-Ok.ensures.ordered there)
-          ∙ ap sums_of (sym left);
+          ∙ ap totals_of (sym left);
       room = omega (arith, c.remove-2.ensures.len, c.remove-2.ensures.capacity, c.self.invariant.room);
       room_aside = omega (arith, c.remove-2.ensures.len, c.self.invariant.room_aside);
       room_for_names = omega (arith, c.remove.ensures.room, c.self.invariant.room_for_names);

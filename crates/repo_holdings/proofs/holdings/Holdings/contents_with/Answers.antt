@@ -23,7 +23,7 @@ loop-x-preserved c =
     record {
       contents =
           more
-          ∙ ap (λ (front : List ℕ). front ++ c.in-Some-content_with.content.now) c.loop-x.invariant.contents
+          ∙ ap (λ (prefix : List ℕ). prefix ++ c.in-Some-content_with.content.now) c.loop-x.invariant.contents
           ∙ ap (λ (piece : List ℕ). contents_from after pair first c.loop-x.x ++ piece) content
           ∙ sym (joined_more after pair first c.loop-x.x);
       few =

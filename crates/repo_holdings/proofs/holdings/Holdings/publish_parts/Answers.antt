@@ -5,7 +5,7 @@ use Rattle.repo_holdings.specs.Changing.{changed, change_by}
 use Rattle.repo_holdings.specs.Listed.{entry_at}
 use Rattle.repo_holdings.proofs.NotedLemmas.{noted_from}
 use Rattle.repo_holdings.proofs.StepLemmas.{catalogue_changed}
-use Rattle.repo_holdings.proofs.PublishLemmas.{new_in, new_absent, publication_told, nothing_before, others_aside}
+use Rattle.repo_holdings.proofs.PublishLemmas.{new_in, new_absent, publication_reported, nothing_before, others_aside}
 use Rattle.repo_holdings.proofs.PublishLemmas.{withdrawn_published, count_packets}
 use Rattle.repo_holdings.proofs.holdings.Holdings.publish_parts.Goals as goal
 
@@ -13,17 +13,19 @@ pub gain_all-requires-clause-new : goal.gain_all-requires-clause-new
 gain_all-requires-clause-new c =
     new_in c.self.inside c.args.self.now (c.args.publisher, c.args.seq) c.self.invariant c.self.view_is c.requires.new
 
-pub change_told-change-requires-clause-told : goal.change_told-change-requires-clause-told
-change_told-change-requires-clause-told c =
+pub change_by_summary-change-requires-clause-summary : goal.change_by_summary-change-requires-clause-summary
+change_by_summary-change-requires-clause-summary c =
     let pair : Pair = (c.args.publisher, c.args.seq) in
-    publication_told c.self.inside.store.packets c.gain_all.new.store.packets pair c.args.packets.items c.args.told
+    publication_reported c.self.inside.store.packets c.gain_all.new.store.packets pair c.args.packets.items
+    c.args.summary
     (new_absent c.self.inside c.args.self.now pair c.self.view_is c.requires.new) c.requires.packets
     c.gain_all.ensures.packets
 
-pub change_told-change-requires-clause-withdrawn : goal.change_told-change-requires-clause-withdrawn
-change_told-change-requires-clause-withdrawn c =
+pub change_by_summary-change-requires-clause-withdrawn : goal.change_by_summary-change-requires-clause-withdrawn
+change_by_summary-change-requires-clause-withdrawn c =
     let pair : Pair = (c.args.publisher, c.args.seq) in
-    withdrawn_published c.self.inside.store.packets c.gain_all.new.store.packets pair c.args.packets.items c.args.told
+    withdrawn_published c.self.inside.store.packets c.gain_all.new.store.packets pair c.args.packets.items
+    c.args.summary
     (new_absent c.self.inside c.args.self.now pair c.self.view_is c.requires.new) c.requires.packets
     c.gain_all.ensures.packets c.self.inside.notes.withdrawn c.self.invariant.kept.tied.in_order
     c.gain_all.ensures.tied.in_order c.self.invariant.kept.noted.withdrawn
@@ -31,7 +33,7 @@ change_told-change-requires-clause-withdrawn c =
 pub invariant_of-self : goal.invariant_of-self
 invariant_of-self c =
     let pair : Pair = (c.args.publisher, c.args.seq) in
-    let some = count_packets c.args.told c.args.packets.items c.requires.packets in
+    let some = count_packets c.args.summary c.args.packets.items c.requires.packets in
     let long = c.args.packets.ok.0 in
     let room = c.self.invariant.room in
     let kept = c.self.invariant.kept in
@@ -41,33 +43,33 @@ invariant_of-self c =
     let puts = c.gain_all.ensures.packets in
     let lists = c.requires.packets in
     let made = c.args.packets.items in
-    let others = others_aside before after pair made c.args.told absent lists puts in
-    let told = publication_told before after pair made c.args.told absent lists puts in
+    let others = others_aside before after pair made c.args.summary absent lists puts in
+    let summary = publication_reported before after pair made c.args.summary absent lists puts in
     let withdrawn =
-    withdrawn_published before after pair made c.args.told absent lists puts c.self.inside.notes.withdrawn
+    withdrawn_published before after pair made c.args.summary absent lists puts c.self.inside.notes.withdrawn
     kept.tied.in_order c.gain_all.ensures.tied.in_order kept.noted.withdrawn in
     record {
       kept = record {
         tied = c.gain_all.ensures.tied;
         noted =
-            noted_from before after pair c.self.inside.notes c.change_told-change.new.notes kept.noted others
-            c.change_told-change.ensures.noted;
+            noted_from before after pair c.self.inside.notes c.change_by_summary-change.new.notes kept.noted others
+            c.change_by_summary-change.ensures.noted;
         listed =
             c.make.ensures.entries
             ∙ ap (λ (change : Change). changed change c.self.inside.catalogue.entries)
-            c.change_told-change.ensures.change
-            ∙ ap (changed (change_by c.self.inside.notes.withdrawn pair (Some c.args.told) (entry_at after pair)))
+            c.change_by_summary-change.ensures.change
+            ∙ ap (changed (change_by c.self.inside.notes.withdrawn pair (Some c.args.summary) (entry_at after pair)))
             kept.listed
             ∙ sym (catalogue_changed before after pair c.self.inside.notes.withdrawn kept.tied.in_order
             c.gain_all.ensures.tied.in_order others
-            (nothing_before before after pair made c.args.told absent lists puts) kept.noted.withdrawn
-            (Some c.args.told) told withdrawn);
+            (nothing_before before after pair made c.args.summary absent lists puts) kept.noted.withdrawn
+            (Some c.args.summary) summary withdrawn);
       };
       room = record {
         for_plan = omega (arith, c.len-parts.ensures, c.gain_all.ensures.plan_room, room.for_plan);
         for_store = omega (arith, c.len-parts.ensures, c.gain_all.ensures.store_room, room.for_store);
         for_notes =
-            omega (arith, some, long, c.len-parts.ensures, c.change_told-change.ensures.room, room.for_notes);
+            omega (arith, some, long, c.len-parts.ensures, c.change_by_summary-change.ensures.room, room.for_notes);
         for_catalogue = omega (arith, some, long, c.len-parts.ensures, c.make.ensures.room, room.for_catalogue);
       };
       none_fresh = c.self.invariant.none_fresh;

@@ -3,15 +3,16 @@ use Rattle.std.specs.Vec.Iter.{into_iter_items}
 use Rattle.sorted_lists.specs.SortedList.{contains}
 use Rattle.repo_plan.specs.declared.part.Part.{Part}
 use Rattle.repo_plan.specs.declared.shape.Shape.{Shape}
-use Rattle.repo_plan.specs.Parts.{Pair, IsShape, part_cmp, part_of, parts_behind}
+use Rattle.repo_plan.specs.Parts.{Pair, IsShape, part_cmp, part_of, parts_after}
 use Rattle.repo_plan.specs.Plan.{PlanState}
 use Rattle.repo_store.specs.StoreList.{StoreList}
 use Rattle.repo_object.proofs.IndexLemmas.{index_few}
-use Rattle.repo_holdings.specs.Gaining.{shape_told}
+use Rattle.repo_holdings.specs.Gaining.{summary_shape}
 use Rattle.repo_holdings.specs.NewPublications.{as_parts, with_packets}
 use Rattle.repo_holdings.proofs.PublishLemmas.{AreToCome, first_listing, gained_none, gained_more, can_ask}
-use Rattle.repo_holdings.proofs.PublishLemmas.{not_claimed, room_kept, told_first, not_told, all_to_come, come_later}
-use Rattle.repo_holdings.proofs.PublishLemmas.{tells_shape, lists_many, count_packets, packets_sized}
+use Rattle.repo_holdings.proofs.PublishLemmas.{not_claimed, room_kept, reported_first, not_reported, all_to_come}
+use Rattle.repo_holdings.proofs.PublishLemmas.{come_later}
+use Rattle.repo_holdings.proofs.PublishLemmas.{reports_shape, lists_many, count_packets, packets_sized}
 use Rattle.repo_holdings.proofs.holdings.publishing.gain_all.Goals.{then-x-eq0, else-x-eq0}
 use Rattle.repo_holdings.proofs.holdings.publishing.gain_all.Goals as goal
 
@@ -21,19 +22,19 @@ loop-packet-init c =
     let made : List (List ℕ) = c.args.packets.items in
     let all = c.into_iter-packet-iterator.ensures.into_iter_gives.0 in
     let fewer = ap (λ (r : List (List ℕ)). length r) all in
-    let count = count_packets c.args.told.now made c.requires.packets in
-    let behind = ap parts_behind c.shape-shape.ensures in
+    let count = count_packets c.args.summary.now made c.requires.packets in
+    let following = ap parts_after c.shape-shape.ensures in
     record {
       stored = ap (λ (r : List (List ℕ)). with_packets (as_parts pair 0 r) c.args.store.now.packets) all;
       tied = c.requires.tied;
       gained = gained_none c.args.plan.now pair c.shape-shape.result c.requires.new;
       plan_room = omega (arith, fewer);
       store_room = omega (arith, fewer);
-      count = omega (arith, fewer, count, behind);
+      count = omega (arith, fewer, count, following);
       come =
-          subst (λ (r : List (List ℕ)). AreToCome c.args.told.now (first_listing made) pair 0 r
+          subst (λ (r : List (List ℕ)). AreToCome c.args.summary.now (first_listing made) pair 0 r
           c.args.store.now.packets) (sym all)
-          (all_to_come c.args.told.now pair made c.args.store.now.packets c.requires.packets);
+          (all_to_come c.args.summary.now pair made c.args.store.now.packets c.requires.packets);
     }
 
 pub gain-requires-clause-plan_room : goal.gain-requires-clause-plan_room
@@ -46,26 +47,27 @@ gain-requires-clause-store_room c =
     let fewer = ap (λ (r : List (List ℕ)). length r) c.in-Some.ensures.steps.0 in
     omega (arith, fewer, c.requires.store_room, c.loop-packet.invariant.store_room, c.args.packets.ok.0)
 
-pub gain-requires-clause-told : goal.gain-requires-clause-told
-gain-requires-clause-told c =
-    tells_shape c.args.told.now (first_listing c.args.packets.items) (c.args.publisher, c.args.seq) c.loop-packet.x
+pub gain-requires-clause-summary : goal.gain-requires-clause-summary
+gain-requires-clause-summary c =
+    reports_shape c.args.summary.now (first_listing c.args.packets.items) (c.args.publisher, c.args.seq) c.loop-packet.x
     c.in-Some.packet (into_iter_items c.next.new.self) c.loop-packet.store.packets
-    (subst (λ (r : List (List ℕ)). AreToCome c.args.told.now (first_listing c.args.packets.items)
+    (subst (λ (r : List (List ℕ)). AreToCome c.args.summary.now (first_listing c.args.packets.items)
     (c.args.publisher, c.args.seq) c.loop-packet.x r c.loop-packet.store.packets) c.in-Some.ensures.steps.0
     c.loop-packet.invariant.come)
     c.if-x-eq0.shape
     (elim c.if-x-eq0.branch [
       | then-x-eq0 w ↦
           w.shape-is ∙ ap (λ (s : Shape). Some s) c.shape-shape.ensures
-          ∙ sym (ap (told_first (shape_told c.args.told.now)) w.if-x-eq0.true)
-      | else-x-eq0 w ↦ w.shape-is ∙ sym (not_told (shape_told c.args.told.now) c.loop-packet.x w.if-x-eq0.false)
+          ∙ sym (ap (reported_first (summary_shape c.args.summary.now)) w.if-x-eq0.true)
+      | else-x-eq0 w ↦ w.shape-is ∙ sym (not_reported (summary_shape c.args.summary.now) c.loop-packet.x
+          w.if-x-eq0.false)
     ])
 
 pub gain-requires-clause-lists : goal.gain-requires-clause-lists
 gain-requires-clause-lists c =
-    lists_many c.args.told.now (first_listing c.args.packets.items) (c.args.publisher, c.args.seq) c.loop-packet.x
+    lists_many c.args.summary.now (first_listing c.args.packets.items) (c.args.publisher, c.args.seq) c.loop-packet.x
     c.in-Some.packet (into_iter_items c.next.new.self) c.loop-packet.store.packets
-    (subst (λ (r : List (List ℕ)). AreToCome c.args.told.now (first_listing c.args.packets.items)
+    (subst (λ (r : List (List ℕ)). AreToCome c.args.summary.now (first_listing c.args.packets.items)
     (c.args.publisher, c.args.seq) c.loop-packet.x r c.loop-packet.store.packets) c.in-Some.ensures.steps.0
     c.loop-packet.invariant.come)
 
@@ -75,7 +77,7 @@ gain-requires-clause-asked c =
     can_ask c.args.plan.now c.loop-packet.plan (c.args.publisher, c.args.seq) c.shape-shape.result c.loop-packet.x
     c.requires.new c.loop-packet.invariant.gained
     (subst IsShape (sym c.shape-shape.ensures)
-    (packets_sized c.args.told.now c.args.packets.items c.requires.packets))
+    (packets_sized c.args.summary.now c.args.packets.items c.requires.packets))
     (omega (arith, fewer, c.loop-packet.invariant.count))
 
 pub gain-requires-clause-not_claimed : goal.gain-requires-clause-not_claimed
@@ -87,7 +89,7 @@ overflow_add-x c =
     let fewer = ap (λ (r : List (List ℕ)). length r) c.in-Some.ensures.steps.0 in
     let sized =
     subst IsShape (sym c.shape-shape.ensures)
-    (packets_sized c.args.told.now c.args.packets.items c.requires.packets) in
+    (packets_sized c.args.summary.now c.args.packets.items c.requires.packets) in
     omega (
       arith,
       fewer,
@@ -115,8 +117,8 @@ loop-packet-preserved c =
       gained =
           gained_more _ _ pair _ c.loop-packet.x c.requires.new inv.gained c.if-x-eq0.shape _
           (elim c.if-x-eq0.branch [
-            | then-x-eq0 w ↦ w.shape-is ∙ sym (ap (told_first c.shape-shape.result) w.if-x-eq0.true)
-            | else-x-eq0 w ↦ w.shape-is ∙ sym (not_told c.shape-shape.result c.loop-packet.x w.if-x-eq0.false)
+            | then-x-eq0 w ↦ w.shape-is ∙ sym (ap (reported_first c.shape-shape.result) w.if-x-eq0.true)
+            | else-x-eq0 w ↦ w.shape-is ∙ sym (not_reported c.shape-shape.result c.loop-packet.x w.if-x-eq0.false)
           ])
           c.gain.ensures.plan;
       plan_room =
@@ -138,9 +140,9 @@ loop-packet-preserved c =
           );
       count = omega (arith, fewer, inv.count);
       come =
-          come_later c.args.told.now (first_listing c.args.packets.items) pair c.loop-packet.x c.in-Some.packet later
+          come_later c.args.summary.now (first_listing c.args.packets.items) pair c.loop-packet.x c.in-Some.packet later
           c.loop-packet.store.packets
-          (subst (λ (r : List (List ℕ)). AreToCome c.args.told.now (first_listing c.args.packets.items) pair
+          (subst (λ (r : List (List ℕ)). AreToCome c.args.summary.now (first_listing c.args.packets.items) pair
           c.loop-packet.x r c.loop-packet.store.packets) rest inv.come)
           c.gain.new.store.packets (ap (λ (s : StoreList). s.packets) c.gain.ensures.store)
           (ap (λ (ts : List Part). contains part_cmp ts (part_of pair c.loop-packet.x)) (sym inv.tied.held)

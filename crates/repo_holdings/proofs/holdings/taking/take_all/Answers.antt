@@ -6,7 +6,7 @@ use Rattle.std.specs.Vec.Iter.{into_iter_items}
 use Rattle.std.proofs.lemmas.List.Elements.{All-head, All-tail}
 use Rattle.std.proofs.lemmas.List.Sums.{sum_by-cons}
 use Rattle.repo_holdings.specs.declared.holdings.taking.Tried.{Tried}
-use Rattle.repo_holdings.specs.declared.told.Arrival.{Arrival}
+use Rattle.repo_holdings.specs.declared.record_summary.Arrival.{Arrival}
 use Rattle.repo_holdings.specs.Records.{Packet}
 use Rattle.repo_holdings.specs.Contents.{IsDigestIn}
 use Rattle.repo_holdings.specs.Taking.{came, arrival_octets, CanBeTaken, AreTakable, with_fetched, with_all_fetched}
@@ -42,7 +42,7 @@ take_one-came-requires-clause-gone_room c =
     let before = c.loop-tried.invariant in
     omega (arith, fewer, before.few_gone, before.gone_room, c.requires.gone_room, c.args.all.ok.0)
 
--- what is told of all that will be stored is true with one packet more
+-- what is reported of all that will be stored is true with one packet more
 pub take_one-came-requires-clause-digests : goal.take_one-came-requires-clause-digests
 take_one-came-requires-clause-digests c =
     let later = into_iter_items c.next.new.self in

@@ -3,7 +3,7 @@ use Rattle.std.specs.Prelude.{IfSome}
 use Rattle.repo_store.specs.StoreList.{StoreList}
 use Rattle.repo_plan.specs.Parts.{Pair}
 use Rattle.repo_catalog.specs.declared.entry.Entry.{Entry}
-use Rattle.repo_holdings.specs.declared.told.Arrival.{Arrival}
+use Rattle.repo_holdings.specs.declared.record_summary.Arrival.{Arrival}
 use Rattle.repo_holdings.specs.Records.{Packet}
 use Rattle.repo_holdings.specs.Noted.{NotesState, AreNotes}
 use Rattle.repo_holdings.specs.Gaining.{IsArrival}
@@ -36,13 +36,13 @@ pub returns-clause-listed : goal.returns-clause-listed
 returns-clause-listed c = λ entries is.
     let packets = c.args.store.now.packets in
     let arrives : Option Arrival → Type 0 =
-    λ o. IfSome o (λ a. IsArrival packets c.args.tried.part a.packet a.told) in
+    λ o. IfSome o (λ a. IsArrival packets c.args.tried.part a.packet a.summary) in
     elim c.match-arrival.branch [
       | in-Some+in-Nothing w ↦
           listed_as c.args.fresh.now.items _ c.args.gone.now.items _ entries w.gain_noted.new.store.packets _
           (ap (λ v. v.items) w.fresh-is) (ap (λ v. v.items) w.gone-is) (ap (λ (s : StoreList). s.packets) w.store-is)
           (gained_waits c.args.plan.now packets w.gain_noted.new.store.packets c.args.notes.now c.args.tried.part
-          w.in-Some.arrival.packet w.in-Some.arrival.told w.gain_noted.result c.args.fresh.now.items entries
+          w.in-Some.arrival.packet w.in-Some.arrival.summary w.gain_noted.result c.args.fresh.now.items entries
           c.args.gone.now.items c.requires.tied c.requires.noted
           (subst arrives w.in-Some.is c.requires.takable.arrived) c.requires.takable.asked
           c.requires.takable.not_held w.gain_noted.ensures.packets w.gain_noted.ensures.change
@@ -52,7 +52,7 @@ returns-clause-listed c = λ entries is.
           (ap (λ v. v.items) w.fresh-is ∙ w.push.ensures.items ∙ rw w.unwrap.ensures refl) (ap (λ v. v.items) w.gone-is)
           (ap (λ (s : StoreList). s.packets) w.store-is)
           (gained_waits c.args.plan.now packets w.gain_noted.new.store.packets c.args.notes.now c.args.tried.part
-          w.in-Some.arrival.packet w.in-Some.arrival.told w.gain_noted.result c.args.fresh.now.items entries
+          w.in-Some.arrival.packet w.in-Some.arrival.summary w.gain_noted.result c.args.fresh.now.items entries
           c.args.gone.now.items c.requires.tied c.requires.noted
           (subst arrives w.in-Some.is c.requires.takable.arrived) c.requires.takable.asked
           c.requires.takable.not_held w.gain_noted.ensures.packets w.gain_noted.ensures.change
@@ -65,7 +65,7 @@ returns-clause-listed c = λ entries is.
           ∙ rw w.unwrap-in-Removes.ensures refl)
           (ap (λ (s : StoreList). s.packets) w.store-is)
           (gained_waits c.args.plan.now packets w.gain_noted.new.store.packets c.args.notes.now c.args.tried.part
-          w.in-Some.arrival.packet w.in-Some.arrival.told w.gain_noted.result c.args.fresh.now.items entries
+          w.in-Some.arrival.packet w.in-Some.arrival.summary w.gain_noted.result c.args.fresh.now.items entries
           c.args.gone.now.items c.requires.tied c.requires.noted
           (subst arrives w.in-Some.is c.requires.takable.arrived) c.requires.takable.asked
           c.requires.takable.not_held w.gain_noted.ensures.packets w.gain_noted.ensures.change

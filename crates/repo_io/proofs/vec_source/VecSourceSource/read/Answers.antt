@@ -1,5 +1,5 @@
 use Rattle.std.proofs.Common.{◌≡◌, ◌-◌, ◌≤◌, length, take, drop, ap, ◌∙◌, sym, arith}
-use Rattle.repo_io.proofs.Outputs.{front_left}
+use Rattle.repo_io.proofs.Outputs.{prefix_left}
 use Rattle.repo_io.specs.InMemory.{Supply}
 use Rattle.repo_io.proofs.vec_source.VecSourceSource.read.Goals as goal
 
@@ -13,4 +13,4 @@ returns-clause-taken c =
     let rest = rw items at c.min.ensures in
     let within : n ≤ length (take (length octets - at) (drop at octets)) = omega (arith, c.min-n.ensures, rest) in
     let left : c.args.self.now.left ≡ drop at octets = ap (λ (s : Supply). s.left) (sym c.self.view_is) in
-    left ∙ front_left octets c.copy_from_slice.new.self (drop n c.args.buf.now) at n within copied
+    left ∙ prefix_left octets c.copy_from_slice.new.self (drop n c.args.buf.now) at n within copied

@@ -2,7 +2,7 @@ use Rattle.std.proofs.Common.{◌≡◌, Option, Some, sym, ◌∙◌, subst}
 use Rattle.std.specs.Prelude.{IfSome}
 use Rattle.repo_plan.specs.declared.part.Part.{Part}
 use Rattle.repo_plan.specs.Plan.{claim_of}
-use Rattle.repo_member.specs.Alone.{alone_plan, want_of}
+use Rattle.repo_member.specs.MemberState.{member_plan, want_of}
 use Rattle.repo_member.specs.Outcomes.{IsCheckedFor}
 use Rattle.repo_member.proofs.MemberLemmas.{reading}
 use Rattle.repo_member.proofs.OutcomeLemmas.{arrives}
@@ -10,7 +10,7 @@ use Rattle.repo_member.proofs.member.Member.accept_checked.Goals as goal
 
 pub gain_claimed-requires-clause-arrival : goal.gain_claimed-requires-clause-arrival
 gain_claimed-requires-clause-arrival c =
-    let claim : claim_of (alone_plan c.args.self.now) c.args.f ≡ Some c.in-Some.part =
+    let claim : claim_of (member_plan c.args.self.now) c.args.f ≡ Some c.in-Some.part =
     sym (reading (λ p. claim_of p c.args.f) c.self.inside c.args.self.now c.self.invariant c.self.view_is)
     ∙ sym c.claimed.ensures.claim ∙ c.in-Some.is in
     let checked =

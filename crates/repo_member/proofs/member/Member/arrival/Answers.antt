@@ -6,9 +6,9 @@ use Rattle.ndn_sign.specs.Ring.{NamedKey}
 use Rattle.repo_plan.specs.declared.part.Part.{Part}
 use Rattle.repo_object.specs.declared.part_refusal.PartRefusal.{PartRefusal}
 use Rattle.repo_object.specs.Wants.{WantedPart}
-use Rattle.repo_object.specs.Verdict.{checked_part, said_in}
+use Rattle.repo_object.specs.Verdict.{checked_part, stated_in}
 use Rattle.repo_holdings.specs.StoredParents.{lists_at, ListsAsMany}
-use Rattle.repo_member.specs.Alone.{want_of}
+use Rattle.repo_member.specs.MemberState.{want_of}
 use Rattle.repo_member.specs.Verdicts.{passed}
 use Rattle.repo_member.proofs.MemberLemmas.{want_at_part, want_part, passes_for, publisher_in_ring}
 use Rattle.repo_member.proofs.OutcomeLemmas.{checked_says, lists_for}
@@ -51,7 +51,7 @@ returns-in_err-packet-clause-memory c = λ _.
 pub new-requires-2 : goal.new-requires-2
 new-requires-2 c = record {
   record_part = λ zero.
-      subst (λ (octets : List ℕ). IsSome (said_in octets))
+      subst (λ (octets : List ℕ). IsSome (stated_in octets))
       (sym (c.in_ok-packet.ensures ∙ c.in_ok-to_vec.ensures.items_if_clones_equal (λ x y e. e)))
       (checked_says
       (checked_part (want_of c.args.g.now c.args.self.now.store c.args.part) c.args.g.now.members.ring

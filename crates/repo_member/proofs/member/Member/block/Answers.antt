@@ -17,9 +17,9 @@ use Rattle.repo_process.specs.Insertions.{Insertions, changes_process}
 use Rattle.repo_process.proofs.LawLemmas.{segments_counted}
 use Rattle.repo_member.specs.declared.member.Member.TheInside.{Inside}
 use Rattle.repo_member.specs.declared.member.block.Blocked.TheVariants as blocked
-use Rattle.repo_member.specs.Alone.{Alone, alone_publishes}
-use Rattle.repo_member.specs.Blocks.{alone_block, alone_keeps, after_block, CompletesAnObject, TellsBlock}
-use Rattle.repo_member.specs.Members.{alone, AreWaiting, IsMember}
+use Rattle.repo_member.specs.MemberState.{MemberState, member_publishes}
+use Rattle.repo_member.specs.Blocks.{member_block, member_keeps, after_block, CompletesAnObject, ReportsBlock}
+use Rattle.repo_member.specs.Members.{member_state, AreWaiting, IsMember}
 use Rattle.repo_member.specs.Posts.{contents_of}
 use Rattle.repo_member.proofs.BlockStates.{ComesLast, comes_last, kept_waiting, nothing_lent, can_take_back, taken_back}
 use Rattle.repo_member.proofs.BlockStates.{handed, can_reopen, opened_again}
@@ -57,16 +57,17 @@ invariant_of-self-in_default c =
     c.in_default.ensures.object in
     still c.self.inside c.block.new.self nothing.1 c.self.invariant
 
-pub returns-in_default-clause-told : goal.returns-in_default-clause-told
-returns-in_default-clause-told c =
+pub returns-in_default-clause-reported : goal.returns-in_default-clause-reported
+returns-in_default-clause-reported c =
     let nothing =
     nothing_lent c.self.inside.processes c.block.new.self c.args.process c.args.index c.args.content.now
     c.self.invariant.waiting _ refl c.in_ok-block.ensures.ok (sym c.in_ok-block.ensures.state ∙ c.in-Complete.is)
     c.in_default.ensures.object in
-    let state : alone_block c.args.self.now c.args.process c.args.index c.args.content.now ≡ Already =
-    ap (λ (a : Alone). alone_block a c.args.process c.args.index c.args.content.now) (sym c.self.view_is) ∙ nothing.0 in
-    subst (λ (s : BlockState). TellsBlock c.args.g.now c.args.self.now
-    (alone (record c.self.inside { processes = c.block.new.self })) s blocked.Already) (sym state) tt
+    let state : member_block c.args.self.now c.args.process c.args.index c.args.content.now ≡ Already =
+    ap (λ (a : MemberState). member_block a c.args.process c.args.index c.args.content.now) (sym c.self.view_is)
+    ∙ nothing.0 in
+    subst (λ (s : BlockState). ReportsBlock c.args.g.now c.args.self.now
+    (member_state (record c.self.inside { processes = c.block.new.self })) s blocked.Already) (sym state) tt
 
 pub returns-in_default-clause-ok : goal.returns-in_default-clause-ok
 returns-in_default-clause-ok c =
@@ -74,9 +75,10 @@ returns-in_default-clause-ok c =
     nothing_lent c.self.inside.processes c.block.new.self c.args.process c.args.index c.args.content.now
     c.self.invariant.waiting _ refl c.in_ok-block.ensures.ok (sym c.in_ok-block.ensures.state ∙ c.in-Complete.is)
     c.in_default.ensures.object in
-    let state : alone_block c.args.self.now c.args.process c.args.index c.args.content.now ≡ Already =
-    ap (λ (a : Alone). alone_block a c.args.process c.args.index c.args.content.now) (sym c.self.view_is) ∙ nothing.0 in
-    ap (λ (i : Insertions). alone (record c.self.inside { processes = i })) nothing.1 ∙ c.self.view_is
+    let state : member_block c.args.self.now c.args.process c.args.index c.args.content.now ≡ Already =
+    ap (λ (a : MemberState). member_block a c.args.process c.args.index c.args.content.now) (sym c.self.view_is)
+    ∙ nothing.0 in
+    ap (λ (i : Insertions). member_state (record c.self.inside { processes = i })) nothing.1 ∙ c.self.view_is
     ∙ sym (ap (after_block c.args.g.now c.args.process c.args.now c.args.draw c.args.self.now) state)
 
 pub returns-in_default-clause-object : goal.returns-in_default-clause-object
@@ -85,8 +87,9 @@ returns-in_default-clause-object c =
     nothing_lent c.self.inside.processes c.block.new.self c.args.process c.args.index c.args.content.now
     c.self.invariant.waiting _ refl c.in_ok-block.ensures.ok (sym c.in_ok-block.ensures.state ∙ c.in-Complete.is)
     c.in_default.ensures.object in
-    let state : alone_block c.args.self.now c.args.process c.args.index c.args.content.now ≡ Already =
-    ap (λ (a : Alone). alone_block a c.args.process c.args.index c.args.content.now) (sym c.self.view_is) ∙ nothing.0 in
+    let state : member_block c.args.self.now c.args.process c.args.index c.args.content.now ≡ Already =
+    ap (λ (a : MemberState). member_block a c.args.process c.args.index c.args.content.now) (sym c.self.view_is)
+    ∙ nothing.0 in
     subst CompletesAnObject (sym state) tt
 
 -- ---- its name can't be copied
@@ -117,7 +120,7 @@ returns-in_default-clone-clause-err c =
     comes_last c.self.inside.processes c.block.new.self c.args.process c.args.index c.args.content.now _
     c.self.invariant.waiting c.in_ok-block.ensures.ok (sym c.in_ok-block.ensures.state ∙ c.in-Complete.is)
     c.in-Some.ensures.object in
-    ap (λ (i : Insertions). alone (record c.self.inside { processes = i }))
+    ap (λ (i : Insertions). member_state (record c.self.inside { processes = i }))
     (c.take_back.ensures
     ∙ taken_back c.self.inside.processes c.block.new.self c.args.process c.args.index c.args.content.now last.0 last.1
     c.completes-is_last.ensures.ordered)
@@ -156,7 +159,7 @@ reopen-requires-clause-closed c =
     c.self.invariant.waiting c.in_ok-block.ensures.ok (sym c.in_ok-block.ensures.state ∙ c.in-Complete.is)
     c.in-Some.ensures.object in
     let over : c.self-2.inside.processes ≡ changes_process c.args.process closed c.block.new.self =
-    ap (λ (a : Alone). a.insertions) (c.self-2.view_is ∙ c.in-Err.ensures.err) ∙ c.hand_over.ensures.closed in
+    ap (λ (a : MemberState). a.insertions) (c.self-2.view_is ∙ c.in-Err.ensures.err) ∙ c.hand_over.ensures.closed in
     let same : map (λ v. v.items) c.into_contents-contents.result.items ≡ map (λ v. v.items) c.hand_over.result.items =
     c.into_contents-contents.ensures
     ∙ ap contents_of c.in-Err.ensures.back
@@ -193,7 +196,7 @@ take_back-requires-in-Err c =
     c.self.invariant.waiting c.in_ok-block.ensures.ok (sym c.in_ok-block.ensures.state ∙ c.in-Complete.is)
     c.in-Some.ensures.object in
     let over : c.self-2.inside.processes ≡ changes_process c.args.process closed c.block.new.self =
-    ap (λ (a : Alone). a.insertions) (c.self-2.view_is ∙ c.in-Err.ensures.err) ∙ c.hand_over.ensures.closed in
+    ap (λ (a : MemberState). a.insertions) (c.self-2.view_is ∙ c.in-Err.ensures.err) ∙ c.hand_over.ensures.closed in
     let same : map (λ v. v.items) c.into_contents-contents.result.items ≡ map (λ v. v.items) c.hand_over.result.items =
     c.into_contents-contents.ensures
     ∙ ap contents_of c.in-Err.ensures.back
@@ -221,7 +224,7 @@ as_before c =
     c.self.invariant.waiting c.in_ok-block.ensures.ok (sym c.in_ok-block.ensures.state ∙ c.in-Complete.is)
     c.in-Some.ensures.object in
     let over : c.self-2.inside.processes ≡ changes_process c.args.process closed c.block.new.self =
-    ap (λ (a : Alone). a.insertions) (c.self-2.view_is ∙ c.in-Err.ensures.err) ∙ c.hand_over.ensures.closed in
+    ap (λ (a : MemberState). a.insertions) (c.self-2.view_is ∙ c.in-Err.ensures.err) ∙ c.hand_over.ensures.closed in
     let same : map (λ v. v.items) c.into_contents-contents.result.items ≡ map (λ v. v.items) c.hand_over.result.items =
     c.into_contents-contents.ensures
     ∙ ap contents_of c.in-Err.ensures.back
@@ -247,8 +250,9 @@ invariant_of-self-in-Err c =
 
 pub returns-in-Err-clause-err : goal.returns-in-Err-clause-err
 returns-in-Err-clause-err c =
-    ap (λ (i : Insertions). alone (record c.self-2.inside { processes = i })) (as_before c)
-    ∙ ap (λ (a : Alone). record a { insertions = c.self.inside.processes }) (c.self-2.view_is ∙ c.in-Err.ensures.err)
+    ap (λ (i : Insertions). member_state (record c.self-2.inside { processes = i })) (as_before c)
+    ∙ ap (λ (a : MemberState). record a { insertions = c.self.inside.processes })
+    (c.self-2.view_is ∙ c.in-Err.ensures.err)
     ∙ c.self.view_is
 
 -- ---- it is published
@@ -276,9 +280,9 @@ returns-in-Ok-publish_post-clause-ok c =
     comes_last c.self.inside.processes c.block.new.self c.args.process c.args.index c.args.content.now _
     c.self.invariant.waiting c.in_ok-block.ensures.ok (sym c.in_ok-block.ensures.state ∙ c.in-Complete.is)
     c.in-Some.ensures.object in
-    let a : Alone = c.args.self.now in
-    let state : alone_block a c.args.process c.args.index c.args.content.now ≡ Whole last.0 =
-    ap (λ (b : Alone). alone_block b c.args.process c.args.index c.args.content.now) (sym c.self.view_is)
+    let a : MemberState = c.args.self.now in
+    let state : member_block a c.args.process c.args.index c.args.content.now ≡ Whole last.0 =
+    ap (λ (b : MemberState). member_block b c.args.process c.args.index c.args.content.now) (sym c.self.view_is)
     ∙ last.1.state in
     let is_it : c.completes-is_last.result ≡ true =
     c.completes-is_last.ensures.last c.args.content.now c.requires.content ∙ ap is_last last.1.state in
@@ -287,21 +291,21 @@ returns-in-Ok-publish_post-clause-ok c =
           omega (arith, w.if-log-ge-PUBLICATION_LIMIT.false, c.log_len-log.ensures.len)
       | else-is_last-via-else-is_last w ↦ absurd (true≢false (sym is_it ∙ w.if-is_last.false))
     ] in
-    let keeps : alone (record c.self.inside { processes = c.hand_over.new.self })
-    ≡ alone_keeps c.args.process (closed last.0) a =
-    ap (λ (i : Insertions). alone (record c.self.inside { processes = i }))
+    let keeps : member_state (record c.self.inside { processes = c.hand_over.new.self })
+    ≡ member_keeps c.args.process (closed last.0) a =
+    ap (λ (i : Insertions). member_state (record c.self.inside { processes = i }))
     (c.hand_over.ensures.closed
     ∙ handed c.self.inside.processes c.block.new.self c.args.process c.args.index c.args.content.now last.0 last.1
     c.completes-is_last.ensures.ordered)
-    ∙ ap (alone_keeps c.args.process (closed last.0)) c.self.view_is in
+    ∙ ap (member_keeps c.args.process (closed last.0)) c.self.view_is in
     c.in-Ok-publish_post.ensures.ok
-    ∙ ap (λ (o : NamedContents). alone_publishes c.args.g.now (Offers o) c.args.now c.args.draw
-    (alone (record c.self.inside { processes = c.hand_over.new.self }))) (object_is c last.0 last.1)
-    ∙ ap (alone_publishes c.args.g.now (Offers (object_of last.0)) c.args.now c.args.draw) keeps
+    ∙ ap (λ (o : NamedContents). member_publishes c.args.g.now (Offers o) c.args.now c.args.draw
+    (member_state (record c.self.inside { processes = c.hand_over.new.self }))) (object_is c last.0 last.1)
+    ∙ ap (member_publishes c.args.g.now (Offers (object_of last.0)) c.args.now c.args.draw) keeps
     ∙ sym (ap (after_block c.args.g.now c.args.process c.args.now c.args.draw a) state
     ∙ ap (λ (b : Bool). cond b
-    (alone_publishes c.args.g.now (Offers (object_of last.0)) c.args.now c.args.draw
-    (alone_keeps c.args.process (closed last.0) a)) a) (lt-ltb (length a.log) 65535 room))
+    (member_publishes c.args.g.now (Offers (object_of last.0)) c.args.now c.args.draw
+    (member_keeps c.args.process (closed last.0) a)) a) (lt-ltb (length a.log) 65535 room))
 
 pub returns-in-Ok-publish_post-clause-object : goal.returns-in-Ok-publish_post-clause-object
 returns-in-Ok-publish_post-clause-object c =
@@ -309,8 +313,8 @@ returns-in-Ok-publish_post-clause-object c =
     comes_last c.self.inside.processes c.block.new.self c.args.process c.args.index c.args.content.now _
     c.self.invariant.waiting c.in_ok-block.ensures.ok (sym c.in_ok-block.ensures.state ∙ c.in-Complete.is)
     c.in-Some.ensures.object in
-    let state : alone_block c.args.self.now c.args.process c.args.index c.args.content.now ≡ Whole last.0 =
-    ap (λ (b : Alone). alone_block b c.args.process c.args.index c.args.content.now) (sym c.self.view_is)
+    let state : member_block c.args.self.now c.args.process c.args.index c.args.content.now ≡ Whole last.0 =
+    ap (λ (b : MemberState). member_block b c.args.process c.args.index c.args.content.now) (sym c.self.view_is)
     ∙ last.1.state in
     subst CompletesAnObject (sym state)
     (subst IsObject (object_is c last.0 last.1) c.in-Ok-publish_post.ensures.post)

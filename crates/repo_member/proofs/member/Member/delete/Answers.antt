@@ -4,15 +4,15 @@ use Rattle.repo_plan.specs.declared.part.Part.{Part}
 use Rattle.sorted_lists.specs.SortedList.{Rises}
 use Rattle.repo_plan.specs.Parts.{Pair, pair_cmp}
 use Rattle.repo_plan.specs.Plan.{knows, is_claim_in, claims_part_in}
-use Rattle.repo_member.specs.Alone.{Alone, alone_plan}
+use Rattle.repo_member.specs.MemberState.{MemberState, member_plan}
 use Rattle.repo_member.proofs.WaitingLemmas.{hidden_is}
 use Rattle.repo_member.proofs.member.Member.delete.Goals as goal
 
 pub hide_all-requires-clause-unclaimed : goal.hide_all-requires-clause-unclaimed
 hide_all-requires-clause-unclaimed c =
-    let claims = ap (λ (a : Alone). a.claims) c.self.view_is in
+    let claims = ap (λ (a : MemberState). a.claims) c.self.view_is in
     let each =
-    subst (All (λ (pair : Pair). claims_part_in (alone_plan c.args.self.now) pair ≡ false)) (sym c.deref.ensures.value)
+    subst (All (λ (pair : Pair). claims_part_in (member_plan c.args.self.now) pair ≡ false)) (sym c.deref.ensures.value)
     c.in_ok-found.ensures.unclaimed in
     λ k d low.
     ap (λ (cs : List (Option Part)). list_any (is_claim_in (get_or c.deref.result.now k d)) cs) claims ∙ each k d low
@@ -24,9 +24,9 @@ hide_all-requires-clause-in_order c =
 pub invariant_of-self-2 : goal.invariant_of-self-2
 invariant_of-self-2 c =
     let known =
-    subst (All (λ (pair : Pair). knows (alone_plan c.args.self.now) pair ≡ true)) (sym c.deref.ensures.value)
+    subst (All (λ (pair : Pair). knows (member_plan c.args.self.now) pair ≡ true)) (sym c.deref.ensures.value)
     c.in_ok-found.ensures.known in
     hidden_is c.self.inside _ c.deref.result.now c.self.invariant refl refl refl refl refl
     c.in_ok-hide_all.ensures.ok c.hide_all.ensures.in_order
-    (subst (λ (a : Alone). All (λ (pair : Pair). knows (alone_plan a) pair ≡ true) c.deref.result.now)
+    (subst (λ (a : MemberState). All (λ (pair : Pair). knows (member_plan a) pair ≡ true) c.deref.result.now)
     (sym c.self.view_is) known)

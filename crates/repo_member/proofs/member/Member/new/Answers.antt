@@ -20,7 +20,7 @@ invariant_of-result c =
     let held = c.in_ok-new-3.ensures in
     let wide : length c.in_ok-new.field-0 ≡ n = ap length known ∙ length-replicate n zero_number in
     record {
-      alone = record {
+      member_state = record {
         member = omega (arith, inside, wide);
         own =
             ap (λ (v : List ℕ). slice_index v c.args.number) known

@@ -1,11 +1,11 @@
 use Rattle.std.proofs.Common.{rules, ◌≡◌, ◌<◌, ◌^◌, ℕ, List, length, sym, ap, ◌∙◌, arith}
 use Rattle.std.proofs.lemmas.List.{length-map}
 use Rattle.repo_plan.specs.Parts.{shape_of_segments}
-use Rattle.repo_holdings.specs.declared.told.Told.TheVariants.{Object}
+use Rattle.repo_holdings.specs.declared.record_summary.RecordSummary.TheVariants.{Object}
 use Rattle.repo_object.specs.Objects.Post.{Offers}
 use Rattle.repo_object.specs.Publication.{packets}
 use Rattle.repo_member.specs.Groups.{publisher_at}
-use Rattle.repo_member.specs.Alone.{Alone, next_seq}
+use Rattle.repo_member.specs.MemberState.{MemberState, next_seq}
 use Rattle.repo_member.proofs.OwnLemmas.{is_publisher, packets_are}
 use Rattle.repo_member.proofs.member.Member.prepare_object.Goals as goal
 
@@ -26,10 +26,10 @@ named c = search rules
 
 pub returns-clause-prepared : goal.returns-clause-prepared
 returns-clause-prepared c =
-    let number = ap (λ (a : Alone). a.number) c.self.view_is in
-    let known = ap (λ (a : Alone). length a.known) c.self.view_is in
+    let number = ap (λ (a : MemberState). a.number) c.self.view_is in
+    let known = ap (λ (a : MemberState). length a.known) c.self.view_is in
     let inside : c.args.self.now.number < length c.args.g.now.members.names =
-    omega (arith, c.self.invariant.alone.member, number, known, c.requires.group) in
+    omega (arith, c.self.invariant.member_state.member, number, known, c.requires.group) in
     let low : next_seq c.args.self.now < 2 ^ 16 = omega (arith, c.requires.numbers) in
     record {
       packed = packed c;

@@ -2,7 +2,7 @@ use Rattle.std.proofs.Common.{rules, ◌≡◌, ◌<◌, ◌^◌, ◌∷◌, [],
 use Rattle.repo_object.specs.Objects.Post.{Withdraws}
 use Rattle.repo_object.specs.Publication.{packets}
 use Rattle.repo_member.specs.Groups.{publisher_at}
-use Rattle.repo_member.specs.Alone.{Alone, next_seq}
+use Rattle.repo_member.specs.MemberState.{MemberState, next_seq}
 use Rattle.repo_member.proofs.OwnLemmas.{is_publisher, packets_are}
 use Rattle.repo_member.proofs.member.Member.prepare_withdrawal.Goals as goal
 
@@ -16,10 +16,10 @@ alone_in c = search rules
 
 pub returns : goal.returns
 returns c =
-    let number = ap (λ (a : Alone). a.number) c.self.view_is in
-    let known = ap (λ (a : Alone). length a.known) c.self.view_is in
+    let number = ap (λ (a : MemberState). a.number) c.self.view_is in
+    let known = ap (λ (a : MemberState). length a.known) c.self.view_is in
     let inside : c.args.self.now.number < length c.args.g.now.members.names =
-    omega (arith, c.self.invariant.alone.member, number, known, c.requires.group) in
+    omega (arith, c.self.invariant.member_state.member, number, known, c.requires.group) in
     let low : next_seq c.args.self.now < 2 ^ 16 = omega (arith, c.requires.numbers) in
     let packed = alone_in c ∙ made c in
     record {

@@ -1,7 +1,7 @@
 use Rattle.std.proofs.Common.{ℕ, max, length, sym, ap, ◌∙◌, subst}
 use Rattle.repo_holdings.specs.HoldingsState.{HoldingsState, held_plan, knows_too}
 use Rattle.repo_holdings.specs.NewPublications.{IsNew}
-use Rattle.repo_member.specs.Alone.{Alone}
+use Rattle.repo_member.specs.MemberState.{MemberState}
 use Rattle.repo_member.proofs.OwnLemmas.{next_is_new}
 use Rattle.repo_member.proofs.member.Member.publish_prepared.Goals as goal
 
@@ -11,7 +11,7 @@ publish_parts-requires-clause-new c =
     let log : ℕ = length c.args.self.now.log in
     subst (λ (n : ℕ). IsNew (held_plan c.raise.new.self) (number, n)) (sym c.next_seq-seq.ensures)
     (next_is_new c.self.inside c.raise.new.self _ log c.self.invariant c.is_sound.ensures
-    (sym (ap (λ (a : Alone). length a.log) c.self.view_is))
+    (sym (ap (λ (a : MemberState). length a.log) c.self.view_is))
     (c.raise.ensures
     ∙ ap (λ (h : HoldingsState). knows_too number c.next_seq-seq.result h) c.in-Ok-reserve.ensures.ok
     ∙ ap (λ (n : ℕ). knows_too number n

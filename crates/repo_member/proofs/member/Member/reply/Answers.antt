@@ -5,7 +5,7 @@ use Rattle.ndn_name.specs.Names.{Component, encoding}
 use Rattle.ndn_name.proofs.OnlyMemory.{only_memory_of_packet}
 use Rattle.ndn_data.specs.WrittenData.{written_data}
 use Rattle.repo_object.proofs.PacketSizes.{key_name-size}
-use Rattle.repo_member.specs.Alone.{Alone}
+use Rattle.repo_member.specs.MemberState.{MemberState}
 use Rattle.repo_member.specs.Groups.{IsPlainNodeName}
 use Rattle.repo_member.proofs.ReplyLemmas.{reply-size}
 use Rattle.repo_member.proofs.member.Member.reply.Goals as goal
@@ -15,7 +15,13 @@ map_err-requires c =
     let names = c.args.g.now.members.names in
     let number = c.self.inside.number in
     let inside : number < length names =
-    omega (arith, c.self.invariant.alone.member, c.requires.group, ap (λ (a : Alone). length a.known) c.self.view_is) in
+    omega (
+      arith,
+      c.self.invariant.member_state.member,
+      c.requires.group,
+      ap (λ (a : MemberState). length a.known)
+          c.self.view_is,
+    ) in
     let node : IsPlainNodeName c.name-2.result.now =
     subst IsPlainNodeName
     (sym (unwrap_or-slice_get names number [])

@@ -3,7 +3,7 @@ use Rattle.std.specs.List.{All}
 use Rattle.repo_holdings.specs.Contents.{IsDigestIn}
 use Rattle.repo_holdings.specs.Records.{Packet}
 use Rattle.repo_holdings.specs.Taking.{Fetched, came, with_all_fetched}
-use Rattle.repo_member.specs.Alone.{alone_takes}
+use Rattle.repo_member.specs.MemberState.{member_takes}
 use Rattle.repo_member.proofs.OutcomeLemmas.{stored_alike, stored_still, taken_is}
 use Rattle.repo_member.proofs.member.Member.take_digested.Goals as goal
 
@@ -24,4 +24,4 @@ pub returns-clause-ok : goal.returns-clause-ok
 returns-clause-ok c =
     taken_is c.self.inside c.args.self.now c.self.view_is c.reserve.new.self _ c.in_ok-reserve.ensures.ok
     c.take-parts.new.self (map came c.in_ok-all.all.items) c.take-parts.ensures.taken
-    ∙ ap (λ (xs : List Fetched). alone_takes xs c.args.self.now) c.in_ok-all.ensures.came
+    ∙ ap (λ (xs : List Fetched). member_takes xs c.args.self.now) c.in_ok-all.ensures.came

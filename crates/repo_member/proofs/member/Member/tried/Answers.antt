@@ -7,9 +7,9 @@ use Rattle.std.specs.Iterator.Adapters.{zip_first, zip_second}
 use Rattle.std.proofs.lemmas.List.{append-nil}
 use Rattle.std.proofs.lemmas.List.Elements.{All-push}
 use Rattle.repo_object.specs.Verdict.{CheckedPart}
-use Rattle.repo_holdings.specs.declared.told.Arrival.{Arrival}
+use Rattle.repo_holdings.specs.declared.record_summary.Arrival.{Arrival}
 use Rattle.repo_holdings.specs.declared.holdings.taking.Tried.{Tried}
-use Rattle.repo_member.specs.Alone.{alone_plan}
+use Rattle.repo_member.specs.MemberState.{member_plan}
 use Rattle.repo_holdings.specs.Taking.{Fetched}
 use Rattle.repo_holdings.specs.Gaining.{IsArrival}
 use Rattle.repo_member.specs.Outcomes.{outcome_of, IsCheckedFor}
@@ -29,7 +29,7 @@ same_packet c = elim c.match-checked.branch [
 ]
 
 arrived : (c : goal.In_ok-push)
-    → IfSome c.match-checked.arrival (λ a. IsArrival c.args.self.now.store c.part.result a.packet a.told)
+    → IfSome c.match-checked.arrival (λ a. IsArrival c.args.self.now.store c.part.result a.packet a.summary)
 arrived c =
     let steps = c.in-Some.ensures.steps in
     let is =
@@ -57,7 +57,7 @@ loop-job-preserved c =
     let one : Tried =
     record { part = c.part.result; attempts = c.in-Some.tries.now; arrival = c.match-checked.arrival } in
     let later = iter_rest (zip_first (zip_first c.next.new.self)) in
-    let behind = iter_rest (zip_second (zip_first c.next.new.self)) in
+    let after = iter_rest (zip_second (zip_first c.next.new.self)) in
     let rest = iter_rest (zip_second c.next.new.self) in
     let can =
     can_be_taken c.args.g.now c.args.self.now c.in-Some.job.now c.in-Some.checked.now c.in-Some.tries.now one is.0
@@ -65,13 +65,13 @@ loop-job-preserved c =
     let pushed = c.in_ok-push.ensures.items in
     record {
       came =
-          ap (λ (xs : List Tried). map came xs ++ outcome_of later behind rest) pushed
+          ap (λ (xs : List Tried). map came xs ++ outcome_of later after rest) pushed
           ∙ one_more c.args.g.now c.args.self.now c.in-Some.job.now c.in-Some.checked.now c.in-Some.tries.now one _ _ _
           _ _ _ c.loop-job.all.items steps.0.0 steps.0.1 steps.1 c.part.ensures (same_packet c) refl
           ∙ inv.came;
       can =
-          subst (All (CanBeTaken (alone_plan c.args.self.now) c.args.self.now.store)) (sym pushed)
-          (All-push (CanBeTaken (alone_plan c.args.self.now) c.args.self.now.store) c.loop-job.all.items one inv.can
+          subst (All (CanBeTaken (member_plan c.args.self.now) c.args.self.now.store)) (sym pushed)
+          (All-push (CanBeTaken (member_plan c.args.self.now) c.args.self.now.store) c.loop-job.all.items one inv.can
           can);
       rest = is.1;
     }

@@ -2,7 +2,7 @@ use Rattle.std.proofs.Common.{◌≡◌, ◌++◌, map}
 use Rattle.std.specs.List.{All}
 use Rattle.std.specs.Slice.Iter.{iter_rest}
 use Rattle.std.specs.Iterator.Adapters.{zip_first, zip_second}
-use Rattle.repo_member.specs.Alone.{alone_plan}
+use Rattle.repo_member.specs.MemberState.{member_plan}
 use Rattle.repo_member.specs.Outcomes.{AreFetched, outcome_of}
 use Rattle.repo_holdings.specs.Taking.{came, CanBeTaken}
 use Rattle.repo_member.proofs.member.Member.tried.Given as goal
@@ -13,6 +13,6 @@ invariant-loop-job l =
     let parts = iter_rest (zip_second (zip_first l.job-iterator)) in
     let attempts = iter_rest (zip_second l.job-iterator) in record {
       came : map came l.all.items ++ outcome_of jobs parts attempts ≡ outcome_of l.jobs l.parts l.attempts;
-      can : All (CanBeTaken (alone_plan l.self) l.self.store) l.all.items;
+      can : All (CanBeTaken (member_plan l.self) l.self.store) l.all.items;
       rest : AreFetched l.g l.self jobs parts attempts;
     }

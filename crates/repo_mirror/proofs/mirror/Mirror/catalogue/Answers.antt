@@ -1,7 +1,7 @@
 use Rattle.std.proofs.Common.{◌≡◌, true, sym, ap, ◌∙◌, subst}
 use Rattle.std.specs.List.{All}
 use Rattle.repo_catalog.specs.declared.entry.Entry.{Entry}
-use Rattle.repo_holdings.specs.Listed.{alone_catalogue}
+use Rattle.repo_holdings.specs.Listed.{member_catalogue}
 use Rattle.repo_mirror.specs.Mirrors.{is_entry_accepted}
 use Rattle.repo_mirror.specs.MirrorState.{MirrorState}
 use Rattle.repo_mirror.specs.KeptPackets.{AreKeptPackets}
@@ -14,5 +14,5 @@ returns-clause-accepted c =
     let are : AreKeptPackets m.pattern m.store =
     subst (λ (a : MirrorState). AreKeptPackets a.pattern a.store) c.self.view_is c.self.invariant.packets in
     subst (All (λ (e : Entry). is_entry_accepted m.pattern e ≡ true))
-    (sym (c.catalogue.ensures ∙ ap (λ (a : MirrorState). alone_catalogue a.store) c.self.view_is))
+    (sym (c.catalogue.ensures ∙ ap (λ (a : MirrorState). member_catalogue a.store) c.self.view_is))
     (lists_accepted m.pattern m.store are)

@@ -76,14 +76,14 @@ loop-job-preserved-in-Continue-branch-3 g c =
     let part = c.in-Some.checked.now in
     let n = c.in-Some.tries.now in
     let one : Tried = c.in_ok-tried.tried in
-    let told = c.in_ok-tried.ensures in
+    let reported = c.in_ok-tried.ensures in
     let is = first_job m job part n _ _ _ _ _ _ steps.0.0 steps.0.1 steps.1 inv.rest in
     let first = first_outcome m job part n _ _ _ _ _ _ steps.0.0 steps.0.1 steps.1 in
     let later = outcome_of (iter_rest (zip_first (zip_first c.next.new.self)))
     (iter_rest (zip_second (zip_first c.next.new.self))) (iter_rest (zip_second c.next.new.self)) in
     let same : came one ≡ fetched m job part n =
-    came_is m job part n one is.0 told.part told.attempts
-    (told.packet ∙ lent_octets c.as_ref.result part c.as_ref.ensures.value) in
+    came_is m job part n one is.0 reported.part reported.attempts
+    (reported.packet ∙ lent_octets c.as_ref.result part c.as_ref.ensures.value) in
     let kept : is_fetched_kept m.pattern (fetched m job part n) ≡ true =
     ap (λ (p : Pattern). is_fetched_kept p (fetched m job part n))
     (sym (ap (λ (s : MirrorState). s.pattern) c.self.view_is))
@@ -91,8 +91,8 @@ loop-job-preserved-in-Continue-branch-3 g c =
     ∙ sym c.is_kept.ensures
     ∙ c.if-is_kept.true in
     let pushed = c.in_ok-push.ensures.items in
-    let arrived = told.arrival m.store (wants_lists m job part n is.0) in
-    let can = can_be_taken m job part n one is.0 told.part told.attempts arrived in
+    let arrived = reported.arrival m.store (wants_lists m job part n is.0) in
+    let can = can_be_taken m job part n one is.0 reported.part reported.attempts arrived in
     record {
       kept =
           ap (λ (xs : List Tried). map came xs ++ that_are_kept m.pattern later) pushed
@@ -103,7 +103,7 @@ loop-job-preserved-in-Continue-branch-3 g c =
       checked =
           subst (All CameChecked)
           (sym (ap (map came) pushed ∙ map-append came c.loop-job.kept.items (one ∷ [])))
-          (All-push CameChecked (map came c.loop-job.kept.items) (came one) inv.checked told.checked);
+          (All-push CameChecked (map came c.loop-job.kept.items) (came one) inv.checked reported.checked);
       can =
           subst (All (CanBeTaken (fetch_plan m) m.store)) (sym pushed)
           (All-push (CanBeTaken (fetch_plan m) m.store) c.loop-job.kept.items one inv.can can);
@@ -127,21 +127,21 @@ loop-job-preserved-in_ok-put_in_order g c =
     let part = c.in-Some.checked.now in
     let n = c.in-Some.tries.now in
     let one : Tried = c.in_ok-tried.tried in
-    let told = c.in_ok-tried.ensures in
+    let reported = c.in_ok-tried.ensures in
     let is = first_job m job part n _ _ _ _ _ _ steps.0.0 steps.0.1 steps.1 inv.rest in
     let first = first_outcome m job part n _ _ _ _ _ _ steps.0.0 steps.0.1 steps.1 in
     let later = outcome_of (iter_rest (zip_first (zip_first c.next.new.self)))
     (iter_rest (zip_second (zip_first c.next.new.self))) (iter_rest (zip_second c.next.new.self)) in
     let same : came one ≡ fetched m job part n =
-    came_is m job part n one is.0 told.part told.attempts
-    (told.packet ∙ lent_octets c.as_ref.result part c.as_ref.ensures.value) in
+    came_is m job part n one is.0 reported.part reported.attempts
+    (reported.packet ∙ lent_octets c.as_ref.result part c.as_ref.ensures.value) in
     let passed : is_fetched_kept m.pattern (fetched m job part n) ≡ false =
     ap (λ (p : Pattern). is_fetched_kept p (fetched m job part n))
     (sym (ap (λ (s : MirrorState). s.pattern) c.self.view_is))
     ∙ ap (is_fetched_kept c.self.inside.pattern) (sym same)
     ∙ sym c.is_kept.ensures
     ∙ c.if-is_kept.false in
-    let here : pair_of one.part ≡ pair_of job.want.part = ap pair_of told.part in
+    let here : pair_of one.part ≡ pair_of job.want.part = ap pair_of reported.part in
     let more : c.put_in_order.new.passed.items ≡ insert_key pair_cmp (pair_of job.want.part) c.loop-job.passed.items =
     c.in_ok-put_in_order.ensures ∙ ap (λ (k : Pair). insert_key pair_cmp k c.loop-job.passed.items) here in
     let sound : PlanIsSound (fetch_plan m) =

@@ -1,5 +1,5 @@
 use Rattle.std.proofs.Common.{◌≡◌, ℕ, ◌≤◌, ◌<◌, true, false, sym, ap, ◌∙◌, subst, arith}
-use Rattle.repo_plan.specs.Parts.{part_of, parts_told, parent_number}
+use Rattle.repo_plan.specs.Parts.{part_of, parts_reported, parent_number}
 use Rattle.repo_plan.specs.Plan.{PlanState, holds, is_done, shape_of}
 use Rattle.repo_plan.specs.Sound.{PlanIsSound}
 use Rattle.repo_plan.proofs.Known.{listed_asked, unlisted}
@@ -12,18 +12,18 @@ pub loop-passed-init : goal.loop-passed-init
 loop-passed-init c x l =
     not_next c.args.self.now c.args.after (part_of c.args.publication x) (c.passed_parts-passed.ensures x l)
 
-pub returns-then-x-told : goal.returns-then-x-told
-returns-then-x-told c =
+pub returns-then-x-reported : goal.returns-then-x-reported
+returns-then-x-reported c =
     let now = c.args.self.now in
     let pair = c.args.publication in
-    let told : c.parts_behind-told.result ≡ parts_told (shape_of now pair) =
-    c.parts_behind-told.ensures ∙ sym (ap parts_told c.requires.shape) in
+    let reported : c.parts_after-reported.result ≡ parts_reported (shape_of now pair) =
+    c.parts_after-reported.ensures ∙ sym (ap parts_reported c.requires.shape) in
     let held : (m : ℕ) → c.loop-passed.passed ≤ m → m < c.gap_from-x.result → holds now (part_of pair m) ≡ true =
     λ m a b.
     subst (λ (p : PlanState). holds p (part_of pair m) ≡ true) c.self.view_is
     (c.self.invariant.all_held (pair, m) (c.gap_from-x.ensures.none_before m a b)) in
     let below = none_held now c.args.after pair c.loop-passed.passed c.gap_from-x.result c.loop-passed.invariant held in
-    sym (none_until now c.args.after pair c.gap_from-x.result below (omega (arith, told, c.if-x-told.true)))
+    sym (none_until now c.args.after pair c.gap_from-x.result below (omega (arith, reported, c.if-x-reported.true)))
 
 pub loop-passed-preserved-then-not-is_listed : goal.loop-passed-preserved-then-not-is_listed
 loop-passed-preserved-then-not-is_listed c =
@@ -36,8 +36,8 @@ loop-passed-preserved-then-not-is_listed c =
     let below = none_held now c.args.after pair c.loop-passed.passed c.gap_from-x.result c.loop-passed.invariant held in
     let lacks : holds now (part_of pair (parent_number c.args.shape c.gap_from-x.result)) ≡ false =
     sym c.is_listed.ensures ∙ c.if-not-is_listed.true in
-    none_asked now c.args.after pair c.gap_from-x.result c.behind_listed_with-passed.result below (λ m a b.
-    let same = c.behind_listed_with-passed.ensures.same m a b in
+    none_asked now c.args.after pair c.gap_from-x.result c.after_listed_with-passed.result below (λ m a b.
+    let same = c.after_listed_with-passed.ensures.same m a b in
     unlisted now (subst PlanIsSound c.self.view_is c.self.invariant.sound) pair c.args.shape m c.requires.shape
     (ap (λ (n : ℕ). holds now (part_of pair n)) same ∙ lacks))
 
@@ -48,7 +48,7 @@ is_next-requires-clause-asked c =
     let listed : holds now (part_of pair (parent_number c.args.shape c.gap_from-x.result)) ≡ true =
     sym c.is_listed.ensures ∙ c.if-not-is_listed.false in
     listed_asked now pair c.args.shape c.gap_from-x.result c.requires.known c.requires.shape
-    (omega (arith, c.parts_behind-told.ensures, c.if-x-told.false)) listed
+    (omega (arith, c.parts_after-reported.ensures, c.if-x-reported.false)) listed
 
 pub is_next-requires-clause-not_held : goal.is_next-requires-clause-not_held
 is_next-requires-clause-not_held c =
@@ -61,14 +61,14 @@ pub returns-then-is_next : goal.returns-then-is_next
 returns-then-is_next c =
     let now = c.args.self.now in
     let pair = c.args.publication in
-    let told : c.parts_behind-told.result ≡ parts_told (shape_of now pair) =
-    c.parts_behind-told.ensures ∙ sym (ap parts_told c.requires.shape) in
+    let reported : c.parts_after-reported.result ≡ parts_reported (shape_of now pair) =
+    c.parts_after-reported.ensures ∙ sym (ap parts_reported c.requires.shape) in
     let held : (m : ℕ) → c.loop-passed.passed ≤ m → m < c.gap_from-x.result → holds now (part_of pair m) ≡ true =
     λ m a b.
     subst (λ (p : PlanState). holds p (part_of pair m) ≡ true) c.self.view_is
     (c.self.invariant.all_held (pair, m) (c.gap_from-x.ensures.none_before m a b)) in
     let below = none_held now c.args.after pair c.loop-passed.passed c.gap_from-x.result c.loop-passed.invariant held in
-    sym (found_gap now c.args.after pair c.gap_from-x.result below (omega (arith, told, c.if-x-told.false))
+    sym (found_gap now c.args.after pair c.gap_from-x.result below (omega (arith, reported, c.if-x-reported.false))
     (sym c.is_next.ensures ∙ c.if-is_next.true))
 
 pub loop-passed-preserved : goal.loop-passed-preserved
@@ -87,7 +87,7 @@ pub returns : goal.returns
 returns c =
     let now = c.args.self.now in
     let pair = c.args.publication in
-    let told : c.parts_behind-told.result ≡ parts_told (shape_of now pair) =
-    c.parts_behind-told.ensures ∙ sym (ap parts_told c.requires.shape) in
+    let reported : c.parts_after-reported.result ≡ parts_reported (shape_of now pair) =
+    c.parts_after-reported.ensures ∙ sym (ap parts_reported c.requires.shape) in
     sym (none_until now c.args.after pair c.loop-passed.passed c.loop-passed.invariant
-    (omega (arith, told, c.loop-passed-test.false)))
+    (omega (arith, reported, c.loop-passed-test.false)))

@@ -40,7 +40,7 @@ returns c = λ content is.
       | inl yes_ ↦ c.from.ensures ∙ rw yes_ refl
       | inr no_ ↦ c.from.ensures ∙ rw no_ refl
     ] in
-    let told : is_last (block_in c.args.index content (Some p))
+    let reported : is_last (block_in c.args.index content (Some p))
     ≡ is_last (with_it (with_block c.args.index content p)) =
     ap (λ (b : Bool).
     is_last (cond (not b) Unknown (cond p.published Already (with_it (with_block c.args.index content p))))) inside
@@ -48,4 +48,4 @@ returns c = λ content is.
     ap (λ (n : ℕ). leb n c.from.result) c.missing.ensures.count
     ∙ ap (leb (missing p)) most
     ∙ sym last
-    ∙ sym (told ∙ last_it (with_block c.args.index content p))
+    ∙ sym (reported ∙ last_it (with_block c.args.index content p))

@@ -11,9 +11,9 @@ index-requires c =
     found m c.args.self.now c.self.invariant c.self.view_is c.args.process c.in_ok-place.place c.in_ok-place.ensures in
     omega (arith, at.within, m.insertions.ok.0)
 
-told : (p : Process) (a : ℕ × Bool) → a.0 ≡ present p → a.1 ≡ p.published
+reported : (p : Process) (a : ℕ × Bool) → a.0 ≡ present p → a.1 ≡ p.published
     → Some a ≡ option_map (λ (q : Process). (present q, q.published)) (Some p)
-told p a n b = ap (λ (x : ℕ). Some (x, a.1)) n ∙ ap (λ (x : Bool). Some (present p, x)) b
+reported p a n b = ap (λ (x : ℕ). Some (x, a.1)) n ∙ ap (λ (x : Bool). Some (present p, x)) b
 
 pub returns : goal.returns
 returns c =
@@ -21,5 +21,5 @@ returns c =
     let p = c.index.result.now in
     let at =
     found m c.args.self.now c.self.invariant c.self.view_is c.args.process c.in_ok-place.place c.in_ok-place.ensures in
-    told p c.status.result c.status.ensures.present c.status.ensures.published
+    reported p c.status.result c.status.ensures.present c.status.ensures.published
     ∙ sym (ap (option_map (λ (q : Process). (present q, q.published))) (at.there p c.index.ensures))

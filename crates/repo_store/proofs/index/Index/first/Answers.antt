@@ -1,5 +1,5 @@
 use Rattle.std.proofs.Common.{Option, subst, sym, ◌∙◌}
-use Rattle.repo_store.specs.Kept.{Held}
+use Rattle.repo_store.specs.PacketTable.{Held}
 use Rattle.repo_store.specs.Indexes.{is_asked, IsFirstOf}
 use Rattle.repo_store.proofs.AskedLemmas.{least_asked, first_asked}
 use Rattle.repo_store.proofs.index.Index.first.Goals as goal

@@ -2,7 +2,7 @@ use Rattle.std.proofs.Common.{rules}
 use Rattle.std.specs.Ordering.{is_lt}
 use Rattle.std.proofs.lemmas.List.Sorted.{IsPartitionPoint-from_clause}
 use Rattle.sorted_lists.proofs.Climbs.{parted, placed}
-use Rattle.repo_store.specs.Kept.{Held}
+use Rattle.repo_store.specs.PacketTable.{Held}
 use Rattle.repo_store.specs.Indexes.{Key, key_cmp, key_in}
 use Rattle.repo_store.proofs.IndexLemmas.{exact_keys}
 use Rattle.repo_store.proofs.index.Index.place.Goals as goal

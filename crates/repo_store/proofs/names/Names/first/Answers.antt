@@ -1,5 +1,5 @@
 use Rattle.std.proofs.Common.{List, subst}
-use Rattle.repo_store.specs.Kept.{Held}
+use Rattle.repo_store.specs.PacketTable.{Held}
 use Rattle.repo_store.specs.Indexes.{is_asked, IsFirstOf}
 use Rattle.repo_store.specs.NameLayers.{is_kept_and_asked}
 use Rattle.repo_store.proofs.FindLemmas.{first_of_layers}

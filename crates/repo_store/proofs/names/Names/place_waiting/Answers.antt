@@ -1,7 +1,7 @@
 use Rattle.std.proofs.Common.{List, ◌++◌, subst, arith}
 use Rattle.sorted_lists.specs.Members.{HaveSame}
 use Rattle.sorted_lists.proofs.Members.{same_back, same_permutation, same_then}
-use Rattle.repo_store.specs.Kept.{Held}
+use Rattle.repo_store.specs.PacketTable.{Held}
 use Rattle.repo_store.proofs.NameLayerLemmas.{placed_same}
 use Rattle.repo_store.proofs.names.Names.place_waiting.Goals as goal
 

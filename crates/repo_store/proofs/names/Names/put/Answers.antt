@@ -1,5 +1,5 @@
 use Rattle.std.proofs.Common.{◌≡◌, List, [], ◌∷◌, ◌++◌, subst, sym}
-use Rattle.repo_store.specs.Kept.{Held}
+use Rattle.repo_store.specs.PacketTable.{Held}
 use Rattle.repo_store.specs.Indexes.{GainsOne}
 use Rattle.repo_store.specs.NameLayers.{all_of}
 use Rattle.repo_store.proofs.NameLayerLemmas.{waits_too}

@@ -1,5 +1,5 @@
 use Rattle.std.proofs.Common.{List, subst, ap}
-use Rattle.repo_store.specs.Kept.{Held}
+use Rattle.repo_store.specs.PacketTable.{Held}
 use Rattle.repo_store.specs.NameLayers.{IsMerged}
 use Rattle.repo_store.proofs.NameLayerLemmas.{settled_same}
 use Rattle.repo_store.proofs.names.Names.settle.Goals as goal

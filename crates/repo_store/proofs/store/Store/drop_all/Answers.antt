@@ -5,7 +5,7 @@ use Rattle.sorted_lists.proofs.Lookups.{filter-revalued}
 use Rattle.repo_plan.specs.declared.part.Part.{Part}
 use Rattle.repo_plan.specs.Parts.{part_cmp}
 use Rattle.repo_store.specs.StoreList.{StoreList, is_in_any, packets_in_any, packets_outside_all}
-use Rattle.repo_store.specs.Kept.{at, octets_at, Held, entries_of}
+use Rattle.repo_store.specs.PacketTable.{at, octets_at, Held, entries_of}
 use Rattle.repo_store.specs.Slots.{held_outside_all}
 use Rattle.repo_store.specs.NameLayers.{HasRoom, IsIndexOf, WaitsStill, left_of}
 use Rattle.repo_store.proofs.StoreLemmas.{entries_same, lengths_in_any}

@@ -3,7 +3,7 @@ use Rattle.sorted_lists.specs.SortedList.{value_of}
 use Rattle.sorted_lists.proofs.Lookups.{value_of-revalued}
 use Rattle.repo_plan.specs.Parts.{part_cmp}
 use Rattle.repo_store.specs.StoreList.{StoreList, StoreIsSound}
-use Rattle.repo_store.specs.Kept.{octets_at}
+use Rattle.repo_store.specs.PacketTable.{octets_at}
 use Rattle.repo_store.proofs.StoreLemmas.{sound_of}
 use Rattle.repo_store.proofs.store.Store.get.Goals as goal
 

@@ -1,7 +1,7 @@
 use Rattle.std.proofs.Common.{length, sym, ap, subst, ◌∙◌}
 use Rattle.std.proofs.lemmas.List.{length-map}
 use Rattle.repo_store.specs.StoreList.{StoreList, StoreIsSound}
-use Rattle.repo_store.specs.Kept.{Held, octets_at}
+use Rattle.repo_store.specs.PacketTable.{Held, octets_at}
 use Rattle.repo_store.proofs.StoreLemmas.{sound_of}
 use Rattle.repo_store.proofs.store.Store.len.Goals as goal
 

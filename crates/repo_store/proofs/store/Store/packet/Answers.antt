@@ -4,7 +4,7 @@ use Rattle.sorted_lists.proofs.Lookups.{there_value, value_of-revalued}
 use Rattle.repo_plan.specs.Parts.{part_cmp}
 use Rattle.repo_plan.proofs.Orders.{exact_parts}
 use Rattle.repo_store.specs.StoreList.{StoreList}
-use Rattle.repo_store.specs.Kept.{at, octets_at}
+use Rattle.repo_store.specs.PacketTable.{at, octets_at}
 use Rattle.repo_store.proofs.SlotLemmas.{octets_of}
 use Rattle.repo_store.proofs.store.Store.packet.Goals as goal
 

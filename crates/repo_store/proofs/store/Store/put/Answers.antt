@@ -4,7 +4,7 @@ use Rattle.sorted_lists.proofs.Lookups.{keys-revalued}
 use Rattle.repo_plan.specs.declared.part.Part.{Part}
 use Rattle.repo_plan.specs.Parts.{part_cmp}
 use Rattle.repo_store.specs.StoreList.{StoreList}
-use Rattle.repo_store.specs.Kept.{octets_at}
+use Rattle.repo_store.specs.PacketTable.{octets_at}
 use Rattle.repo_store.proofs.StoreLemmas.{put_there}
 use Rattle.repo_store.proofs.store.Store.put.Goals as goal
 

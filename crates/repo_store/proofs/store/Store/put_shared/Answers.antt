@@ -5,7 +5,7 @@ use Rattle.repo_plan.specs.declared.part.Part.{Part}
 use Rattle.repo_plan.specs.Parts.{part_cmp}
 use Rattle.repo_plan.proofs.Orders.{exact_parts}
 use Rattle.repo_store.specs.StoreList.{StoreList, with_packet}
-use Rattle.repo_store.specs.Kept.{octets_at, Held, KeptState, entries_of}
+use Rattle.repo_store.specs.PacketTable.{octets_at, Held, PacketTableState, entries_of}
 use Rattle.repo_store.specs.NameLayers.{IsIndexOf}
 use Rattle.sorted_lists.proofs.Sets.{rises_with_value}
 use Rattle.sorted_lists.proofs.Lookups.{none_where, same_with, keys-revalued, with_value-revalued}
@@ -82,7 +82,8 @@ pub returns-in-None-clause-put : goal.returns-in-None-clause-put
 returns-in-None-clause-put c =
     let k = c.self.inside.kept in
     let octets = c.args.packet in
-    ap (λ (n : KeptState). let s : StoreList = record { packets = entries_of n.slots n.held; spare = n.spare } in s)
+    ap (λ (n : PacketTableState). let s : StoreList = record { packets = entries_of n.slots n.held; spare = n.spare } in
+    s)
     c.in-None.ensures.1
     ∙ ap (λ (p : List (Part × List ℕ)). let s : StoreList = record { packets = p; spare = k.spare - 1 } in s)
     (put_there c.args.part octets (entries_of k.slots k.held)

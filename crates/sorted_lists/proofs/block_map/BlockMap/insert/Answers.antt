@@ -193,13 +193,13 @@ returns-clause-entries g c =
     let blocks = c.args.self.now.blocks.items in
     let place = c.place_of-place.result in
     let new = c.insert.new.block in
-    let front = c.split.new.block in
+    let prefix = c.split.new.block in
     let back = c.split.new.back in
     let within = c.place_of-place.ensures.there (has_block blocks c.args.self.now.spare.len c.requires.room) in
     let items = rw (c.unwrap.ensures, add-one) at c.insert-2.ensures.items in
     let parts = c.split.ensures.entries ∙ ap (λ b. b.items) c.index_mut-2.ensures.value in
     ap joined items
-    ∙ joined_split (set blocks place new) place front back _ (omega (arith, within, length-set blocks place new)) parts
+    ∙ joined_split (set blocks place new) place prefix back _ (omega (arith, within, length-set blocks place new)) parts
     ∙ with_place o c.args.key c.args.value blocks place new _ c.place_of-place.ensures.place within
     (c.insert.ensures.entries
     ∙ ap (λ b. with_value g.K.Ord.cmp c.args.key c.args.value b.items) c.index_mut.ensures.value)
@@ -212,7 +212,7 @@ returns-clause-map g c =
     let place = c.place_of-place.result in
     let new = c.insert.new.block in
     let old = c.index_mut.result.now in
-    let front = c.split.new.block in
+    let prefix = c.split.new.block in
     let back = c.split.new.back in
     let within = c.place_of-place.ensures.there (has_block blocks c.args.self.now.spare.len c.requires.room) in
     let free = subst IsOpen (sym c.index_mut.ensures.value) (block_at blocks place _ m.sizes within) in
@@ -242,7 +242,7 @@ returns-clause-map g c =
       short,
       ap (λ b. length b.items) same,
       ap length c.split.ensures.entries,
-      length-append front.items back.items,
+      length-append prefix.items back.items,
       c.split.ensures.len,
     ) in
     let placed = rw (c.unwrap.ensures, add-one, set_again) at c.insert-2.ensures.items in
@@ -250,8 +250,8 @@ returns-clause-map g c =
       rises =
           rw (returns-clause-entries g c) (rises_with o c.args.key c.args.value (entries c.args.self.now) m.rises);
       sizes =
-          subst AreBlocks (sym placed) (blocks_insert (set blocks place front) place back
-          (blocks_set blocks place front m.sizes (λ n. omega (arith, c.split.ensures.len, bounds)) (
+          subst AreBlocks (sym placed) (blocks_insert (set blocks place prefix) place back
+          (blocks_set blocks place prefix m.sizes (λ n. omega (arith, c.split.ensures.len, bounds)) (
             omega (arith, c.split.ensures.len, bounds),
             omega (
               arith,
@@ -262,7 +262,7 @@ returns-clause-map g c =
             ),
           ))
           (omega (arith, rest, bounds)) (omega (arith, rest, bounds), omega (arith, blank.1, c.split.ensures.capacity))
-          (omega (arith, within, length-set blocks place front)));
+          (omega (arith, within, length-set blocks place prefix)));
       spare = subst (All IsBlank) (sym c.pop.ensures.rest) (All-take IsBlank _ _ m.spare);
       room =
           omega (
@@ -296,16 +296,16 @@ returns-clause-room g c =
     let n = c.args.self.now.spare.len in
     let old = c.index_mut.result.now in
     let new = c.insert.new.block in
-    let front = c.split.new.block in
+    let prefix = c.split.new.block in
     let back = c.split.new.back in
     let now = set blocks place new in
-    let split = insert (set blocks place front) (suc place) back in
+    let split = insert (set blocks place prefix) (suc place) back in
     let some = has_block blocks n c.requires.room in
     let within = c.place_of-place.ensures.there some in
     let same = c.index_mut-2.ensures.value ∙ get_or-set_same blocks place new _ within in
     let there : place < length now = omega (arith, within, length-set blocks place new) in
-    let behind : suc place ≤ length (set blocks place front) =
-    omega (arith, within, length-set blocks place front) in
+    let after : suc place ≤ length (set blocks place prefix) =
+    omega (arith, within, length-set blocks place prefix) in
     let free = subst IsOpen (sym c.index_mut.ensures.value) (block_at blocks place _ c.requires.map.sizes within) in
     let long : 64 ≤ length new.items =
     omega (
@@ -318,7 +318,7 @@ returns-clause-room g c =
     let more = with_more g.met.K.Ord.total c.args.key c.args.value old.items in
     let count = ap length c.insert.ensures.entries in
     let was : length old.items + 1 ≡ full = omega (arith, free.0, long, more, count) in
-    let parts : length front.items + length back.items ≡ full =
+    let parts : length prefix.items + length back.items ≡ full =
     omega (
       arith,
       free.0,
@@ -327,11 +327,11 @@ returns-clause-room g c =
       count,
       ap (λ b. length b.items) same,
       ap length c.split.ensures.entries,
-      length-append front.items back.items,
+      length-append prefix.items back.items,
     ) in
     let blocks_now : length c.deref.result.now ≡ length blocks =
     ap length c.deref.ensures.value ∙ length-set blocks place new in
-    let kept : IsKept (length blocks) place (length front.items) =
+    let kept : IsKept (length blocks) place (length prefix.items) =
     subst (λ n. IsKept (length blocks) place n) (sym c.split.ensures.len)
     (subst (λ n. IsKept n place c.kept_of-kept.result) blocks_now c.kept_of-kept.ensures) in
     let items = rw (c.unwrap.ensures, add-one, set_again) at c.insert-2.ensures.items in
@@ -341,8 +341,8 @@ returns-clause-room g c =
       room_is blocks n some,
       ap (λ bs. room bs c.pop.new.self.len) items,
       room_is split c.pop.new.self.len
-          (omega (arith, length-insert (set blocks place front) (suc place) back behind)),
+          (omega (arith, length-insert (set blocks place prefix) (suc place) back after)),
       rw c.unwrap-back.ensures at c.pop.ensures.cases,
-      over_split blocks place front back old within
+      over_split blocks place prefix back old within
           (omega (arith, was, ap (λ b. length b.items) c.index_mut.ensures.value)) parts kept,
     )

@@ -5,7 +5,7 @@ use Rattle.std.proofs.lemmas.List.{take_all}
 use Rattle.sha2.specs.Hashers.{Holds256}
 use Rattle.sha2.specs.Sha256.{sha256}
 use Rattle.repo_holdings.specs.WholeContents.{joined}
-use Rattle.repo_holdings.proofs.ArrivedLemmas.{joined_next, told_truly}
+use Rattle.repo_holdings.proofs.ArrivedLemmas.{joined_next, reported_consistently}
 use Rattle.repo_holdings.proofs.holdings.whole.Whole.digest.Goals as goal
 
 abbrev no_piece : Bor (List ℕ)
@@ -15,14 +15,14 @@ pub loop-content-preserved : goal.loop-content-preserved
 loop-content-preserved c =
     let pieces : List (Bor (List ℕ)) = c.deref-content-items.result.now in
     let i : ℕ = c.loop-content.content-index in
-    let front : List ℕ = joined (take i pieces) in
+    let prefix : List ℕ = joined (take i pieces) in
     let next = joined_next pieces i no_piece c.loop-content-test.true in
-    let long = length-append front (get_or pieces i no_piece).now in
+    let long = length-append prefix (get_or pieces i no_piece).now in
     let all = ap (λ (m : List ℕ). length m) next in
     record {
       octets = omega (arith, all, long, c.loop-content.invariant.octets, c.saturating_add-octets.ensures);
       digest =
-          subst (Holds256 c.update.new.self) (sym next) (c.update.ensures front c.loop-content.invariant.digest);
+          subst (Holds256 c.update.new.self) (sym next) (c.update.ensures prefix c.loop-content.invariant.digest);
     }
 
 -- at the end
@@ -39,20 +39,20 @@ returns-clause-octets c =
 
 pub returns-clause-digest : goal.returns-clause-digest
 returns-clause-digest c =
-    let front : List ℕ = joined (take c.loop-content.content-index c.deref-content-items.result.now) in
-    c.finalize.ensures front c.loop-content.invariant.digest
+    let prefix : List ℕ = joined (take c.loop-content.content-index c.deref-content-items.result.now) in
+    c.finalize.ensures prefix c.loop-content.invariant.digest
     ∙ ap sha256
     (all_pieces c.loop-content.content-index c.deref-content-items.result.now c.args.self.now.contents.items
     c.loop-content-test.false c.deref-content-items.ensures.value)
 
-pub returns-clause-told : goal.returns-clause-told
-returns-clause-told c = λ packets whole.
-    let front : List ℕ = joined (take c.loop-content.content-index c.deref-content-items.result.now) in
-    let all : front ≡ joined c.args.self.now.contents.items =
+pub returns-clause-reported : goal.returns-clause-reported
+returns-clause-reported c = λ packets whole.
+    let prefix : List ℕ = joined (take c.loop-content.content-index c.deref-content-items.result.now) in
+    let all : prefix ≡ joined c.args.self.now.contents.items =
     all_pieces c.loop-content.content-index c.deref-content-items.result.now c.args.self.now.contents.items
     c.loop-content-test.false c.deref-content-items.ensures.value in
     let long = ap (λ (m : List ℕ). length m) all in
-    told_truly packets c.args.self.now _ refl refl
+    reported_consistently packets c.args.self.now _ refl refl
     (omega (arith, c.loop-content.invariant.octets, long, whole.few))
-    (c.finalize.ensures front c.loop-content.invariant.digest ∙ ap sha256 all)
+    (c.finalize.ensures prefix c.loop-content.invariant.digest ∙ ap sha256 all)
     whole

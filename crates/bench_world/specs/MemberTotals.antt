@@ -1,0 +1,15 @@
+-- What a member's catalogue comes to.
+use Rattle.std.specs.Prelude.{◌<◌, ◌^◌}
+use Rattle.group_model.specs.Replies.{CatalogueTotals}
+use Rattle.group_model.specs.Steps.{catalogue_totals}
+use Rattle.repo_member.specs.Listed.{member_catalogue}
+use Rattle.repo_member.specs.MemberState.{MemberState}
+
+abbrev pub totals_in : MemberState → CatalogueTotals
+totals_in a = catalogue_totals (member_catalogue a.store)
+
+-- So few that types hold them.
+pub record HasFewTotals (t : CatalogueTotals) : Type 0 where
+  pub entries : t.entries < 2 ^ 32
+  pub segments : t.segments < 2 ^ 64
+  pub octets : t.octets < 2 ^ 64

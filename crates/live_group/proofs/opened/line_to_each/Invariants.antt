@@ -1,5 +1,0 @@
-use Rattle.live_group.proofs.Dealing.{AreDealt}
-use Rattle.live_group.proofs.opened.line_to_each.Given as goal
-
-abbrev pub invariant-loop-i : goal.invariant-loop-i
-invariant-loop-i g l = AreDealt l.i l.initial.inboxes l.inboxes l.lines.items

@@ -1,0 +1,39 @@
+-- Why a line is not taken, by the faults of what it calls for, and what that says of the line.
+use Rattle.std.specs.Prelude.{◌≡◌, ⊤}
+use Rattle.script_lang.specs.declared.line_fault.LineFault.{LineFault}
+use Rattle.script_lang.specs.declared.line_fault.LineFault.TheVariants as line_fault
+use Rattle.script_lang.specs.declared.check_fault.CheckFault.{CheckFault}
+use Rattle.script_lang.specs.declared.check_fault.CheckFault.TheVariants as check_fault
+use Rattle.repo_member.specs.declared.group_fault.GroupFault.{GroupFault}
+use Rattle.repo_member.specs.declared.group_fault.GroupFault.TheVariants as group_fault
+use Rattle.script_report.specs.declared.refusal.Refusal.TheVariants as refusal
+use Rattle.live_script.specs.declared.error.LineError.{LineError}
+use Rattle.live_script.specs.declared.error.LineError.TheVariants.{Refused, NoMemory}
+use Rattle.live_script.specs.Judging.{Verdict, refused}
+
+-- Why a line is not taken that octets fail to be.
+abbrev pub line_fault_error : LineFault → LineError
+line_fault_error line_fault.Syntax = Refused refusal.Syntax
+line_fault_error line_fault.Limit = Refused refusal.Limit
+line_fault_error line_fault.NoMemory = NoMemory
+
+-- Why a line is not taken that the lines before it forbid.
+abbrev pub check_line_error : CheckFault → LineError
+check_line_error check_fault.NoGroup = Refused refusal.NoGroup
+check_line_error check_fault.Late = Refused refusal.Late
+check_line_error check_fault.UnknownLabel = Refused refusal.UnknownLabel
+check_line_error check_fault.Duplicate = Refused refusal.Duplicate
+check_line_error check_fault.Limit = Refused refusal.Limit
+check_line_error check_fault.TooLarge = Refused refusal.TooLarge
+check_line_error check_fault.NoMemory = NoMemory
+
+-- Why a line is not taken whose member the group doesn't take.
+abbrev pub group_stop : GroupFault → LineError
+group_stop group_fault.Duplicate = Refused refusal.Duplicate
+group_stop group_fault.Full = Refused refusal.Limit
+group_stop group_fault.NoMemory = NoMemory
+
+-- A line that isn't taken is refused so, unless memory ran out.
+abbrev pub IsLineError : Verdict → LineError → Type 0
+IsLineError verdict (Refused why) = verdict ≡ refused why
+IsLineError verdict NoMemory = ⊤

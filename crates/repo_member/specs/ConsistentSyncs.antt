@@ -1,0 +1,30 @@
+-- The sync Interests of a group's members are told from whom they are, and are taken.
+use Rattle.std.specs.Prelude.{◌≡◌, ℕ, ◌<◌, List, length, Some, Ok, slice_get}
+use Rattle.ndn_name.specs.Names.{Component, encoding}
+use Rattle.ndn_sign.specs.Ring.{key_number}
+use Rattle.svs_sync.specs.SyncInterest.{sync_verdict}
+use Rattle.repo_object.specs.Objects.{key_name}
+use Rattle.group_model.specs.Publications.{Logs}
+use Rattle.group_model.specs.Sound.{IsConsistentVector}
+use Rattle.repo_member.specs.Groups.{NodeKeys, GroupKeys, HaveKeys}
+use Rattle.repo_member.specs.MemberState.{MemberState}
+use Rattle.repo_member.specs.Verdicts.{sync_of, hear_verdict}
+use Rattle.repo_member.specs.InGroup.{AreLogs}
+use Rattle.repo_member.specs.ConsistentMembers.{IsConsistentMember}
+
+-- A key is found under its node's number: keys differ in their names, since the nodes do.
+abbrev pub KeysAreFound : Type 0
+KeysAreFound = (nodes : NodeKeys) (number : ℕ) (node : List Component) → HaveKeys nodes
+    → slice_get nodes.names number ≡ Some node → key_number (encoding (key_name node)) nodes.ring ≡ Some number
+
+-- A sync Interest of a member tells its number and the vector.
+abbrev pub SyncsAreReported : Type 0
+SyncsAreReported = (g : GroupKeys) (logs : Logs) (sender : ℕ) (vector : List ℕ) → AreLogs g logs
+    → sender < length g.members.names → IsConsistentVector logs vector
+    → sync_verdict g.name g.members.names g.members.ring (sync_of g sender vector) ≡ Ok (sender, vector)
+
+-- And each member takes it.
+abbrev pub SyncsAreTaken : Type 0
+SyncsAreTaken = (g : GroupKeys) (logs : Logs) (a : MemberState) (sender : ℕ) (vector : List ℕ) → AreLogs g logs
+    → IsConsistentMember g logs a → sender < length g.members.names → IsConsistentVector logs vector
+    → hear_verdict g a (sync_of g sender vector) ≡ Ok vector

@@ -1,7 +1,0 @@
-use Rattle.std.proofs.Common.{subst}
-use Rattle.repo_store.specs.Slots.{KeptIsSound}
-use Rattle.repo_store.proofs.SlotLemmas.{sound_seen}
-use Rattle.repo_store.proofs.kept.Kept.len.Goals as goal
-
-pub returns-clause-sound : goal.returns-clause-sound
-returns-clause-sound c = subst KeptIsSound c.self.view_is (sound_seen c.self.inside c.self.invariant)

@@ -1,0 +1,53 @@
+use Rattle.std.proofs.Common.{◌≡◌, ◌∙◌, ◌<◌, ℕ, List, true, length, ap, sym, subst}
+use Rattle.std.specs.Prelude.{OnOk, IfErr}
+use Rattle.std.specs.String.{string_bytes}
+use Rattle.script_lang.specs.Checking.{has_label}
+use Rattle.script_story.specs.StatedEvents.{party_number}
+use Rattle.script_story.specs.Judging.{Verdict, begun_world, says}
+use Rattle.script_lines.specs.RunStates.{IsLineError, state_of_run}
+use Rattle.script_lines.proofs.WatchLines.{watch_checked, watched_same}
+use Rattle.script_lines.proofs.run_state.RunState.watch.Goals as goal
+
+pub member-m-requires : goal.member-m-requires
+member-m-requires g c =
+    let one = watch_checked c.args.self.now (string_bytes c.args.label) c.args.publisher c.args.prefix
+    c.requires.checked in
+    subst (λ (l : List ℕ). has_label l c.args.self.now.words.members ≡ true) (sym c.deref.ensures) one.of.known
+
+pub pattern-pattern-requires : goal.pattern-pattern-requires
+pattern-pattern-requires g c =
+    let one = watch_checked c.args.self.now (string_bytes c.args.label) c.args.publisher c.args.prefix
+    c.requires.checked in
+    one.asked
+
+pub give_watcher-requires-clause-there : goal.give_watcher-requires-clause-there
+give_watcher-requires-clause-there g c =
+    let one = watch_checked c.args.self.now (string_bytes c.args.label) c.args.publisher c.args.prefix
+    c.requires.checked in
+    subst (λ (n : ℕ). n < length c.args.self.now.words.members) (sym (c.member-m.ensures
+    ∙ ap (λ (l : List ℕ). party_number l c.args.self.now.words.members) c.deref.ensures)) one.of.there
+
+pub give_watcher-requires-clause-at : goal.give_watcher-requires-clause-at
+give_watcher-requires-clause-at g c =
+    let one = watch_checked c.args.self.now (string_bytes c.args.label) c.args.publisher c.args.prefix
+    c.requires.checked in
+    one.of.at
+
+pub returns-clause-taken : goal.returns-clause-taken
+returns-clause-taken g c =
+    let same =
+    watched_same (begun_world (g.D.Draws.draw c.args.draws.now) (state_of_run c.args.self.now))
+    (state_of_run c.args.self.now) c.args.self.now.words c.member-m.result _ c.pattern-pattern.result _
+    (c.member-m.ensures
+    ∙ ap (λ (l : List ℕ). party_number l c.args.self.now.words.members) c.deref.ensures) c.pattern-pattern.ensures in
+    subst (λ (v : Verdict). OnOk c.give_watcher.result (v ≡ says c.give_watcher.new.report.items
+    (state_of_run c.give_watcher.new.self))) same c.give_watcher.ensures.taken
+
+pub returns-clause-stopped : goal.returns-clause-stopped
+returns-clause-stopped g c =
+    let same =
+    watched_same (begun_world (g.D.Draws.draw c.args.draws.now) (state_of_run c.args.self.now))
+    (state_of_run c.args.self.now) c.args.self.now.words c.member-m.result _ c.pattern-pattern.result _
+    (c.member-m.ensures
+    ∙ ap (λ (l : List ℕ). party_number l c.args.self.now.words.members) c.deref.ensures) c.pattern-pattern.ensures in
+    subst (λ (v : Verdict). IfErr c.give_watcher.result (IsLineError v)) same c.give_watcher.ensures.stopped
