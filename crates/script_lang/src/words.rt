@@ -1,5 +1,5 @@
 ghost use Rattle.std.specs.Prelude.{◌≡◌, ◌<◌, ◌⊎◌, false, map, length, slice_get, IfErr, IfSome, OnOk, OnErr, Ok, Err};
-ghost use Rattle.std.specs.Prelude.{Some, [], ◌∷◌};
+ghost use Rattle.std.specs.Prelude.{◌≤◌, Some, [], ◌∷◌, string_bytes};
 ghost use Rattle.script_lang.specs.Forms.{publisher_value, stated};
 ghost use Rattle.script_lang.specs.Checking.{Declared, after_event, after_line, declares, labels_in, may_declare};
 ghost use Rattle.script_lang.specs.Checking.{may_mirror, mirror_place, nothing_declared, party, party_label};
@@ -203,5 +203,20 @@ impl Words {
         ensures { slice_get (map party_label self.now.members) member ≡ Some result.now }
     {
         self.members[member as usize].label.as_str()
+    }
+
+    /// How many members are declared.
+    pub fn members(&self) -> usize
+        ensures len { result ≡ length self.now.members }
+        ensures few { result ≤ 16 }
+    {
+        self.members.len()
+    }
+
+    /// The labels of the mirrors, in the order of their declarations.
+    pub fn mirrors(&self) -> &[String]
+        ensures { map string_bytes result.now ≡ self.now.mirrors }
+    {
+        self.mirrors.as_slice()
     }
 }

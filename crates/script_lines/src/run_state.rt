@@ -303,6 +303,13 @@ impl RunState {
         Ok(())
     }
 
+    // What the lines declare.
+    pub(crate) fn words(&self) -> &Words
+        ensures { result.now ≡ (state_of_run self.now).declared }
+    {
+        &self.words
+    }
+
     // The world that the events made, if there was one.
     pub(crate) fn world(&self) -> Option<&World>
         ensures world { option_map (λ world. world_of world.now) result ≡ (state_of_run self.now).world }

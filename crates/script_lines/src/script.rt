@@ -11,7 +11,7 @@ use crate::error::LineError;
 use crate::run_state::RunState;
 use bench_net::{Draws, Net};
 use bench_world::World;
-use script_lang::{LINES_LIMIT, SCRIPT_LIMIT};
+use script_lang::{LINES_LIMIT, SCRIPT_LIMIT, Words};
 use script_report::{REPORT_LIMIT, Refusal};
 use std::alloc::Global;
 use std::thread::Threads;
@@ -80,6 +80,13 @@ impl Script {
         self.octets += line.len();
         self.reported += report.len();
         Ok(self)
+    }
+
+    /// What the lines so far declare.
+    pub fn words(&self) -> &Words
+        ensures { result.now ≡ (reached self.now).state.declared }
+    {
+        self.run_state.words()
     }
 
     /// The world that the events so far made, if there was one.
