@@ -35,7 +35,7 @@ use Rattle.group_model.specs.Steps.{after_deliver, after_publish}
 use Rattle.group_model.specs.Refusals.{EventIsTaken, EventsAreTaken}
 use Rattle.group_model.specs.Sound.{IsSoundGroup}
 use Rattle.group_model.specs.Reached.{InSoundGroups}
-use Rattle.group_model.specs.Machines.{only_at, hears_of, befalls_read, befalls_block, befalls, befall, first_machine}
+use Rattle.group_model.specs.Machines.{only_at, hears_of, happens_when_read, happens_in_block, happens_to, happens_over, first_machine}
 use Rattle.group_model.specs.Machines.{MachinesFollowTable, MachinesBegin, ReachedMachinesFollowTable}
 use Rattle.group_model.proofs.Settles.{member_settled}
 use Rattle.group_model.proofs.Worlds.{sound_after}
@@ -43,7 +43,7 @@ use Rattle.group_model.proofs.Lasting.{lasts}
 use Rattle.group_model.proofs.Runs.{sound_opening}
 use Rattle.svs_sync.specs.Suppression
 
--- what befell a machine makes the second of the first
+-- what happened to a machine makes the second of the first
 abbrev Makes : List Suppression.SyncEvent → Member → Member → Type 0
 Makes es old new = new.machine ≡ after_all_kept es old.machine
 
@@ -61,7 +61,7 @@ unfolding after_all_kept
 in_turn [] ys k = refl
 in_turn (x ∷ xs) ys k = in_turn xs ys (after_kept x k)
 
--- one member changes, by what befell its machine
+-- one member changes, by what happened to its machine
 makes_set : (w : World) (i : ℕ) (m : Member) (e : Suppression.SyncEvent) (j : ℕ) → j < length w.members
     → m.machine ≡ after_kept e (member w i).machine
     → Makes (only_at i j e) (member w j) (get_or (set w.members i m) j no_member)
@@ -149,7 +149,7 @@ makes_deliver out w i reported j l =
     (heard w.time reported (member w i).known (drawn out w i)) j l refl
 
 makes_hear : (out : Environment) (w : World) (i : ℕ) (read : Option SyncInterest) (j : ℕ) → j < length w.members
-    → Makes (befalls_read out w i j read) (member w j) (member (after_hear out w i read) j)
+    → Makes (happens_when_read out w i j read) (member w j) (member (after_hear out w i read) j)
 makes_hear out w i None j l = makes_none (member w j)
 makes_hear out w i (Some sync) j l = go (reports_too_much w i sync) where
   go : (b : Bool)
@@ -164,7 +164,7 @@ makes_reset : (out : Environment) (w : World) (i : ℕ) (j : ℕ) (m : Member) �
 unfolding after_kept
 makes_reset out w i j m l e = makes_set w i m (reset w.time (drawn out w i)) j l e
 
--- a member stays as it is, which is what befell its machine makes of it
+-- a member stays as it is, which is what happened to its machine makes of it
 makes_same : (w : World) (i : ℕ) (e : Suppression.SyncEvent) (j : ℕ)
     → (member w i).machine ≡ after_kept e (member w i).machine → Makes (only_at i j e) (member w j) (member w j)
 makes_same w i e j h = elim (cases_Bool (i == j)) [
@@ -219,7 +219,7 @@ makes_fire out w i j l =
 
 makes_block : (out : Environment) (w : World) (i process : ℕ) (state : BlockState) (j : ℕ) → i < length w.members
     → j < length w.members
-    → Makes (befalls_block out w i j state) (member w j) (member (after_block out w i process state) j)
+    → Makes (happens_in_block out w i j state) (member w j) (member (after_block out w i process state) j)
 makes_block out w i process Unknown j li l = makes_none (member w j)
 makes_block out w i process Already j li l = makes_none (member w j)
 makes_block out w i process (Waiting p) j li l = makes_beside w.members i _ j refl
@@ -240,7 +240,7 @@ unfolding after_all_kept after_kept
 makes_settle out w j l = ap (λ (m : Member). m.machine) (member_settled out w j l)
 
 makes : (out : Environment) (w : World) (e : Event) (j : ℕ) → EventIsTaken out w e → j < length w.members
-    → Makes (befalls out w j e) (member w j) (member (after_event out w e) j)
+    → Makes (happens_to out w j e) (member w j) (member (after_event out w e) j)
 makes out w (Event.Publish i o) j h l = makes_publish out w i (Offers o) j l
 makes out w (Event.Withdraw i seq) j h l = makes_publish out w i (Withdraws seq) j l
 makes out w (Event.Deliver k i) j h l = makes_deliver out w i (sent_at w k).vector j l
@@ -271,27 +271,27 @@ makes out w Event.Traffic j h l = makes_none (member w j)
 -- ---- whole runs
 
 makes_all : (out : Environment) (es : List Event) (w : World) (j : ℕ) → EventsAreTaken out w es → IsSoundGroup w
-    → j < length w.members → Makes (befall out w j es) (member w j) (member (after_events out w es) j)
+    → j < length w.members → Makes (happens_over out w j es) (member w j) (member (after_events out w es) j)
 makes_all out [] w j h s l = makes_none (member w j)
 makes_all out (e ∷ es) w j h s l =
     let width : length (after_event out w e).members ≡ length w.members = (lasts out w e h.0 s).width in
     makes_all out es (after_event out w e) j h.1 (sound_after out w e h.0 s) (subst (λ (n : ℕ). j < n) (sym width) l)
-    ∙ ap (after_all_kept (befall out (after_event out w e) j es)) (makes out w e j h.0 l)
-    ∙ sym (in_turn (befalls out w j e) (befall out (after_event out w e) j es) (member w j).machine)
+    ∙ ap (after_all_kept (happens_over out (after_event out w e) j es)) (makes out w e j h.0 l)
+    ∙ sym (in_turn (happens_to out w j e) (happens_over out (after_event out w e) j es) (member w j).machine)
 
 pub machines_follow_table : InSoundGroups MachinesFollowTable
 machines_follow_table out w s es n j first h l e =
     let same : (member (after_events out w es) j).machine
-    ≡ kept n (Suppression.after_sync_events (befall out w j es) first) =
+    ≡ kept n (Suppression.after_sync_events (happens_over out w j es) first) =
     makes_all out es w j h s l
-    ∙ ap (after_all_kept (befall out w j es)) e
-    ∙ after_all_same n (befall out w j es) first in
+    ∙ ap (after_all_kept (happens_over out w j es)) e
+    ∙ after_all_same n (happens_over out w j es) first in
     record {
       machine = same;
       timer =
           let last : World = after_events out w es in
           ap (fires_kept last.time (member last j).known) same
-          ∙ fires_same n last.time (member last j).known (Suppression.after_sync_events (befall out w j es) first);
+          ∙ fires_same n last.time (member last j).known (Suppression.after_sync_events (happens_over out w j es) first);
     }
 
 pub machines_begin : MachinesBegin

@@ -25,6 +25,7 @@ pub record ListsRightly (w : World) (j : ℕ) (pair : Pair) : Type 0 where
   pub exactly : (lists pair (catalogue_at w j) ≡ true) ↔ BelongsInCatalogue (logs w) (member w j) pair
   pub not_hidden : member_hides (member w j) pair ≡ true → lists pair (catalogue_at w j) ≡ false
 
+-- Every member lists rightly.
 abbrev pub ListsThose : Environment → World → Type 0
 ListsThose out w = (j : ℕ) (pair : Pair) → j < length w.members → ListsRightly w j pair
 
@@ -45,5 +46,6 @@ pub record BelongsInJoin (logs : Logs) (pair : Pair) : Type 0 where
 abbrev pub JoinListsThose : Type 0
 JoinListsThose = (logs : Logs) (pair : Pair) → (lists pair (join_of logs) ≡ true) ↔ BelongsInJoin logs pair
 
+-- So does the join of all.
 abbrev pub JoinListsInOrder : Type 0
 JoinListsInOrder = (logs : Logs) → IsCatalogue (join_of logs)

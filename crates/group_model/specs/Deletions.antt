@@ -24,6 +24,7 @@ OnlyObjectsHidden w = (j : ℕ) (pair : Pair) → j < length w.members → membe
 abbrev pub BeginsWithObjectsHidden : Type 0
 BeginsWithObjectsHidden = (out : Environment) (n : ℕ) → OnlyObjectsHidden (opening_world out n)
 
+-- An event that is taken hides objects alone.
 abbrev pub StaysWithObjectsHidden : Environment → World → Type 0
 StaysWithObjectsHidden out w = (e : Event) → EventIsTaken out w e → OnlyObjectsHidden w
     → OnlyObjectsHidden (after_event out w e)

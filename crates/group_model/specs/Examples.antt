@@ -52,6 +52,7 @@ abbrev pub refusals : Environment → World → List Event → List (Option Refu
 refusals out w [] = []
 refusals out w (e ∷ es) = refusal out w e ∷ refusals out (after_event out w e) es
 
+-- A line of an example in which every event is taken.
 abbrev pub no_refusal : Event × Reply → Option Refusal
 no_refusal line = None
 
@@ -67,18 +68,22 @@ abbrev pub refused_after : Environment → ℕ → List (Event × Reply) → Lis
 refused_after out members lines refused =
     map (λ l. refusal out (after_events out (opening_world out members) (map (λ l. l.0) lines)) l.0) refused
 
+-- After these events, which are taken with these replies, each of those is refused so.
 abbrev pub Refuses : Environment → ℕ → List (Event × Reply) → List (Event × Refusal) → Type 0
 Refuses out members lines refused =
     Plays out members lines × (refused_after out members lines refused ≡ map (λ l. Some l.1) refused)
 
 -- ---- words for the lines
 
+-- A name of one generic component.
 abbrev pub named_by : List ℕ → List Component
 named_by text = (8, text) ∷ []
 
+-- The content of most objects here.
 abbrev pub abc : List ℕ
 abc = codes "abc"
 
+-- The name of most objects here.
 abbrev pub doc : List Component
 doc = named_by (codes "doc")
 
@@ -90,6 +95,7 @@ whole name content = record { name = name; contents = content ∷ [] }
 abbrev pub three_pieces : NamedContents
 three_pieces = record { name = doc; contents = codes "a" ∷ codes "b" ∷ codes "c" ∷ [] }
 
+-- The entry of an object with this content.
 abbrev pub entry : ℕ → ℕ → List Component → ℕ → ℕ → List ℕ → Entry
 entry publisher seq name segments octets content = record {
   publisher = publisher;
@@ -100,6 +106,7 @@ entry publisher seq name segments octets content = record {
   digest = sha256 content;
 }
 
+-- A part of a publication, as a claim of it.
 abbrev pub part : ℕ → ℕ → ℕ → Option Part
 part publisher seq x = Some (part_of (publisher, seq) x)
 
@@ -114,9 +121,11 @@ part_comes x later = (Claim 1 1, Claimed (part 0 1 x)) ∷ (Answer 1 1 0, Answer
 
 -- ---- publications, vectors and settles
 
+-- A group of one member and no event.
 abbrev pub NothingHappens : Type 0
 NothingHappens = Plays plain_outside 1 []
 
+-- Two members: one publishes, and after a settle both list the object.
 abbrev pub Settles : Type 0
 Settles = Plays plain_outside 2 (
     (Publish 0 (whole doc abc), Published 1 1 1)
@@ -127,6 +136,7 @@ Settles = Plays plain_outside 2 (
     ∷ []
     )
 
+-- A sync Interest that is delivered makes a number known, and lists nothing.
 abbrev pub Delivers : Type 0
 Delivers = Plays plain_outside 2 (
     (Publish 0 (whole doc abc), Published 1 1 1)
@@ -136,6 +146,7 @@ Delivers = Plays plain_outside 2 (
     ∷ []
     )
 
+-- A vector that is older than what is known, delivered again and again, changes no vector.
 abbrev pub OldRepeats : Type 0
 OldRepeats = Plays plain_outside 2 (
     (Publish 0 (whole (named_by (codes "a")) abc), Published 1 1 1)
@@ -148,6 +159,7 @@ OldRepeats = Plays plain_outside 2 (
     ∷ []
     )
 
+-- An object is listed once its record and its three segments have come, and not before.
 abbrev pub PartByPart : Type 0
 PartByPart = Plays plain_outside 2 (
     (Publish 0 three_pieces, Published 1 3 1)
@@ -158,6 +170,7 @@ PartByPart = Plays plain_outside 2 (
     )))
     )
 
+-- The same object published twice is two publications, each with its packets and its entry.
 abbrev pub SameObjectTwice : Type 0
 SameObjectTwice = Plays plain_outside 2 (
     (Publish 0 (whole doc abc), Published 1 1 1)
@@ -171,6 +184,7 @@ SameObjectTwice = Plays plain_outside 2 (
     ∷ []
     )
 
+-- Two of three members publish under one name, and all three list both.
 abbrev pub ThreeMembers : Type 0
 ThreeMembers = Plays plain_outside 3 (
     (Publish 0 (whole doc abc), Published 1 1 1)
@@ -181,6 +195,7 @@ ThreeMembers = Plays plain_outside 3 (
     ∷ []
     )
 
+-- Objects of no segment, of one, of two and of 200.
 abbrev pub SegmentCounts : Type 0
 SegmentCounts = Plays plain_outside 1 (
     (Publish 0 (record { name = doc; contents = [] }), Published 1 0 1)
@@ -192,6 +207,7 @@ SegmentCounts = Plays plain_outside 1 (
     ∷ []
     )
 
+-- A settle ends the claims of fetchers, and what they claimed has come.
 abbrev pub SettleEndsClaims : Type 0
 SettleEndsClaims = Plays plain_outside 2 (
     (Publish 0 three_pieces, Published 1 3 1)
@@ -205,6 +221,7 @@ SettleEndsClaims = Plays plain_outside 2 (
     ))
     )
 
+-- A timer that is early, quiet since others sent all that the member knows, and due with something to send.
 abbrev pub Timers : Type 0
 Timers = Plays plain_outside 2 (
     (Fire 1, Early)
@@ -224,6 +241,7 @@ Timers = Plays plain_outside 2 (
 
 -- ---- fetches
 
+-- A fetch brings the record; the next one brings what it lists.
 abbrev pub Fetches : Type 0
 Fetches = Plays plain_outside 2 (
     (Publish 0 three_pieces, Published 1 3 1)
@@ -248,6 +266,7 @@ ThirdAttempts = Plays third 2 (
 
 -- ---- what comes from outside
 
+-- Octets from outside: as a sync Interest, as a packet of a claimed part, and as an Interest.
 abbrev pub FromOutside : Type 0
 FromOutside = Plays plain_outside 2 (
     (Publish 0 (whole doc abc), Published 1 1 1)
@@ -286,9 +305,11 @@ claimed =
     ∷ (Claim 1 1, Claimed (part 0 1 0))
     ∷ []
 
+-- A fetcher that claims a part claims no other.
 abbrev pub BusyIsRefused : Type 0
 BusyIsRefused = Refuses plain_outside 2 claimed ((Claim 1 1, FetcherBusy) ∷ [])
 
+-- A fetcher that claims nothing loses nothing, asks nobody and is fed nothing.
 abbrev pub IdleIsRefused : Type 0
 IdleIsRefused = Refuses plain_outside 2 claimed (
     (Lose 1 2, FetcherIdle)
@@ -307,6 +328,7 @@ HearIsForeign = Refuses plain_outside 2 claimed (
     ∷ []
     )
 
+-- A packet that passes the checks of the claimed part, and is not its publisher's.
 abbrev pub FeedIsForeign : Type 0
 FeedIsForeign = Refuses plain_outside 2 claimed ((Feed 1 1 (λ _ _. Another), Foreign) ∷ [])
 
@@ -314,9 +336,11 @@ FeedIsForeign = Refuses plain_outside 2 claimed ((Feed 1 1 (λ _ _. Another), Fo
 abbrev pub gives_others : Environment
 gives_others = record plain_outside { serves = λ _ _ _. Another }
 
+-- The same where a member gives it.
 abbrev pub AnswerIsForeign : Type 0
 AnswerIsForeign = Refuses gives_others 2 claimed ((Answer 1 1 0, Foreign) ∷ [])
 
+-- A command that this client never made for this member.
 abbrev pub OrderIsForeign : Type 0
 OrderIsForeign = Refuses plain_outside 2 ((Issue 0 0 (Check 1), Commanded (code_only 404)) ∷ []) (
     (Order 0 (Ok (0, Check 2)), Foreign)
@@ -340,15 +364,19 @@ SpentIsRefused =
 
 -- ---- restarts, deletions and insertions
 
+-- A deletion that dropped so many packets.
 abbrev pub deletion_reply : ℕ → Reply
 deletion_reply packets = Commanded (record (code_only 200) { deleted = Some packets })
 
+-- An insertion of which so many blocks are there.
 abbrev pub inserted : ℕ → ℕ → Reply
 inserted code blocks = Commanded (record (code_only code) { inserted = Some blocks })
 
+-- An insertion that begins under this number.
 abbrev pub started : ℕ → Reply
 started process = Commanded (record (code_only 100) { process = Some process })
 
+-- A restart ends claims; numbers of publications go on, also after a deletion.
 abbrev pub RestartKeepsNumbers : Type 0
 RestartKeepsNumbers = Plays plain_outside 2 (
     (Publish 0 three_pieces, Published 1 3 1)
@@ -364,6 +392,7 @@ RestartKeepsNumbers = Plays plain_outside 2 (
     )
     )
 
+-- An insertion in two blocks, its checks, its publication and its deletion.
 abbrev pub Insertion : Type 0
 Insertion = Plays plain_outside 2 (
     (Issue 0 0 (Insert doc 5 6), started 1)
@@ -382,6 +411,7 @@ Insertion = Plays plain_outside 2 (
     ∷ []
     )
 
+-- Blocks twice, out of range, of no process, late, and after a restart.
 abbrev pub Blocks : Type 0
 Blocks = Plays plain_outside 1 (
     (Order 0 (Err 401), Commanded (code_only 401))
@@ -400,6 +430,7 @@ Blocks = Plays plain_outside 1 (
     ∷ []
     )
 
+-- What its publisher deleted before a settle comes to nobody, and is wanted still.
 abbrev pub DeletedBefore : Type 0
 DeletedBefore = Plays plain_outside 2 (
     (Publish 0 (whole doc abc), Published 1 1 1)
@@ -412,6 +443,7 @@ DeletedBefore = Plays plain_outside 2 (
 
 -- ---- all are told of all, and nothing is wanted in the end
 
+-- Every member is informed of the one publication, and the other one fetches it part by part.
 abbrev pub informed_of_all : List (Event × Reply) → List (Event × Reply)
 informed_of_all later =
     (Publish 0 three_pieces, Published 1 3 1)
@@ -422,6 +454,7 @@ informed_of_all later =
     ∷ (Deliver 1 1, Delivered Steady)
     ∷ part_comes 0 (part_comes 1 (part_comes 2 (part_comes 3 later)))
 
+-- Then both list it, and nothing is left to claim.
 abbrev pub InformedOfAll : Type 0
 InformedOfAll = Plays plain_outside 2 (informed_of_all (
     (Catalogue 0, Entries (entry 0 1 doc 3 3 abc ∷ []))
@@ -430,6 +463,7 @@ InformedOfAll = Plays plain_outside 2 (informed_of_all (
     ∷ []
     ))
 
+-- The join of all is that one entry.
 abbrev pub JoinOfThem : Type 0
 JoinOfThem =
     join_of (logs (after_events plain_outside (opening_world plain_outside 2) (map (λ l. l.0) (informed_of_all []))))

@@ -14,9 +14,11 @@ use Rattle.group_model.specs.Steps.{reports_too_much, block_at, after_event, aft
 use Rattle.group_model.specs.Refusals.{EventsAreTaken}
 use Rattle.group_model.specs.Sound.{IsPublishedPart}
 
+-- No member has deleted anything.
 abbrev pub NothingHidden : World → Type 0
 NothingHidden w = (j : ℕ) → j < length w.members → (member w j).hidden ≡ []
 
+-- No member wants a part.
 abbrev pub NothingWanted : World → Type 0
 NothingWanted w = (j : ℕ) → j < length w.members → wanted (plan_of (logs w) (member w j)) ≡ []
 
@@ -26,6 +28,7 @@ AllJoined w = (j : ℕ) → j < length w.members → catalogue_at w j ≡ join_o
 
 -- ---- lists of events
 
+-- A block after which its insertion publishes nothing.
 abbrev pub IsNotWhole : BlockState → Type 0
 IsNotWhole (Whole p) = ⊥
 IsNotWhole _ = Unit {0}
@@ -37,6 +40,7 @@ IsQuiet w (Event.Withdraw j seq) = ⊥
 IsQuiet w (Event.Block j process index content) = IsNotWhole (block_at w j process index content)
 IsQuiet w _ = Unit {0}
 
+-- No event of a list publishes anything.
 abbrev pub AreQuiet : Environment → World → List Event → Type 0
 AreQuiet out w [] = Unit {0}
 AreQuiet out w (e ∷ es) = IsQuiet w e × AreQuiet out (after_event out w e) es
@@ -49,6 +53,7 @@ ReportsInEvent w (Event.Hear i (Some sync)) j p =
     (i ≡ j) × (reports_too_much w i sync ≡ false) × (slice_index sync.vector p ≡ last_of (logs w) p)
 ReportsInEvent w _ j p = ⊥
 
+-- An event of a list tells member j of all that p has published by then.
 abbrev pub ReportsInRun : Environment → World → List Event → ℕ → ℕ → Type 0
 ReportsInRun out w [] j p = ⊥
 ReportsInRun out w (e ∷ es) j p = ReportsInEvent w e j p ⊎ ReportsInRun out (after_event out w e) es j p

@@ -32,6 +32,7 @@ IsInRange (Event.Order m (Ok order)) = IsShortInsertion order.1
 IsInRange (Event.Issue m client command) = IsShortInsertion command
 IsInRange _ = Unit {0}
 
+-- Each event of a list is in range.
 abbrev pub AreInRange : List Event → Type 0
 AreInRange [] = Unit {0}
 AreInRange (e ∷ es) = IsInRange e × AreInRange es
@@ -44,6 +45,7 @@ pub record IsMemberWithin (steps : ℕ) (m : Member) : Type 0 where
   pub tried : (t : Part) → tries_of m.attempts t ≤ steps * 16
   pub blocks : (n : ℕ) (p : Process) → value_of nat_cmp m.processes n ≡ Some p → length (indexes p) ≤ 200
 
+-- What was counted after so many events.
 pub record IsTallyWithin (steps : ℕ) (t : Tally) : Type 0 where
   pub delivered : t.delivered ≤ steps * 240
   pub attempts : t.attempts ≤ steps * 65536
@@ -71,6 +73,7 @@ abbrev pub AreSmall : Environment → World → List Event → Type 0
 AreSmall out w [] = Unit {0}
 AreSmall out w (e ∷ es) = HasSmallPackets out w × AreSmall out (after_event out w e) es
 
+-- A group in which nothing has happened is within the counts of no event.
 abbrev pub BeginsWithin : Type 0
 BeginsWithin = (out : Environment) (n : ℕ) → IsWithinSteps 0 (opening_world out n)
 
@@ -89,11 +92,13 @@ GatheringStaysWithin = (out : Environment) (steps : ℕ) (w : World) → steps �
 abbrev pub MoreIsWithin : Type 0
 MoreIsWithin = (steps more : ℕ) (w : World) → steps ≤ more → IsWithinSteps steps w → IsWithinSteps more w
 
+-- A run stays within the counts of its events, wherever it begins.
 abbrev pub RunsStayWithin : Type 0
 RunsStayWithin = (out : Environment) (steps : ℕ) (w : World) (es : List Event) → IsSoundGroup w
     → steps + length es ≤ 100000 → length w.members ≤ 16 → EventsAreTaken out w es → AreInRange es → AreSmall out w es
     → IsWithinSteps steps w → IsWithinSteps (steps + length es) (after_events out w es)
 
+-- So does every run from the beginning of a group.
 abbrev pub ReachedRunsStayWithin : Type 0
 ReachedRunsStayWithin = (out : Environment) (n : ℕ) (es : List Event) → n ≤ 16 → length es ≤ 100000
     → EventsAreTaken out (opening_world out n) es → AreInRange es → AreSmall out (opening_world out n) es
@@ -111,5 +116,6 @@ pub record FitsIn64Bits (t : Tally) : Type 0 where
   pub parts : t.parts < 2 ^ 64
   pub octets : t.octets < 2 ^ 64
 
+-- So they do after at most 100,000 events.
 abbrev pub TalliesFit : Type 0
 TalliesFit = (steps : ℕ) (t : Tally) → steps ≤ 100000 → IsTallyWithin steps t → FitsIn64Bits t

@@ -15,42 +15,47 @@ use Rattle.svs_sync.specs.Suppression
 abbrev pub only_at : (i j : ℕ) → Suppression.SyncEvent → List Suppression.SyncEvent
 only_at i j e = if i == j then e ∷ [] else []
 
+-- The machine of member i hears a vector.
 abbrev pub hears_of : Environment → World → (i j : ℕ) → List ℕ → List Suppression.SyncEvent
 hears_of out w i j reported = only_at i j (heard w.time reported (member w i).known (drawn out w i))
 
-abbrev pub befalls_read : Environment → World → (i j : ℕ) → Option SyncInterest → List Suppression.SyncEvent
-befalls_read out w i j None = []
-befalls_read out w i j (Some sync) = if reports_too_much w i sync then [] else hears_of out w i j sync.vector
+-- The same of octets that are read as a sync Interest; those that are refused change nothing.
+abbrev pub happens_when_read : Environment → World → (i j : ℕ) → Option SyncInterest → List Suppression.SyncEvent
+happens_when_read out w i j None = []
+happens_when_read out w i j (Some sync) = if reports_too_much w i sync then [] else hears_of out w i j sync.vector
 
-abbrev pub befalls_block : Environment → World → (i j : ℕ) → BlockState → List Suppression.SyncEvent
-befalls_block out w i j (Whole p) = only_at i j (published w.time (drawn out w i))
-befalls_block out w i j _ = []
+-- The machine of a member whose insertion publishes an object by a block.
+abbrev pub happens_in_block : Environment → World → (i j : ℕ) → BlockState → List Suppression.SyncEvent
+happens_in_block out w i j (Whole p) = only_at i j (published w.time (drawn out w i))
+happens_in_block out w i j _ = []
 
 -- What happens to the machine of a member in an event of the group.
-abbrev pub befalls : Environment → World → ℕ → Event → List Suppression.SyncEvent
-befalls out w j (Event.Publish i o) = only_at i j (published w.time (drawn out w i))
-befalls out w j (Event.Withdraw i seq) = only_at i j (published w.time (drawn out w i))
-befalls out w j (Event.Deliver k i) = hears_of out w i j (sent_at w k).vector
-befalls out w j (Event.Fire i) = only_at i j (fired w.time (member w i).known (drawn out w i))
-befalls out w j (Event.Restart i) = only_at i j (reset w.time (drawn out w i))
-befalls out w j Event.Settle = reset w.time (drawn out w j) ∷ []
-befalls out w j (Event.Hear i read) = befalls_read out w i j read
-befalls out w j (Event.Block i process index content) = befalls_block out w i j (block_at w i process index content)
-befalls out w j _ = []
+abbrev pub happens_to : Environment → World → ℕ → Event → List Suppression.SyncEvent
+happens_to out w j (Event.Publish i o) = only_at i j (published w.time (drawn out w i))
+happens_to out w j (Event.Withdraw i seq) = only_at i j (published w.time (drawn out w i))
+happens_to out w j (Event.Deliver k i) = hears_of out w i j (sent_at w k).vector
+happens_to out w j (Event.Fire i) = only_at i j (fired w.time (member w i).known (drawn out w i))
+happens_to out w j (Event.Restart i) = only_at i j (reset w.time (drawn out w i))
+happens_to out w j Event.Settle = reset w.time (drawn out w j) ∷ []
+happens_to out w j (Event.Hear i read) = happens_when_read out w i j read
+happens_to out w j (Event.Block i process index content) =
+    happens_in_block out w i j (block_at w i process index content)
+happens_to out w j _ = []
 
-abbrev pub befall : Environment → World → ℕ → List Event → List Suppression.SyncEvent
-befall out w j [] = []
-befall out w j (e ∷ es) = befalls out w j e ++ befall out (after_event out w e) j es
+-- What happens to it in a list of events.
+abbrev pub happens_over : Environment → World → ℕ → List Event → List Suppression.SyncEvent
+happens_over out w j [] = []
+happens_over out w j (e ∷ es) = happens_to out w j e ++ happens_over out (after_event out w e) j es
 
--- The machine of each member is what the table makes of all that befell it, with the join of the vectors heard for
+-- The machine of each member is what the table makes of all that happened to it, with the join of the vectors heard for
 -- their list, and so is what its timer says.
 pub record FollowsTable (out : Environment) (w : World) (es : List Event) (n j : ℕ)
     (first : Suppression.SyncMember) : Type 0 where
   pub machine : (member (after_events out w es) j).machine
-      ≡ kept n (Suppression.after_sync_events (befall out w j es) first)
+      ≡ kept n (Suppression.after_sync_events (happens_over out w j es) first)
   pub timer : let last = after_events out w es in
       timer_at last j ≡ fires last.time (member last j).known
-      (Suppression.after_sync_events (befall out w j es) first)
+      (Suppression.after_sync_events (happens_over out w j es) first)
 
 -- It goes on so from a machine that is as the table has it.
 abbrev pub MachinesFollowTable : Environment → World → Type 0
@@ -66,6 +71,7 @@ abbrev pub MachinesBegin : Type 0
 MachinesBegin = (out : Environment) (n j : ℕ) → j < n
     → (member (opening_world out n) j).machine ≡ kept n (first_machine out j)
 
+-- So do the machines of every run from the beginning of a group.
 abbrev pub ReachedMachinesFollowTable : Type 0
 ReachedMachinesFollowTable = (out : Environment) (n : ℕ) (es : List Event) (j : ℕ)
     → EventsAreTaken out (opening_world out n) es

@@ -16,6 +16,7 @@ use Rattle.group_model.specs.Publications.{is_object, withdraws, object_in}
 use Rattle.repo_process.specs.Processes.{Process}
 use Rattle.group_model.specs.Commands.{is_equal_name}
 
+-- One member of a group.
 pub record Member : Type 0 where
   pub log : List Post  -- what it published, in order
   pub known : List ℕ  -- its vector: one number a member
@@ -27,9 +28,11 @@ pub record Member : Type 0 where
   pub processes : List (ℕ × Process)  -- insertion processes, by number
   pub next_process : ℕ
 
+-- The member holds the part.
 abbrev pub member_holds : Member → Part → Bool
 member_holds m t = contains part_cmp m.held t
 
+-- It has deleted the publication.
 abbrev pub member_hides : Member → Pair → Bool
 member_hides m pair = contains pair_cmp m.hidden pair
 
@@ -70,6 +73,7 @@ is_listed publications m p = is_object p && (holds_all m p && not (knows_withdra
 abbrev pub catalogued : Logs → Member → List Publication
 catalogued logs m = filter (is_listed (published logs) m) (published logs)
 
+-- Its catalogue: an entry for each of them, in order.
 abbrev pub catalogue : Logs → Member → List Entry
 catalogue logs m = map published_entry (catalogued logs m)
 
@@ -84,6 +88,7 @@ abbrev pub insert_keys : List Part → List Part → List Part
 insert_keys [] held = held
 insert_keys (t ∷ ts) held = insert_keys ts (insert_key part_cmp t held)
 
+-- It holds these parts too.
 abbrev pub gains : List Part → Member → Member
 gains ts m = record m { held = insert_keys ts m.held }
 
@@ -94,6 +99,7 @@ member_hides_too pair m = record m {
   hidden = insert_key pair_cmp pair m.hidden;
 }
 
+-- It hides these publications.
 abbrev pub member_hides_all : List Publication → Member → Member
 member_hides_all [] m = m
 member_hides_all (p ∷ ps) m = member_hides_all ps (member_hides_too (pair_in p) m)
@@ -102,9 +108,11 @@ member_hides_all (p ∷ ps) m = member_hides_all ps (member_hides_too (pair_in p
 abbrev pub tries_of : List (Part × ℕ) → Part → ℕ
 tries_of tried t = unwrap_or (value_of part_cmp tried t) 0
 
+-- A part was tried so often more.
 abbrev pub with_tries : Part → ℕ → List (Part × ℕ) → List (Part × ℕ)
 with_tries t n tried = if n == 0 then tried else with_value part_cmp t (tries_of tried t + n) tried
 
+-- Each of these parts was tried so often more.
 abbrev pub with_each_tried : (Part → ℕ) → List Part → List (Part × ℕ) → List (Part × ℕ)
 with_each_tried more [] tried = tried
 with_each_tried more (t ∷ ts) tried = with_each_tried more ts (with_tries t (more t) tried)

@@ -47,6 +47,7 @@ pub record Publication : Type 0 where
   pub seq : ℕ
   pub post : Post
 
+-- Its publisher and number.
 abbrev pub pair_in : Publication → Pair
 pair_in p = (p.publisher, p.seq)
 

@@ -14,6 +14,7 @@ use Rattle.group_model.specs.Events.Came.{Another}
 use Rattle.group_model.specs.World.{World, Environment, member}
 use Rattle.group_model.specs.Steps.{claim_at, came_from, came_as, reports_too_much, block_at, after_event}
 
+-- Why an event is refused.
 pub data Refusal : Type 0 where
   NoSuchPacket : Refusal
   FetcherBusy : Refusal
@@ -24,15 +25,18 @@ pub data Refusal : Type 0 where
 
 -- ---- foreign octets
 
+-- Such a sync Interest was sent.
 abbrev pub has_sent : World → SyncInterest → Bool
 has_sent w sync = list_any (λ s. s.sender == sync.sender && bytes_eq s.vector sync.vector) w.sent
 
+-- A client made this command for the member.
 abbrev pub has_issued : World → ℕ → ℕ × Command → Bool
 has_issued w j order =
     list_any (λ i. i.member == j && (i.client == order.0 && is_equal_command i.command order.1)) w.issued
 
 -- ---- what refuses an event
 
+-- Refused unless this holds.
 abbrev pub unless : Bool → Refusal → Option Refusal
 unless holds refusal = if holds then None else Some refusal
 
@@ -40,10 +44,12 @@ unless holds refusal = if holds then None else Some refusal
 abbrev pub unless_sent : World → ℕ → Option Refusal
 unless_sent w k = unless (nat_le 1 k && nat_le k (length w.sent)) Refusal.NoSuchPacket
 
+-- Refused where the fetcher claims a part.
 abbrev pub if_busy : Option Part → Option Refusal
 if_busy None = None
 if_busy (Some t) = Some Refusal.FetcherBusy
 
+-- Refused where it claims none.
 abbrev pub if_idle : Option Part → Option Refusal
 if_idle None = Some Refusal.FetcherIdle
 if_idle (Some t) = None
@@ -59,6 +65,7 @@ abbrev pub if_unsent : World → ℕ → Option SyncInterest → Option Refusal
 if_unsent w j None = None
 if_unsent w j (Some sync) = if reports_too_much w j sync then None else unless (has_sent w sync) Refusal.Foreign
 
+-- A command that passes its checks was made for the member.
 abbrev pub if_unissued : World → ℕ → Result (ℕ × Command) ℕ → Option Refusal
 if_unissued w j (Ok order) = unless (has_issued w j order) Refusal.Foreign
 if_unissued w j (Err code) = None
@@ -72,10 +79,12 @@ abbrev pub if_no_object_or_spent : World → ℕ → ℕ → Option Refusal
 if_no_object_or_spent w j seq =
     if has_unwithdrawn (member w j).log seq then if_spent w j else Some Refusal.NoSuchNumber
 
+-- A block that makes an insertion whole is one more publication.
 abbrev pub if_whole : World → ℕ → BlockState → Option Refusal
 if_whole w j (Whole p) = if_spent w j
 if_whole w j _ = None
 
+-- What refuses an event, if something does.
 abbrev pub refusal : Environment → World → Event → Option Refusal
 refusal out w (Event.Publish j o) = if_spent w j
 refusal out w (Event.Withdraw j seq) = if_no_object_or_spent w j seq
@@ -122,6 +131,7 @@ NamesThose w (Event.Block j process index content) = j < length w.members
 NamesThose w Event.Summary = Unit {0}
 NamesThose w Event.Traffic = Unit {0}
 
+-- An event that is not refused, of members and fetchers that are there.
 pub record EventIsTaken (out : Environment) (w : World) (e : Event) : Type 0 where
   pub named : NamesThose w e
   pub taken : refusal out w e ≡ None

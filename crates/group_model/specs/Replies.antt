@@ -32,11 +32,13 @@ pub record FireOutcome : Type 0 where
   pub timer : Fired
   pub sync : ℕ
 
+-- A fetch: the parts that were tried, those that were kept, and the attempts over all of them.
 pub record FetchOutcome : Type 0 where
   pub planned : ℕ
   pub kept : ℕ
   pub attempts : ℕ
 
+-- A settle: the sync Interests that were sent, and the parts that members gained.
 pub record SettleOutcome : Type 0 where
   pub syncs : ℕ
   pub kept : ℕ
@@ -47,6 +49,7 @@ pub record BlockOutcome : Type 0 where
   pub seq : ℕ
   pub sync : ℕ
 
+-- What was counted since the beginning.
 pub record TrafficOutcome : Type 0 where
   pub syncs : ℕ
   pub delivered : ℕ
@@ -88,6 +91,7 @@ OutcomeOf Event.Traffic = TrafficOutcome
 
 -- ---- as one of all replies
 
+-- The reply to an event.
 pub data Reply : Type 0 where
   Published : (seq segments sync : ℕ) → Reply
   Withdrawn : (seq withdrawn sync : ℕ) → Reply
@@ -119,25 +123,30 @@ pub data Reply : Type 0 where
   Summed : (totals : List CatalogueTotals) → Reply
   Counted : (syncs delivered attempts parts octets : ℕ) → Reply
 
+-- The reply of a timer.
 abbrev pub fire_reply : ℕ → Fired → Reply
 fire_reply sync fired.Early = Reply.Early
 fire_reply sync fired.Quiet = Reply.Quiet
 fire_reply sync fired.Send = Reply.Sent sync
 
+-- The reply to a sync Interest that passed its checks.
 abbrev pub heard_reply : Result Mode (ℕ × ℕ) → Reply
 heard_reply (Ok mode) = Reply.Heard mode
 heard_reply (Err ahead) = Reply.OwnNumberAhead ahead.0 ahead.1
 
+-- The reply to octets that are read as a sync Interest, or refused.
 abbrev pub hear_reply : (read : Option SyncInterest) → HearOutcome read → Reply
 hear_reply None heard = Reply.HearRefused
 hear_reply (Some sync) heard = heard_reply heard
 
+-- The reply to a block.
 abbrev pub block_reply : (seq sync : ℕ) → BlockState → Reply
 block_reply seq sync Unknown = Reply.NoBlock
 block_reply seq sync Already = Reply.BlockLate
 block_reply seq sync (Waiting p) = Reply.BlockKept
 block_reply seq sync (Whole p) = Reply.BlockPublished seq sync
 
+-- What is reported of an event, as a reply.
 abbrev pub reply_of : (e : Event) → OutcomeOf e → Reply
 reply_of (Event.Publish j o) reported = Reply.Published reported.seq reported.segments reported.sync
 reply_of (Event.Withdraw j seq) reported = Reply.Withdrawn reported.seq seq reported.sync

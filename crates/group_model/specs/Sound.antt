@@ -74,6 +74,7 @@ pub record IsSoundMember (logs : Logs) (j : ℕ) (m : Member) : Type 0 where
   pub apart : (f g : ℕ) (t : Part) → slice_index_or m.claims f None ≡ Some t → slice_index_or m.claims g None ≡ Some t
       → f ≡ g
 
+-- A group whose members are sound, and of which every sync Interest that was sent has a consistent vector.
 pub record IsSoundGroup (w : World) : Type 0 where
   pub members : (j : ℕ) → j < length w.members → IsSoundMember (logs w) j (member w j)
   pub sent : (k : ℕ) → k < length w.sent → IsConsistentVector (logs w) (slice_index_or w.sent k no_sync).vector

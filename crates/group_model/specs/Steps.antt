@@ -45,9 +45,11 @@ claim_at w j f = claim_of (plan_of (logs w) (member w j)) f
 abbrev pub open_at : World → ℕ → List Part
 open_at w j = unclaimed (plan_of (logs w) (member w j))
 
+-- The part that a fetcher would claim.
 abbrev pub to_claim : World → ℕ → Option Part
 to_claim w j = first (open_at w j)
 
+-- It claims that part, where there is one.
 abbrev pub after_claiming : World → ℕ → ℕ → Option Part → World
 after_claiming w j f None = w
 after_claiming w j f (Some t) = with_member w j (member_with_claim f (Some t) (member w j))
@@ -68,6 +70,7 @@ reports_too_much w j sync = nat_lt (length (member w j).log) (slice_index sync.v
 
 -- ---- parts that come
 
+-- What came passes the checks of the claimed part.
 abbrev pub passes_checks : Came → Bool
 passes_checks Nothing = false
 passes_checks Its = true
@@ -83,9 +86,11 @@ abbrev pub came_as : World → (Logs → Part → Came) → Option Part → Came
 came_as w read None = Nothing
 came_as w read (Some t) = read (logs w) t
 
+-- One attempt more was made.
 abbrev pub tried_once : World → World
 tried_once w = record w { tally = record w.tally { attempts = w.tally.attempts + 1 } }
 
+-- A fetcher's claim is over with its part held, and the part is counted.
 abbrev pub after_part : Environment → World → ℕ → ℕ → Part → World
 after_part out w j f t = record (with_member w j (takes f t (member w j))) {
   tally = record w.tally { parts = w.tally.parts + 1; octets = w.tally.octets + out.size (logs w) t };
@@ -111,9 +116,11 @@ comes_to w m t =
     && (not (member_hides m (pair_of t))
     && (someone_holds w.members t && (someone_holds w.members (record_of t) && not (member_holds m t))))
 
+-- The parts that come to a member in a settle, in order.
 abbrev pub new_parts : World → Member → List Part
 new_parts w m = filter (comes_to w m) (all_parts (logs w))
 
+-- How many parts come to all members.
 abbrev pub settle_gains : World → ℕ
 settle_gains w = sum_by (λ m. length (new_parts w m)) w.members
 
@@ -129,9 +136,11 @@ syncs_of j (m ∷ ms) = record { sender = j; vector = m.known } ∷ syncs_of (j 
 
 -- ---- a fetch
 
+-- The parts that a fetch tries: the first 4,096 that are wanted and not claimed.
 abbrev pub planned_parts : World → ℕ → List Part
 planned_parts w j = take 4096 (open_at w j)
 
+-- The members, with an empty one in the place of the asking member.
 abbrev pub others_of : World → ℕ → List Member
 others_of w j = slice_set w.members j no_member
 
@@ -142,6 +151,7 @@ attempt out w j tries loss t =
     then find (λ a. out.passes j t (tries_of (member w j).attempts t + a) loss) (numbers_from 1 tries)
     else None
 
+-- The parts that a fetch brings, in order.
 abbrev pub fetched_parts : Environment → World → (j tries loss : ℕ) → List Part
 fetched_parts out w j tries loss = filter (λ t. is_some (attempt out w j tries loss t)) (planned_parts w j)
 
@@ -149,9 +159,11 @@ fetched_parts out w j tries loss = filter (λ t. is_some (attempt out w j tries 
 abbrev pub attempts_for : Environment → World → (j tries loss : ℕ) → Part → ℕ
 attempts_for out w j tries loss t = unwrap_or (attempt out w j tries loss t) tries
 
+-- How many attempts it makes.
 abbrev pub attempts_made : Environment → World → (j tries loss : ℕ) → ℕ
 attempts_made out w j tries loss = sum_by (attempts_for out w j tries loss) (planned_parts w j)
 
+-- What it makes of the member: those parts are held, and the attempts of each are counted.
 abbrev pub fetches : Environment → World → (j tries loss : ℕ) → Member → Member
 fetches out w j tries loss m = record (gains (fetched_parts out w j tries loss) m) {
   attempts = with_each_tried (attempts_for out w j tries loss) (planned_parts w j) m.attempts;
@@ -163,6 +175,7 @@ fetches out w j tries loss m = record (gains (fetched_parts out w j tries loss) 
 abbrev pub can_start : Member → Bool
 can_start m = nat_le m.next_process 4294967295
 
+-- What a command makes of the group.
 abbrev pub after_command : World → ℕ → Command → World
 after_command w j (Insert name first last) =
     if can_start (member w j) then with_member w j (member_starts name first last (member w j)) else w
@@ -174,10 +187,12 @@ after_command w j (Delete name) =
 abbrev pub packets_dropped : World → ℕ → Command → ℕ
 packets_dropped w j command = length (member w j).held - length (member (after_command w j command) j).held
 
+-- The answer to a check of a process.
 abbrev pub check_answer : Option Process → Answer
 check_answer None = code_only 404
 check_answer (Some p) = record (code_only (if p.published then 200 else 300)) { inserted = Some (present p) }
 
+-- The answer to a command.
 abbrev pub command_answer : World → ℕ → Command → Answer
 command_answer w j (Insert name first last) =
     if can_start (member w j) then record (code_only 100) { process = Some (member w j).next_process }
@@ -187,14 +202,17 @@ command_answer w j (Delete name) =
     if length (catalogued_under (logs w) (member w j) name) == 0 then code_only 404
     else record (code_only 200) { deleted = Some (packets_dropped w j (Delete name)) }
 
+-- What octets make of the group that are read as a command, or refused.
 abbrev pub after_order : World → ℕ → Result (ℕ × Command) ℕ → World
 after_order w j (Ok order) = after_command w j order.1
 after_order w j (Err code) = w
 
+-- The answer to them.
 abbrev pub order_answer : World → ℕ → Result (ℕ × Command) ℕ → Answer
 order_answer w j (Ok order) = command_answer w j order.1
 order_answer w j (Err code) = code_only code
 
+-- A client makes a command for a member, and the member carries it out.
 abbrev pub after_issue : World → ℕ → ℕ → Command → World
 after_issue w j client command =
     let made : Issued = record { member = j; client = client; command = command } in
@@ -202,9 +220,11 @@ after_issue w j client command =
 
 -- ---- blocks
 
+-- What a block would be for its process.
 abbrev pub block_at : World → ℕ → (process index : ℕ) → List ℕ → BlockState
 block_at w j process index content = block_state (member w j).processes process index content
 
+-- A process of a member is this one from now on.
 abbrev pub with_process_at : World → ℕ → ℕ → Process → World
 with_process_at w j number p = with_member w j (member_with_process number p (member w j))
 
@@ -215,15 +235,18 @@ module _ (out : Environment) where
   abbrev pub drawn : World → ℕ → ℕ
   drawn w j = out.draw j (member w j).machine.draws
 
+  -- A member publishes under its next number, and sends its sync Interest.
   abbrev pub after_publish : World → ℕ → Post → World
   after_publish w j post = with_sync (with_member w j (publishes (drawn w j) w.time j post (member w j))) j
 
+  -- A block is kept, or completes its insertion, which publishes the object.
   abbrev pub after_block : World → ℕ → ℕ → BlockState → World
   after_block w j process Unknown = w
   after_block w j process Already = w
   after_block w j process (Waiting p) = with_process_at w j process p
   after_block w j process (Whole p) = after_publish (with_process_at w j process (closed p)) j (Offers (object_of p))
 
+  -- A member hears a vector.
   abbrev pub after_deliver : World → ℕ → List ℕ → World
   after_deliver w j reported = record (with_member w j (learns (drawn w j) w.time reported (member w j))) {
     tally = record w.tally { delivered = w.tally.delivered + 1 };
@@ -234,14 +257,17 @@ module _ (out : Environment) where
   after_hear w j None = w
   after_hear w j (Some sync) = if reports_too_much w j sync then w else after_deliver w j sync.vector
 
+  -- A member's machine is Steady again.
   abbrev pub after_reset : World → ℕ → World
   after_reset w j = with_member w j (resets (drawn w j) w.time (member w j))
 
+  -- A timer that is due resets its machine, and sends where it has something to send.
   abbrev pub after_fire : World → ℕ → Fired → World
   after_fire w j Early = w
   after_fire w j Quiet = after_reset w j
   after_fire w j Send = with_sync (after_reset w j) j
 
+  -- A member starts again.
   abbrev pub after_restart : World → ℕ → World
   after_restart w j = with_member w j (restarts (drawn w j) w.time (member w j))
 
@@ -262,12 +288,15 @@ module _ (out : Environment) where
   reset_each time j [] = []
   reset_each time j (m ∷ ms) = resets (out.draw j m.machine.draws) time m ∷ reset_each time (j + 1) ms
 
+  -- All machines are reset.
   abbrev pub after_resets : World → World
   after_resets w = record w { members = reset_each w.time 0 w.members }
 
+  -- A settle.
   abbrev pub after_settle : World → World
   after_settle w = after_resets (after_gathering w)
 
+  -- A fetch.
   abbrev pub after_fetch : World → (j tries loss : ℕ) → World
   after_fetch w j tries loss = record (with_member w j (fetches out w j tries loss (member w j))) {
     tally = record w.tally {
@@ -279,6 +308,7 @@ module _ (out : Environment) where
 
   -- ---- any event
 
+  -- What an event makes of the group.
   abbrev pub after_event : World → Event → World
   after_event w (Event.Publish j o) = after_publish w j (Offers o)
   after_event w (Event.Withdraw j seq) = after_publish w j (Withdraws seq)
@@ -305,15 +335,18 @@ module _ (out : Environment) where
   after_event w Event.Summary = w
   after_event w Event.Traffic = w
 
+  -- What a list of events makes of it.
   abbrev pub after_events : World → List Event → World
   after_events w [] = w
   after_events w (e ∷ es) = after_events (after_event w e) es
 
 -- ---- replies
 
+-- The mode of a member's machine.
 abbrev pub mode_at : World → ℕ → Mode
 mode_at w j = mode_of (member w j).machine.heard
 
+-- What a catalogue comes to.
 abbrev pub catalogue_totals : List Entry → CatalogueTotals
 catalogue_totals entries = record {
   entries = length entries;
@@ -321,6 +354,7 @@ catalogue_totals entries = record {
   octets = sum_by (λ e. e.octets) entries;
 }
 
+-- The number of the member's next publication.
 abbrev pub next_seq_at : World → ℕ → ℕ
 next_seq_at w j = length (member w j).log + 1
 
@@ -328,9 +362,11 @@ next_seq_at w j = length (member w j).log + 1
 abbrev pub next_sync : World → ℕ
 next_sync w = length w.sent + 1
 
+-- What each member's catalogue comes to.
 abbrev pub all_totals : World → List CatalogueTotals
 all_totals w = map (λ j. catalogue_totals (catalogue_at w j)) (numbers_from 0 (length w.members))
 
+-- What is reported of octets that are read as a sync Interest.
 abbrev pub hear_outcome : Environment → World → ℕ → (read : Option SyncInterest) → HearOutcome read
 hear_outcome out w j None = tt
 hear_outcome out w j (Some sync) =
@@ -375,9 +411,11 @@ outcome out w Event.Traffic = record {
   octets = w.tally.octets;
 }
 
+-- The reply to an event.
 abbrev pub reply_to : Environment → World → Event → Reply
 reply_to out w e = reply_of e (outcome out w e)
 
+-- The replies to a list of events, in order.
 abbrev pub replies : Environment → World → List Event → List Reply
 replies out w [] = []
 replies out w (e ∷ es) = reply_to out w e ∷ replies out (after_event out w e) es

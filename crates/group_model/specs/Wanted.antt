@@ -49,11 +49,13 @@ pub record IsFirstOpen (logs : Logs) (m : Member) (t : Part) : Type 0 where
   pub unclaimed : is_claimed (plan_of logs m) t ≡ false
   pub first : (u : Part) → IsWantedPart logs m u → is_claimed (plan_of logs m) u ≡ false → u ≢ t → part_cmp t u ≡ Less
 
+-- What a fetcher would claim is the first of these.
 abbrev pub ClaimsFirst : Type 0
 ClaimsFirst =
     (w : World) (j : ℕ) (t : Part) → HoldsRecords (member w j) → to_claim w j ≡ Some t
     → IsFirstOpen (logs w) (member w j) t
 
+-- Every wanted part is claimed.
 abbrev pub AllClaimed : Logs → Member → Type 0
 AllClaimed logs m = (t : Part) → IsWantedPart logs m t → is_claimed (plan_of logs m) t ≡ true
 

@@ -27,6 +27,7 @@ AllWithdrawRightly logs = (pair : Pair) (seq : ℕ) → IsPublished logs pair
 abbrev pub BeginsRightly : Type 0
 BeginsRightly = (out : Environment) (n : ℕ) → AllWithdrawRightly (logs (opening_world out n))
 
+-- An event that is taken withdraws rightly.
 abbrev pub StaysRightly : Environment → World → Type 0
 StaysRightly out w = (e : Event) → EventIsTaken out w e → AllWithdrawRightly (logs w)
     → AllWithdrawRightly (logs (after_event out w e))
