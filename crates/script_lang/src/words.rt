@@ -215,7 +215,8 @@ impl Words {
 
     /// The labels of the mirrors, in the order of their declarations.
     pub fn mirrors(&self) -> &[String]
-        ensures { map string_bytes result.now ≡ self.now.mirrors }
+        ensures labels { map string_bytes result.now ≡ self.now.mirrors }
+        ensures few { length result.now ≤ 4 }
     {
         self.mirrors.as_slice()
     }
