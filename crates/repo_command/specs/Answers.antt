@@ -28,6 +28,7 @@ abbrev pub IsSmall : Option ℕ → Type 0
 IsSmall None = Unit {0}
 IsSmall (Some n) = n < 2 ^ 64
 
+-- The numbers of an answer fit their elements.
 pub record IsAnswer (a : Answer) : Type 0 where
   pub code : a.code < 2 ^ 16
   pub process : IsSmall a.process
@@ -36,23 +37,28 @@ pub record IsAnswer (a : Answer) : Type 0 where
 
 -- ---- writing
 
+-- An element of an answer, where it has that number.
 abbrev pub written_field : ℕ → Option ℕ → List ℕ
 written_field typ None = []
 written_field typ (Some n) = element typ (number_field n)
 
+-- The elements of an answer, in order.
 abbrev pub response_value : Answer → List ℕ
 response_value a =
     ((written_field types.ProcessId a.process ++ element types.StatusCode (number_field a.code))
     ++ written_field types.InsertNum a.inserted) ++ written_field types.DeleteNum a.deleted
 
+-- The octets of an answer.
 abbrev pub written_answer : Answer → List ℕ
 written_answer a = element types.RepoCommandResponse (response_value a)
 
 -- ---- reading
 
+-- Octets that are no answer, of which nothing more is said.
 abbrev pub AnswerError : Type 0
 AnswerError = no_answer.AnswerError
 
+-- There is no answer.
 abbrev pub none : AnswerError
 none = record {}
 
@@ -63,21 +69,26 @@ pub record AnswerSoFar : Type 0 where
   pub inserted : Option ℕ
   pub deleted : Option ℕ
 
+-- No element was read yet.
 abbrev pub no_number : AnswerSoFar
 no_number = record { process = None; code = None; inserted = None; deleted = None }
 
+-- An element was read as its number.
 abbrev pub with_number : AnswerSoFar → AnswerField → ℕ → AnswerSoFar
 with_number s ProcessId n = record s { process = Some n }
 with_number s StatusCode n = record s { code = Some n }
 with_number s InsertNum n = record s { inserted = Some n }
 with_number s DeleteNum n = record s { deleted = Some n }
 
+-- One element more was read.
 abbrev pub with_answer_field : AnswerSoFar → AnswerField × Item → Result AnswerSoFar AnswerError
 with_answer_field s field = ok_or (number_of field.1.value) none >>= λ n. Ok (with_number s field.0 n)
 
+-- A fault in an answer's elements.
 abbrev pub bad_answer_field : FieldError → AnswerError
 bad_answer_field fault = none
 
+-- What the elements of an answer say.
 abbrev pub answer_fields : Item → Result AnswerSoFar AnswerError
 answer_fields e =
     gathered with_answer_field bad_answer_field no_number
@@ -90,6 +101,7 @@ coded_answer s code =
     then Some (record { code = code; process = s.process; inserted = s.inserted; deleted = s.deleted })
     else None
 
+-- The answer, where its status code was there.
 abbrev pub whole_answer : AnswerSoFar → Option Answer
 whole_answer s = option_and_then (coded_answer s) s.code
 
@@ -98,6 +110,7 @@ abbrev pub response_among : List Item → Option TlvFault → Option Item
 response_among (e ∷ []) None = if e.typ == types.RepoCommandResponse then Some e else None
 response_among _ fault = None
 
+-- The answer in an element.
 abbrev pub answer_in : Item → Option Answer
 answer_in e = option_and_then whole_answer (result_ok (answer_fields e))
 
@@ -107,5 +120,6 @@ answer_of octets = option_and_then answer_in (response_among (elements 0 octets)
 
 -- ---- the numbers without where they lie in memory
 
+-- The fields that code has gathered.
 abbrev pub answer_so_far : declared_gathered.AnswerFields → AnswerSoFar
 answer_so_far g = record { process = g.process; code = g.code; inserted = g.inserted; deleted = g.deleted }

@@ -37,6 +37,7 @@ parameters_value (Insert name first last) =
 parameters_value (Check process) = element types.ProcessId (number_field process)
 parameters_value (Delete name) = element standard.Name (encoding name)
 
+-- The parameters of a command, as octets.
 abbrev pub written_parameters : Command → List ℕ
 written_parameters command = element types.RepoCommandParameter (parameters_value command)
 

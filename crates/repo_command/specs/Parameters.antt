@@ -28,27 +28,33 @@ pub record Parameters : Type 0 where
   pub last : Option ℕ
   pub process : Option ℕ
 
+-- No parameter was read yet.
 abbrev pub no_parameters : Parameters
 no_parameters = record { name = None; first = None; last = None; process = None }
 
 -- ---- what the fields hold
 
+-- A fault in the elements of the parameters.
 abbrev pub bad_parameter_field : FieldError → CommandRefusal
 bad_parameter_field fault = BadParameter
 
+-- A name that a command may have.
 abbrev pub good_name : Result (List Component) NameFault → Result (List Component) CommandRefusal
 good_name (Ok name) = Ok name
 good_name (Err fault) = Err BadParameter
 
+-- An element as a number.
 abbrev pub parameter_number : Item → Result ℕ CommandRefusal
 parameter_number e = ok_or (number_of e.value) BadParameter
 
+-- One element more was read.
 abbrev pub with_parameter : Parameters → ParameterField × Item → Result Parameters CommandRefusal
 with_parameter p (Name, e) = good_name (name_of e.value_start e.value) >>= λ name. Ok (record p { name = Some name })
 with_parameter p (StartBlockId, e) = parameter_number e >>= λ n. Ok (record p { first = Some n })
 with_parameter p (EndBlockId, e) = parameter_number e >>= λ n. Ok (record p { last = Some n })
 with_parameter p (ProcessId, e) = parameter_number e >>= λ n. Ok (record p { process = Some n })
 
+-- What the elements of the parameters say.
 abbrev pub parameters_in : Item → Result Parameters CommandRefusal
 parameters_in e =
     gathered with_parameter bad_parameter_field no_parameters
@@ -59,6 +65,7 @@ abbrev pub parameter_among : List Item → Result Item CommandRefusal
 parameter_among [] = Err BadParameter
 parameter_among (e ∷ es) = if e.typ == types.RepoCommandParameter then Ok e else Err BadParameter
 
+-- The parameters that octets are.
 abbrev pub parameters_of : List ℕ → Result Parameters CommandRefusal
 parameters_of octets = parameter_among (elements 0 octets).items >>= parameters_in
 
@@ -85,5 +92,6 @@ command_from Delete p = object_name_of p.name >>= λ name. Ok (command.Delete na
 
 -- ---- the parameters without where their octets lie in memory
 
+-- The parameters that code has read.
 abbrev pub parameters : declared_parameters.Parameters → Parameters
 parameters p = record { name = p.name; first = p.first; last = p.last; process = p.process }

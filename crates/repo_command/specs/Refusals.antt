@@ -5,6 +5,7 @@ use Rattle.repo_command.specs.declared.command_refusal.CommandRefusal.{CommandRe
 use Rattle.repo_command.specs.declared.command_refusal.CommandRefusal.TheVariants.{Unsigned, ParamsDigest, UnknownKey}
 use Rattle.repo_command.specs.declared.command_refusal.CommandRefusal.TheVariants.{BadSignature}
 
+-- How a command is refused for its signature.
 abbrev pub unsigned_as : SignatureError → CommandRefusal
 unsigned_as signature.Unsigned = Unsigned
 unsigned_as signature.ParamsDigest = ParamsDigest

@@ -9,6 +9,7 @@ use Rattle.repo_command.specs.declared.command.Command.TheVariants as command
 use Rattle.repo_command.specs.declared.verb.Verb.{Verb}
 use Rattle.repo_command.specs.declared.verb.Verb.TheVariants.{Insert, Check, Delete}
 
+-- The verb of a command.
 abbrev pub verb_of : Command → Verb
 verb_of (command.Insert name first last) = Insert
 verb_of (command.Check process) = Check
@@ -20,6 +21,7 @@ verb_text Insert = codes "insert"
 verb_text Check = codes "check"
 verb_text Delete = codes "delete"
 
+-- The verb as a component of the command's name.
 abbrev pub verb_component : Verb → Component
 verb_component verb = (types.GenericNameComponent, verb_text verb)
 
@@ -33,6 +35,7 @@ abbrev pub is_command_name : List Component → Verb → List Component → Bool
 is_command_name node verb name =
     bytes_eq (encoding (without_last name)) (encoding (command_name node verb)) && ends_in_digest name
 
+-- The verb of a command to this node that is named so.
 abbrev pub verb_in : List Component → List Component → Option Verb
 verb_in node name =
     if is_command_name node Insert name then Some Insert

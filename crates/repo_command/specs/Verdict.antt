@@ -14,10 +14,12 @@ use Rattle.repo_command.specs.Refusals.{unsigned_as}
 use Rattle.repo_command.specs.Verbs.{verb_in}
 use Rattle.repo_command.specs.Parameters.{parameters_of, command_from}
 
+-- The Interest, or how its fault refuses the command.
 abbrev pub packet_or : Result Interest PacketFault → Result Interest CommandRefusal
 packet_or (Ok interest) = Ok interest
 packet_or (Err fault) = Err (Packet fault)
 
+-- The signer, or how the signature refuses the command.
 abbrev pub signed_or : Result ℕ SignatureError → Result ℕ CommandRefusal
 signed_or (Ok signer) = Ok signer
 signed_or (Err refusal) = Err (unsigned_as refusal)

@@ -32,6 +32,7 @@ pub record LineTotals : Type 0 where
   pub parts : ℕ
   pub settles : ℕ
 
+-- The totals as a definition has them.
 abbrev pub line_totals : ScriptTotals → LineTotals
 line_totals s = record { contents = s.contents; parts = s.parts; settles = s.settles }
 
@@ -44,15 +45,19 @@ pub record Declared : Type 0 where
   pub events : Bool
   pub totals : LineTotals
 
+-- What a declaration declares.
 abbrev pub party_of : Declaration → Party
 party_of d = record { label = string_bytes d.label; node = d.node }
 
+-- What declarations declare, in order.
 abbrev pub parties_of : List Declaration → List Party
 parties_of ds = map party_of ds
 
+-- The label of a member or client.
 abbrev pub party_label : Party → List ℕ
 party_label p = p.label
 
+-- Its node name.
 abbrev pub party_node : Party → List Component
 party_node p = p.node
 
@@ -60,6 +65,7 @@ party_node p = p.node
 abbrev pub party_place : List ℕ → List Party → Option ℕ
 party_place label parties = position (λ (p : Party). bytes_eq p.label label) parties
 
+-- One of them has this label.
 abbrev pub has_label : List ℕ → List Party → Bool
 has_label label parties = list_any (λ (p : Party). bytes_eq p.label label) parties
 
@@ -67,6 +73,7 @@ has_label label parties = list_any (λ (p : Party). bytes_eq p.label label) part
 abbrev pub mirror_place : List ℕ → List (List ℕ) → Option ℕ
 mirror_place label mirrors = position (λ mirror. bytes_eq mirror label) mirrors
 
+-- A mirror has this label.
 abbrev pub is_mirror : List ℕ → List (List ℕ) → Bool
 is_mirror label mirrors = list_any (λ mirror. bytes_eq mirror label) mirrors
 
@@ -85,13 +92,16 @@ are_clients d [] = true
 are_clients d (client ∷ []) = has_label client d.clients
 are_clients d (client ∷ other ∷ clients) = has_label client d.clients && are_clients d (other ∷ clients)
 
+-- The labels of a client's command are a member's and then clients'.
 abbrev pub are_those : Declared → List (List ℕ) → Bool
 are_those d [] = true
 are_those d (m ∷ clients) = has_label m d.members && are_clients d clients
 
+-- All are labels of members.
 abbrev pub are_members : Declared → List (List ℕ) → Bool
 are_members d labels = list_all (λ label. has_label label d.members) labels
 
+-- All are labels of mirrors.
 abbrev pub are_mirrors : Declared → List (List ℕ) → Bool
 are_mirrors d labels = list_all (λ label. is_mirror label d.mirrors) labels
 
@@ -103,6 +113,7 @@ pub data Sort : Type 0 where
   command : Sort
   mirroring : Sort
 
+-- What each form is.
 abbrev pub sort_of : Verb → Sort
 sort_of Group = declaration
 sort_of Member = declaration
@@ -146,9 +157,11 @@ are_known_of event d labels = are_members d labels
 are_known_of command d labels = are_those d labels
 are_known_of mirroring d labels = are_mirrors d labels
 
+-- The labels of a line with this first word are declared.
 abbrev pub are_known_by : Verb → Declared → List (List ℕ) → Bool
 are_known_by verb d labels = are_known_of (sort_of verb) d labels
 
+-- The labels of a line are declared.
 abbrev pub are_known : Declared → Stated → Bool
 are_known d s = are_known_by s.verb d (labels_in s.values)
 
@@ -159,6 +172,7 @@ is_declaration event = false
 is_declaration command = false
 is_declaration mirroring = false
 
+-- A line with this first word is a declaration.
 abbrev pub declares : Verb → Bool
 declares verb = is_declaration (sort_of verb)
 
@@ -174,6 +188,7 @@ index_packets count = if nat_le count listed_limit then 0 else (count + listed_l
 abbrev pub publication_parts : ℕ → ℕ
 publication_parts count = 1 + index_packets count + count
 
+-- No octet, no part, no settle.
 abbrev pub nothing_added : LineTotals
 nothing_added = record { contents = 0; parts = 0; settles = 0 }
 
@@ -221,6 +236,7 @@ adds Mcatalogue values = nothing_added
 adds Summary values = nothing_added
 adds Traffic values = nothing_added
 
+-- Two totals, added.
 abbrev pub with_totals : LineTotals → LineTotals → LineTotals
 with_totals a b = record {
   contents = a.contents + b.contents;
@@ -235,17 +251,21 @@ are_within_limits t =
 
 -- ---- a line
 
+-- What is declared after a `group` line, which there is once.
 abbrev pub after_group : Declared → Result Declared CheckFault
 after_group d = if d.group then Err Duplicate else Ok (record d { group = true })
 
+-- One of them has its label or its node name.
 abbrev pub is_party_among : Party → List Party → Bool
 is_party_among p parties =
     list_any (λ (q : Party). bytes_eq q.label p.label || bytes_eq (encoding q.node) (encoding p.node))
     parties
 
+-- A member, client or mirror has the label, or a member or client the node name.
 abbrev pub is_there : Declared → Party → Bool
 is_there d p = is_party_among p d.members || is_party_among p d.clients || is_mirror p.label d.mirrors
 
+-- A member, client or mirror has the label.
 abbrev pub is_label_there : Declared → List ℕ → Bool
 is_label_there d label = has_label label d.members || has_label label d.clients || is_mirror label d.mirrors
 
@@ -268,10 +288,12 @@ may_mirror d label publishers =
     else if nat_le mirrors_limit (length d.mirrors) then Err Limit
     else Ok tt
 
+-- What is declared after a declaration that may be made.
 abbrev pub declared_then : Result (Unit {0}) CheckFault → Declared → Result Declared CheckFault
 declared_then (Ok x) after = Ok after
 declared_then (Err fault) after = Err fault
 
+-- What is declared after an event: the totals grow, and no declaration may follow.
 abbrev pub after_event : Declared → Stated → Result Declared CheckFault
 after_event d s =
     if not d.group then Err NoGroup
@@ -279,6 +301,7 @@ after_event d s =
     else if not (are_within_limits (with_totals d.totals (adds s.verb s.values))) then Err TooLarge
     else Ok (record d { events = true; totals = with_totals d.totals (adds s.verb s.values) })
 
+-- A member or client with this label and node name.
 abbrev pub party : List ℕ → List Component → Party
 party label node = record { label = label; node = node }
 
@@ -297,12 +320,14 @@ after_declaration d Mirror (Text label ∷ publisher ∷ prefix ∷ []) =
     (record d { mirrors = d.mirrors ++ label ∷ [] })
 after_declaration d verb values = Err NoMemory
 
+-- What is declared after a line, by what its form is.
 abbrev pub after_sort : Sort → Declared → Stated → Verb → List Value → Result Declared CheckFault
 after_sort declaration d s verb values = after_declaration d verb values
 after_sort event d s verb values = after_event d s
 after_sort command d s verb values = after_event d s
 after_sort mirroring d s verb values = after_event d s
 
+-- The same by its first word.
 abbrev pub after_by : Declared → Stated → Verb → List Value → Result Declared CheckFault
 after_by d s verb values = after_sort (sort_of verb) d s verb values
 
@@ -310,6 +335,7 @@ after_by d s verb values = after_sort (sort_of verb) d s verb values
 abbrev pub after_line : Declared → Stated → Result Declared CheckFault
 after_line d s = after_by d s s.verb s.values
 
+-- Before the first line.
 abbrev pub nothing_declared : Declared
 nothing_declared = record {
   group = false;

@@ -18,14 +18,15 @@ pub record Form : Type 0 where
   pub word : List ℕ
   pub kinds : List Kind
 
+-- A row of the table.
 abbrev pub row : List ℕ → List Kind → Form
 row word kinds = record { word = word; kinds = kinds }
 
--- The table of the forms. A number has no other range than 18 digits in `block`'s index and in
--- `insert`'s first and last block; `publish` and `insert` have limits across words too (`are_within`).
+-- A number with no other range than 18 digits.
 abbrev pub any : Kind
 any = N 0 999999999999999999
 
+-- The table of the forms. `publish` and `insert` have limits across words too (`are_within`).
 abbrev pub form : Verb → Form
 form Group = row (codes "group") (URI 1 200 ∷ [])
 form Member = row (codes "member") (LABEL ∷ URI 1 200 ∷ HEX 128 ∷ [])
@@ -69,6 +70,7 @@ pub record Stated : Type 0 where
   pub verb : Verb
   pub values : List Value
 
+-- A line with this first word and these values.
 abbrev pub statement : Verb → List Value → Stated
 statement verb values = record { verb = verb; values = values }
 
@@ -77,6 +79,7 @@ abbrev pub publisher_value : {Z : Type 0} → Option (String Z) → Value
 publisher_value (Some label) = Text (string_bytes label)
 publisher_value None = Anyone
 
+-- A line of code, as its first word and its values.
 abbrev pub stated : Line → Stated
 stated (line.Group name) =
     statement Group (Named name ∷ [])
@@ -159,6 +162,7 @@ IsShaped (HEX most) (Octets octets) = Unit {0}
 IsShaped (CONTENT least most) (Octets octets) = Unit {0}
 IsShaped kind value = ⊥
 
+-- Values are of these kinds, one by one.
 abbrev pub AreShaped : List Kind → List Value → Type 0
 AreShaped [] [] = Unit {0}
 AreShaped (kind ∷ kinds) (value ∷ values) = IsShaped kind value × AreShaped kinds values

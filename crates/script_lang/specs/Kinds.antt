@@ -34,14 +34,17 @@ pub data Value : Type 0 where
 abbrev pub is_label_octet : ℕ → Bool
 is_label_octet octet = is_ascii_lowercase octet || is_ascii_digit octet
 
+-- A word is a label.
 abbrev pub is_label : List ℕ → Bool
 is_label [] = false
 is_label (first ∷ others) =
     is_ascii_lowercase first && nat_le (length others) 15 && list_all is_label_octet others
 
+-- A label, or that the word is none.
 unfoldable pub label_of : List ℕ → Result (List ℕ) LineFault
 label_of word = if is_label word then Ok word else Err Syntax
 
+-- A value that was read, as another value.
 abbrev pub mapped : {A B : Type 0} → (A → B) → Result A LineFault → Result B LineFault
 mapped f (Ok x) = Ok (f x)
 mapped f (Err fault) = Err fault
@@ -57,6 +60,7 @@ is_numeral (first ∷ others) =
     nat_le (length others) 17 && (not (first == 48) || length others == 0)
     && list_all is_ascii_digit (first ∷ others)
 
+-- A number in its range, or that the word is none or leaves the range.
 unfoldable pub numeral_of : ℕ → ℕ → List ℕ → Result ℕ LineFault
 numeral_of least most word =
     if is_numeral word
@@ -68,6 +72,7 @@ abbrev pub octets_within : ℕ → ℕ → List ℕ → Result (List ℕ) LineFa
 octets_within least most octets =
     if nat_le least (length octets) && nat_le (length octets) most then Ok octets else Err Limit
 
+-- Octets that were read from hexadecimal text, where they are so many.
 abbrev pub decoded_within : ℕ → ℕ → Result (List ℕ) FromHexError → Result (List ℕ) LineFault
 decoded_within least most (Ok octets) = octets_within least most octets
 decoded_within least most (Err _) = Err Syntax
@@ -86,6 +91,7 @@ filled least most (Some parts) =
     then Ok (replicate (digits_value 10 parts.0) (digits_value 10 parts.1)) else Err Limit
     else Err Syntax
 
+-- The octets that `N:N` stands for.
 unfoldable pub filled_of : ℕ → ℕ → List ℕ → Result (List ℕ) LineFault
 filled_of least most counts = filled least most (cut_at 58 counts)
 
@@ -97,6 +103,7 @@ content_by least most None (Some digits) counts = hex_of least most digits
 content_by least most None None (Some counts) = filled_of least most counts
 content_by least most None None None = Err Syntax
 
+-- The octets of a content.
 unfoldable pub content_of : ℕ → ℕ → List ℕ → Result (List ℕ) LineFault
 content_of least most word =
     content_by least most (after_word (codes "text:") word) (after_word (codes "hex:") word)
@@ -110,6 +117,7 @@ name_within least most (Some name) =
     if nat_le least (length (encoding name)) && nat_le (length (encoding name)) most
     then Ok name else Err Limit
 
+-- The name of a URI.
 unfoldable pub uri_of : ℕ → ℕ → List ℕ → Result (List Component) LineFault
 uri_of least most word = name_within least most (plain_name_of_text word)
 

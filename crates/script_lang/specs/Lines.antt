@@ -29,6 +29,7 @@ abbrev pub without_value : Result (List Value) LineFault → Result (List Value)
 without_value (Ok values) = Err Limit
 without_value (Err fault) = Err fault
 
+-- A word, and then what is read of the words after it.
 abbrev pub word_then : Result Value LineFault → Result (List Value) LineFault
     → Result (List Value) LineFault
 word_then (Ok value) others = with_value value others
@@ -36,6 +37,7 @@ word_then (Err Limit) others = without_value others
 word_then (Err Syntax) others = Err Syntax
 word_then (Err NoMemory) others = Err NoMemory
 
+-- The values of words of these kinds.
 unfoldable pub values_of : List Kind → List (List ℕ) → Result (List Value) LineFault
 values_of [] [] = Ok []
 values_of [] (word ∷ words) = Err Syntax
@@ -86,6 +88,7 @@ are_within Mcatalogue values = true
 are_within Summary values = true
 are_within Traffic values = true
 
+-- A line with this first word, where its words have values that are within the limits across words.
 abbrev pub stated_of : Verb → Result (List Value) LineFault → Result Stated LineFault
 stated_of verb (Ok values) =
     if are_within verb values then Ok (statement verb values) else Err Limit
@@ -96,22 +99,27 @@ unfoldable pub verb_named : List (List ℕ × Verb) → List ℕ → Option Verb
 verb_named [] word = None
 verb_named (first ∷ others) word = if bytes_eq first.0 word then Some first.1 else verb_named others word
 
+-- All forms.
 abbrev pub verbs : List Verb
 verbs =
     Group ∷ Member ∷ Client ∷ Mirror ∷ Publish ∷ Withdraw ∷ Deliver ∷ Sync ∷ Advance ∷ Fire ∷ Restart
     ∷ Vector ∷ Catalogue ∷ Claim ∷ Lose ∷ Answer ∷ Fetch ∷ Settle ∷ Dump ∷ Hear ∷ Order ∷ Ask ∷ Feed
     ∷ Insert ∷ Block ∷ Status ∷ Delete ∷ Watch ∷ Told ∷ Mdeliver ∷ Mfetch ∷ Mcatalogue ∷ Summary ∷ Traffic ∷ []
 
+-- Each form with its first word.
 abbrev pub first_words : List (List ℕ × Verb)
 first_words = map (λ verb. ((form verb).word, verb)) verbs
 
+-- The form of a first word.
 abbrev pub verb_of_word : List ℕ → Option Verb
 verb_of_word word = verb_named first_words word
 
+-- The line of these words after a first word.
 abbrev pub line_by : List (List ℕ) → Option Verb → Result Stated LineFault
 line_by words None = Err Syntax
 line_by words (Some verb) = stated_of verb (values_of (form verb).kinds words)
 
+-- The line of these words.
 abbrev pub line_in_words : List (List ℕ) → Result Stated LineFault
 line_in_words [] = Err Syntax
 line_in_words (verb ∷ words) = line_by words (verb_of_word verb)
@@ -126,16 +134,20 @@ abbrev pub is_mark : Option ℕ → Bool
 is_mark None = true
 is_mark (Some octet) = octet == 35
 
+-- An empty line, spaces alone, or a comment.
 abbrev pub says_nothing : List ℕ → Bool
 says_nothing octets = is_mark (find (λ octet. not (octet == 32)) octets)
 
+-- A printable octet of ASCII.
 abbrev pub is_printable : ℕ → Bool
 is_printable octet = nat_le 32 octet && nat_le octet 126
 
+-- A line that says something.
 abbrev pub mapped_line : Result Stated LineFault → Result (Option Stated) LineFault
 mapped_line (Ok s) = Ok (Some s)
 mapped_line (Err fault) = Err fault
 
+-- The line in the octets without their end.
 abbrev pub line_in : List ℕ → Result (Option Stated) LineFault
 line_in octets =
     if says_nothing octets then Ok None
@@ -146,13 +158,16 @@ line_in octets =
 abbrev pub line_within : List ℕ → List ℕ → Result (Option Stated) LineFault
 line_within octets body = if nat_le (length octets) line_octets then line_in body else Err Limit
 
+-- The octets end with this one.
 abbrev pub ends_with : ℕ → List ℕ → Bool
 ends_with octet octets =
     not (length octets == 0) && slice_index octets (length octets - 1) == octet
 
+-- The octets but for the last.
 abbrev pub without_last_octet : List ℕ → List ℕ
 without_last_octet octets = take (length octets - 1) octets
 
+-- The octets but for a carriage return at their end.
 abbrev pub without_return : List ℕ → List ℕ
 without_return octets = if ends_with 13 octets then without_last_octet octets else octets
 

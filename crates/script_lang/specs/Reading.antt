@@ -14,6 +14,7 @@ FaultReports NoMemory read = Unit {0}
 FaultReports Syntax read = read ≡ Err Syntax
 FaultReports Limit read = read ≡ Err Limit
 
+-- A call gives what reading gives, as its view has it.
 abbrev pub Gives : {X A : Type 0} → (X → A) → Result X LineFault → Result A LineFault → Type 0
 Gives view (Ok x) read = read ≡ Ok (view x)
 Gives view (Err fault) read = FaultReports fault read
@@ -23,6 +24,7 @@ pub record Unread : Type 0 where
   pub over : Bool
   pub words : List (List ℕ)
 
+-- What is read of the words that are left, as words of these kinds.
 abbrev pub left_of : List Kind → Unread → Result (List Value) LineFault
 left_of kinds unread =
     if unread.over then without_value (values_of kinds unread.words)
@@ -50,6 +52,7 @@ abbrev pub with_all : List Value → Result (List Value) LineFault → Result (L
 with_all [] others = others
 with_all (value ∷ values) others = with_value value (with_all values others)
 
+-- What a call read of the words that were left, as the words of a form.
 abbrev pub ReadsForm : Verb → Unread → Unread → Result Line LineFault → Type 0
 ReadsForm verb before after (Ok x) =
     ((stated x).verb ≡ verb)

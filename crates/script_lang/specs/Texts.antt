@@ -35,6 +35,7 @@ IsWordText (HEX most) (Octets octets) text = IsDigits octets text
 IsWordText (CONTENT least most) (Octets octets) text = IsContentText octets text
 IsWordText kind value text = ⊥
 
+-- Words are texts of these values, one by one.
 abbrev pub AreWordTexts : List Kind → List Value → List (List ℕ) → Type 0
 AreWordTexts [] [] [] = Unit {0}
 AreWordTexts (kind ∷ kinds) (value ∷ values) (text ∷ texts) =
@@ -53,6 +54,7 @@ IsOfKind (HEX most) (Octets octets) = (1 ≤ length octets) × (length octets �
 IsOfKind (CONTENT least most) (Octets octets) = (least ≤ length octets) × (length octets ≤ most)
 IsOfKind kind value = ⊥
 
+-- Values are of these kinds and in their ranges, one by one.
 abbrev pub AreOf : List Kind → List Value → Type 0
 AreOf [] [] = Unit {0}
 AreOf (kind ∷ kinds) (value ∷ values) = IsOfKind kind value × AreOf kinds values
@@ -64,6 +66,7 @@ AreOf kinds values = ⊥
 abbrev pub is_graphic : ℕ → Bool
 is_graphic octet = nat_le 33 octet && nat_le octet 126
 
+-- A word of a line.
 pub record IsWord (word : List ℕ) : Type 0 where
   pub some : 0 < length word
   pub graphic : list_all is_graphic word ≡ true
@@ -110,6 +113,7 @@ abbrev pub words_text : List Kind → List Value → List ℕ
 words_text (kind ∷ kinds) (value ∷ values) = 32 ∷ (word_text kind value ++ words_text kinds values)
 words_text kinds values = []
 
+-- The line as it is printed.
 abbrev pub printed_line : Stated → List ℕ
 printed_line s = (form s.verb).word ++ words_text (form s.verb).kinds s.values
 
@@ -121,6 +125,7 @@ IsPlainValue (Number n) = n < 10 ^ 18
 IsPlainValue (Named name) = IsName name
 IsPlainValue (Octets octets) = IsBytes octets
 
+-- All can be printed.
 abbrev pub ArePlainValues : List Value → Type 0
 ArePlainValues [] = Unit {0}
 ArePlainValues (value ∷ values) = IsPlainValue value × ArePlainValues values

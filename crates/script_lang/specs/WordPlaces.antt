@@ -20,9 +20,11 @@ kind_of (kind.Uri least most) = URI least most
 kind_of (kind.Hex most) = HEX most
 kind_of (kind.Content least most) = CONTENT least most
 
+-- The kind of a word of a form.
 abbrev pub place_kind : Place → Kind
 place_kind place = kind_of place.kind
 
+-- Its name.
 abbrev pub place_name : Place → List ℕ
 place_name place = place.name.now
 

@@ -29,18 +29,22 @@ wrong_from fault verb place (kind ∷ kinds) (word ∷ words) =
     if is_refused fault (word_of kind word) then wrong.Word verb place
     else wrong_from fault verb (place + 1) kinds words
 
+-- Where words after a first word are wrong.
 abbrev pub wrong_by : LineFault → List (List ℕ) → Option Verb → Wrong
 wrong_by fault words None = wrong.FirstWord
 wrong_by fault words (Some verb) = wrong_from fault verb 0 (form verb).kinds words
 
+-- Where words are wrong.
 abbrev pub wrong_in_words : LineFault → List (List ℕ) → Wrong
 wrong_in_words fault [] = wrong.FirstWord
 wrong_in_words fault (verb ∷ words) = wrong_by fault words (verb_of_word verb)
 
+-- Where a line without its end is wrong.
 abbrev pub wrong_in : LineFault → List ℕ → Wrong
 wrong_in fault body =
     if list_all is_printable body then wrong_in_words fault (spaced_words body) else wrong.Octet
 
+-- Where it is wrong, its length first.
 abbrev pub wrong_within : LineFault → List ℕ → List ℕ → Wrong
 wrong_within fault octets body =
     if nat_le (length octets) line_octets then wrong_in fault body else wrong.Length

@@ -6,6 +6,7 @@ use Rattle.repo_catalog.specs.declared.entry.Entry.{Entry}
 abbrev pub no_label : List ℕ
 no_label = codes "?"
 
+-- The label of a member, by its number.
 abbrev pub label_at : List (List ℕ) → ℕ → List ℕ
 label_at labels m = slice_index_or labels m no_label
 

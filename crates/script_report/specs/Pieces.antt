@@ -28,5 +28,6 @@ words_of (Uri name) = uri name.now ∷ []
 words_of (Field word n) = field word.now n
 words_of (Counts labels numbers) = labelled_numbers (map string_bytes labels.now) numbers.now
 
+-- The words of pieces, in order.
 abbrev pub words_in : List Piece → List (List ℕ)
 words_in pieces = flat_map words_of pieces

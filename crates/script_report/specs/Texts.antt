@@ -18,10 +18,12 @@ line first words = first ++ (after_spaces words ++ 10 ∷ [])
 
 -- ---- events
 
+-- A publication: its member, number, segments, sync Interest and name.
 abbrev pub publish_text : List ℕ → ℕ → ℕ → ℕ → List ℕ
 publish_text m seq segments sync = line (codes "publish")
     (m ∷ decimal seq ∷ codes "segments" ∷ decimal segments ∷ codes "sync" ∷ decimal sync ∷ [])
 
+-- A withdrawal.
 abbrev pub withdraw_text : List ℕ → ℕ → ℕ → ℕ → List ℕ
 withdraw_text m seq withdrawn sync = line (codes "withdraw")
     (m ∷ decimal seq ∷ codes "of" ∷ decimal withdrawn ∷ codes "sync" ∷ decimal sync ∷ [])
