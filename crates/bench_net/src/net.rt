@@ -19,6 +19,12 @@ pub trait Net {
         loss: u32,
     ) -> bool
         ensures { result ≡ passes self.now asker publisher seq part attempt loss };
+
+    /// Whether an answer may be long in coming, so that even a few questions are better asked beside each other. It
+    /// changes no answer.
+    fn may_wait(&self) -> bool {
+        true
+    }
 }
 
 /// The network that passes every attempt.

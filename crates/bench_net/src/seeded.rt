@@ -73,6 +73,11 @@ impl Net for Seeded {
             + u128::from(attempt);
         loss == 0 || self.word(u64::from(asker), place) % 1_000 >= loss
     }
+
+    /// A word is drawn at once.
+    fn may_wait(&self) -> bool {
+        false
+    }
 }
 
 impl Draws for Seeded {

@@ -7,7 +7,7 @@ ghost use Rattle.repo_holdings.specs.Taking.{PartsDiffer, with_what_came};
 ghost use Rattle.repo_member.specs.Outcomes.{IsOutcomeOf, jobs_of, job_limit, outcome_of, octets_in};
 ghost use Rattle.bench_world.specs.Holders.{HolderWords, AreHolders, lent_jobs};
 
-use fetch_work::digests;
+use fetch_work::{digest_workers, digests};
 use repo_holdings::ContentsDigest;
 use repo_member::{FetchCounts, Group, Member};
 use repo_mirror::Mirror;
@@ -47,7 +47,7 @@ pub(crate) trait Holder {
             (λ jobs. jobs.items ≡ lent_jobs g.now others.now (words.holdings self.now) after most) };
 
     /// Takes what came of jobs that it planned: for each job its packet, if one came, and how often it was tried. Where
-    /// there are several workers, they make the digests over the contents of what becomes whole.
+    /// there are several workers and many octets came, they make the digests over the contents of what becomes whole.
     //
     // That threads may share the handle is a condition, since the bounds of a trait's method don't say it to its proof.
     fn take<R: Threads + Sync>(
@@ -110,6 +110,7 @@ impl Holder for Member {
         parts: &[Option<Checked<'_>>],
         attempts: &[u32],
     ) -> Result<FetchCounts, AllocError> {
+        let workers = digest_workers(octets_that_came(parts), workers);
         if workers == 1 {
             return self.take_digested(g, jobs, parts, attempts, &[]);
         }

@@ -37,6 +37,10 @@ impl<'w, N: Net> Link for MemberLink<'w, N> {
             None => Lending::Lost,
         }
     }
+
+    fn may_wait(&self) -> bool {
+        self.net.may_wait()
+    }
 }
 
 // The packet that comes at an attempt at a part.

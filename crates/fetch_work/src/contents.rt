@@ -1,5 +1,6 @@
 // Digests over the contents of publications, made in threads.
-ghost use Rattle.std.specs.Prelude.{ℕ, ◌≡◌, ◌≤◌, ◌<◌, List, length, slice_index_or, IfOk};
+ghost use Rattle.std.specs.Prelude.{ℕ, ◌≡◌, ◌≤◌, ◌<◌, ◌/◌, List, length, max, min};
+ghost use Rattle.std.specs.Prelude.{slice_index_or, IfOk};
 ghost use Rattle.repo_holdings.specs.declared.contents.ContentsDigest.{ContentsDigest};
 ghost use Rattle.repo_holdings.specs.declared.holdings.whole.Whole.{Whole};
 ghost use Rattle.std.specs.List.{All};
@@ -12,11 +13,20 @@ use std::alloc::{AllocError, Global};
 use std::thread;
 use std::thread::Threads;
 
-// To begin a thread is worth it where it has about the contents of so many segments.
-const WORTH: usize = 16;
+// To begin a thread is worth it where it takes digests of about so many octets.
+const WORTH: u64 = 131_072;
+
+/// How many of so many workers are worth a thread each for digests over contents of so many octets. Where it is one, no
+/// thread is.
+pub fn digest_workers(octets: u64, workers: u32) -> u32
+    requires { 1 ≤ workers }
+    ensures { result ≡ max (min (octets / 131072) workers) 1 }
+{
+    (octets / WORTH).min(u64::from(workers)).max(1) as u32
+}
 
 /// The digests over the contents of publications that become whole, in their order, by at most so many workers. Each
-/// worker takes some that stand beside each other; where there are few segments, fewer workers do.
+/// worker takes some that stand beside each other; where there are few octets, fewer workers do.
 pub fn digests<R: Threads + Sync>(
     rt: &R,
     alloc: Global,
@@ -39,7 +49,7 @@ pub fn digests<R: Threads + Sync>(
         digest: [0; 32],
     };
     let mut digests = vec![in alloc; empty; whole.len()]?;
-    let threads = worth(whole).min(workers as usize);
+    let threads = digest_workers(octets_of(whole), workers) as usize;
     thread::for_each_mut(
         rt,
         &mut digests,
@@ -51,13 +61,20 @@ pub fn digests<R: Threads + Sync>(
     Ok(digests)
 }
 
-// How many threads the contents are worth: one at least.
-fn worth(whole: &[Whole<'_>]) -> usize
-    ensures { 1 ≤ result }
-{
-    let mut segments: usize = 0;
+// How many octets the contents have together, as far as a `u64` counts.
+fn octets_of(whole: &[Whole<'_>]) -> u64 {
+    let mut octets: u64 = 0;
     for publication in whole {
-        segments = segments.saturating_add(publication.contents.len());
+        octets = octets.saturating_add(octets_in(&publication.contents));
     }
-    1 + segments / WORTH
+    octets
+}
+
+// The same of one publication.
+fn octets_in(contents: &[&[u8]]) -> u64 {
+    let mut octets: u64 = 0;
+    for content in contents {
+        octets = octets.saturating_add(content.len() as u64);
+    }
+    octets
 }

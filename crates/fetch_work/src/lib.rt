@@ -14,7 +14,7 @@ mod trial;
 mod turns;
 mod worker;
 
-pub use contents::digests;
+pub use contents::{digest_workers, digests};
 pub use laws::phases_are_alike;
 pub use link::{Lending, Link, Reply};
 pub use outcome::PhaseOutcome;

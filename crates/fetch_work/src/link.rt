@@ -44,4 +44,10 @@ pub trait Link {
             Reply::Came(octets) => Lending::Octets(octets),
         }
     }
+
+    /// Whether an answer may be long in coming, so that even a few questions are better asked beside each other. It
+    /// changes no answer.
+    fn may_wait(&self) -> bool {
+        true
+    }
 }

@@ -11,8 +11,11 @@ use repo_object::Job;
 use std::alloc::{AllocError, Global};
 use std::thread::Threads;
 
-// To begin a thread is worth it where it has about so many jobs.
-const WORTH: usize = 16;
+// To begin one more thread is worth it where each has about so many jobs.
+const WORTH: usize = 64;
+
+// So few jobs are done by one worker.
+const FEW: usize = 3;
 
 /// Tries each job until its packet comes, at most so many times, by so many workers in threads.
 ///
@@ -34,7 +37,7 @@ pub fn phase<'p, L: Link + Sync, R: Threads + Sync>(
     ensures first { IfOk result (λ o.
         AreFirst (L.answer link.now) ring.now tries jobs.now o.parts.items o.attempts.items) }
 {
-    let workers = workers.min(worthwhile(jobs.len()));
+    let workers = workers.min(worthwhile(jobs.len(), link.may_wait()));
     let trial = LinkTrial { link, jobs, ring };
     let outcome = team::run(rt, alloc, &trial, jobs.len(), tries, workers)?;
     Ok(PhaseOutcome {
@@ -43,10 +46,12 @@ pub fn phase<'p, L: Link + Sync, R: Threads + Sync>(
     })
 }
 
-// How many workers so many jobs are worth: none is without a job, two share a few, and more share many.
-fn worthwhile(jobs: usize) -> u32
+// How many workers so many jobs are worth. Where answers may be long in coming, two share all but a few, so that one
+// asks while the other waits. Else more than one are worth it only where each has its share of many.
+fn worthwhile(jobs: usize, may_wait: bool) -> u32
     requires { jobs ≤ 4096 }
     ensures { 1 ≤ result }
 {
-    (jobs / WORTH).max(2).min(jobs).max(1) as u32
+    let least = if may_wait && jobs > FEW { 2 } else { 1 };
+    (jobs / WORTH).max(least) as u32
 }

@@ -302,7 +302,7 @@ fn workers_go_on_beside_each_other(rt: HostRuntime) {
     first_sees_all(&rt, &publish(&rt, 4));
 }
 
-// SHA-256 of "abc" and of nothing (FIPS 180-4).
+// SHA-256 of "abc" and of nothing (FIPS 180-4), and of 32,000 octets 0.
 const ABC: [u8; 32] = [
     0xba, 0x78, 0x16, 0xbf, 0x8f, 0x01, 0xcf, 0xea, 0x41, 0x41, 0x40, 0xde, 0x5d, 0xae, 0x22, 0x23,
     0xb0, 0x03, 0x61, 0xa3, 0x96, 0x17, 0x7a, 0x9c, 0xb4, 0x10, 0xff, 0x61, 0xf2, 0x00, 0x15, 0xad,
@@ -313,19 +313,24 @@ const NOTHING: [u8; 32] = [
     0x27, 0xae, 0x41, 0xe4, 0x64, 0x9b, 0x93, 0x4c, 0xa4, 0x95, 0x99, 0x1b, 0x78, 0x52, 0xb8, 0x55,
 ];
 
-// "ab" and "c" under number 1, then four times nothing under each of the 40 numbers after it.
-fn contents(rt: &(impl Abort + AllocGlobal)) -> Vec<Whole<'static>> {
+const OF_ZEROS: [u8; 32] = [
+    0x0c, 0x92, 0xbd, 0xdb, 0x4e, 0x96, 0xf3, 0xea, 0x9e, 0xc9, 0xf0, 0xf6, 0x4a, 0x66, 0x82, 0x55,
+    0xa6, 0xc1, 0x55, 0x27, 0xac, 0x09, 0xf6, 0xf1, 0x19, 0xca, 0xfd, 0xe6, 0x0c, 0x7c, 0x4a, 0x39,
+];
+
+// "ab" and "c" under number 1, four times these octets under each of the 40 numbers after it, and nothing under the last.
+fn contents<'a>(rt: &(impl Abort + AllocGlobal), octets: &'a [u8]) -> Vec<Whole<'a>> {
     let mut whole = Vec::new(rt.alloc());
-    for seq in 1..42_u16 {
-        let contents: &[&'static [u8]] = if seq == 1 {
-            &[b"ab", b"c"]
-        } else {
-            &[b"", b"", b"", b""]
+    for seq in 1..43_u16 {
+        let contents: [&'a [u8]; 4] = match seq {
+            1 => [b"ab", b"c", b"", b""],
+            42 => [b"", b"", b"", b""],
+            _ => [octets, octets, octets, octets],
         };
         let made = Whole {
             publisher: 3,
             seq,
-            contents: Vec::from_slice(rt.alloc(), contents).expect(rt, "memory"),
+            contents: Vec::from_slice(rt.alloc(), &contents).expect(rt, "memory"),
         };
         whole.push(made).expect(rt, "memory");
     }
@@ -335,7 +340,11 @@ fn contents(rt: &(impl Abort + AllocGlobal)) -> Vec<Whole<'static>> {
 // Whether these are their digests, in order.
 fn are_their_digests(digests: &[ContentsDigest]) -> bool {
     digests.iter().enumerate().all(|(place, reported)| {
-        let (octets, digest) = if place == 0 { (3, ABC) } else { (0, NOTHING) };
+        let (octets, digest) = match place {
+            0 => (3, ABC),
+            41 => (0, NOTHING),
+            _ => (32_000, OF_ZEROS),
+        };
         let seq = place as u64 + 1;
         reported.publisher == 3
             && u64::from(reported.seq) == seq
@@ -344,13 +353,23 @@ fn are_their_digests(digests: &[ContentsDigest]) -> bool {
     })
 }
 
+fn so_many_make_them<R: Threads + Sync + Abort + AllocGlobal>(
+    rt: &R,
+    whole: &[Whole<'_>],
+    workers: u32,
+) {
+    assert!(rt; 1 <= workers && workers <= 16);
+    let reported = digests(rt, rt.alloc(), whole, workers).expect(rt, "memory");
+    same(rt, reported.len(), 42, "digests");
+    is(rt, are_their_digests(&reported), "digests");
+}
+
 #[test]
 fn contents_have_their_digests_for_any_number_of_workers(rt: HostRuntime) {
-    let whole = contents(&rt);
+    // Enough for nine threads.
+    let zeros = vec![in rt.alloc(); 0u8; 8_000].expect(&rt, "memory");
+    let whole = contents(&rt, &zeros);
     for workers in &WORKERS {
-        assert!(rt; 1 <= *workers && *workers <= 16);
-        let reported = digests(&rt, rt.alloc(), &whole, *workers).expect(&rt, "memory");
-        same(&rt, reported.len(), 41, "digests");
-        is(&rt, are_their_digests(&reported), "digests");
+        so_many_make_them(&rt, &whole, *workers);
     }
 }
