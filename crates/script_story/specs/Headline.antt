@@ -126,6 +126,7 @@ Says line stated = line_of line ≡ Ok (Some stated)
 abbrev pub publication_at : Logs → Pair → Publication
 publication_at logs pair = record { publisher = pair.0; seq = pair.1; post = post_at logs pair }
 
+-- The member holds every part of the publication.
 abbrev pub HoldsAllOf : World → ℕ → Pair → Type 0
 HoldsAllOf w m pair = (x : ℕ) → x ≤ count (logs w) pair → member_holds (member w m) (part_of pair x) ≡ true
 
@@ -205,6 +206,7 @@ deletes verb.Delete = true
 deletes verb.Order = true
 deletes other = false
 
+-- The line is no deletion.
 abbrev pub deletes_nothing : Result (Option Stated) LineFault → Bool
 deletes_nothing (Ok None) = true
 deletes_nothing (Ok (Some stated)) = not (deletes stated.verb)

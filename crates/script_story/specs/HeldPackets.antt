@@ -54,6 +54,7 @@ dumped_contents g w m pair segments =
     map (λ x. option_and_then content_in (dumped g w m (part_of pair x)))
     (numbers_from (index_packets segments + 1) segments)
 
+-- Every content is there.
 abbrev pub all_there : List (List ℕ) → List (Option (List ℕ))
 all_there contents = map (λ content. Some content) contents
 

@@ -36,6 +36,7 @@ pub record RunEnvironment : Type 0 where
   pub draw : ℕ → ℕ → ℕ
   pub passes : ℕ → ℕ → ℕ → ℕ → ℕ → ℕ → Bool
 
+-- Draws and passes of a run.
 abbrev pub env_by : (ℕ → ℕ → ℕ) → (ℕ → ℕ → ℕ → ℕ → ℕ → ℕ → Bool) → RunEnvironment
 env_by draw passes = record { draw = draw; passes = passes }
 
@@ -49,9 +50,11 @@ pub record State : Type 0 where
   pub watchers : List (List Watching)
   pub mirrors : List Mirroring
 
+-- The group before its line.
 abbrev pub no_group : GroupKeys
 no_group = record { name = []; members = no_nodes; clients = no_nodes }
 
+-- Before the first line.
 abbrev pub opening_state : State
 opening_state = record { declared = nothing_declared; keys = no_group; world = None; watchers = []; mirrors = [] }
 
@@ -65,6 +68,7 @@ pub data Verdict : Type 0 where
 
 -- ---- events
 
+-- The environment of the group's events.
 abbrev pub outside_of : RunEnvironment → GroupKeys → Environment
 outside_of env keys = environment keys env.draw env.passes
 
@@ -72,9 +76,11 @@ outside_of env keys = environment keys env.draw env.passes
 abbrev pub begun_world : (ℕ → ℕ → ℕ) → State → World
 begun_world draw s = unwrap_or s.world (opening_world (drawing draw) (length s.keys.members.names))
 
+-- The world that an event finds in this run.
 abbrev pub found_world : RunEnvironment → State → World
 found_world env s = begun_world env.draw s
 
+-- The verdict on an event that is refused.
 abbrev pub event_refused : group.Refusal → Verdict
 event_refused group.Refusal.NoSuchPacket = refused refusal.NoSuchPacket
 event_refused group.Refusal.FetcherBusy = refused refusal.FetcherBusy
@@ -110,6 +116,7 @@ acted env s d e = stepped (outside_of env s.keys) s d (found_world env s) e
 abbrev pub watchers_of : List (List Watching) → ℕ → List Watching
 watchers_of all m = slice_index_or all m []
 
+-- The watchers of a member.
 abbrev pub watchers_at : State → ℕ → List Watching
 watchers_at s m = watchers_of s.watchers m
 
@@ -139,11 +146,13 @@ told_at w s d m number =
     (with_watchers w s d m (after_take number (catalogue_at w m) (watchers_at s m)))
     else refused refusal.NoSuchWatch
 
+-- A `watch` line.
 abbrev pub watched_by : World → State → Declared → List Value → Verdict
 watched_by w s d (Text m ∷ publisher ∷ Named prefix ∷ []) =
     watched w s d (party_number m d.members) (pattern_for (publisher_number d publisher) prefix)
 watched_by w s d _ = unjudged
 
+-- A `told` line.
 abbrev pub told_by : World → State → Declared → List Value → Verdict
 told_by w s d (Text m ∷ Number number ∷ []) = told_at w s d (party_number m d.members) number
 told_by w s d _ = unjudged
@@ -155,6 +164,7 @@ abbrev pub with_mirrors : World → State → Declared → List Mirroring → St
 with_mirrors w s d mirrors =
     record { declared = d; keys = s.keys; world = Some w; watchers = s.watchers; mirrors = mirrors }
 
+-- One mirror is so from now on.
 abbrev pub with_mirror : World → State → Declared → ℕ → Mirroring → State
 with_mirror w s d i m = with_mirrors w s d (slice_set s.mirrors i m)
 
@@ -164,6 +174,7 @@ heard_if (Some why) w s d k i label = event_refused why
 heard_if None w s d k i label = says (mdeliver_text k label)
     (with_mirror w s d i (mirror_hears (sent_at w k).vector (mirror_of s.mirrors i)))
 
+-- A mirror hears the sync Interest of a number.
 abbrev pub mirror_heard : World → State → Declared → ℕ → ℕ → List ℕ → Verdict
 mirror_heard w s d k i label = heard_if (group.unless_sent w k) w s d k i label
 
@@ -181,15 +192,18 @@ mirror_listed w s d i label = says
     (listing_text (map party_label d.members) label (mirrored_entries w (mirror_of s.mirrors i)))
     (with_mirrors w s d s.mirrors)
 
+-- An `mdeliver` line.
 abbrev pub heard_by : World → State → Declared → List Value → Verdict
 heard_by w s d (Number k ∷ Text l ∷ []) = mirror_heard w s d k (mirror_number l d.mirrors) l
 heard_by w s d _ = unjudged
 
+-- An `mfetch` line.
 abbrev pub fetched_by : RunEnvironment → World → State → Declared → List Value → Verdict
 fetched_by env w s d (Text l ∷ Number workers ∷ Number tries ∷ Number loss ∷ []) =
     mirror_fetched env w s d (mirror_number l d.mirrors) l tries loss
 fetched_by env w s d _ = unjudged
 
+-- An `mcatalogue` line.
 abbrev pub listed_by : World → State → Declared → List Value → Verdict
 listed_by w s d (Text l ∷ []) = mirror_listed w s d (mirror_number l d.mirrors) l
 listed_by w s d _ = unjudged
@@ -204,9 +218,11 @@ group_named name = record { name = name; members = no_nodes; clients = no_nodes 
 abbrev pub with_member_too : List Component → List ℕ → GroupKeys → GroupKeys
 with_member_too node key keys = record keys { members = with_node node key keys.members }
 
+-- One client more.
 abbrev pub with_client_too : List Component → List ℕ → GroupKeys → GroupKeys
 with_client_too node key keys = record keys { clients = with_node node key keys.clients }
 
+-- A `group` line.
 abbrev pub with_group : State → Declared → List Value → Verdict
 with_group s d (Named name ∷ []) =
     says [] (record {
@@ -222,6 +238,7 @@ with_group s d _ = unjudged
 abbrev pub mirrors_begin : GroupKeys → List Mirroring → List Mirroring
 mirrors_begin keys mirrors = map (λ m. mirror_begins (length keys.members.names) m.pattern) mirrors
 
+-- A `member` line.
 abbrev pub declaring_member : State → Declared → List Value → Verdict
 declaring_member s d (Text label ∷ Named node ∷ Octets key ∷ []) = says [] (record {
   declared = d;
@@ -232,6 +249,7 @@ declaring_member s d (Text label ∷ Named node ∷ Octets key ∷ []) = says []
 })
 declaring_member s d _ = unjudged
 
+-- A `client` line.
 abbrev pub with_client : State → Declared → List Value → Verdict
 with_client s d (Text label ∷ Named node ∷ Octets key ∷ []) =
     says [] (record {
@@ -243,6 +261,7 @@ with_client s d (Text label ∷ Named node ∷ Octets key ∷ []) =
     })
 with_client s d _ = unjudged
 
+-- A `mirror` line.
 abbrev pub declaring_mirror : State → Declared → List Value → Verdict
 declaring_mirror s d (Text label ∷ publisher ∷ Named prefix ∷ []) = says [] (record {
   declared = d;
@@ -254,10 +273,12 @@ declaring_mirror s d (Text label ∷ publisher ∷ Named prefix ∷ []) = says [
 })
 declaring_mirror s d _ = unjudged
 
+-- The event of a line is carried out.
 abbrev pub acted_if : RunEnvironment → State → Declared → Option EventValue → Verdict
 acted_if env s d (Some e) = acted env s d e
 acted_if env s d None = unjudged
 
+-- A line that states an event.
 unfoldable pub acted_by : RunEnvironment → State → Declared → Stated → Verdict
 acted_by env s d line = acted_if env s d (stated_event d line)
 
@@ -274,9 +295,11 @@ taken_by verb.Mfetch env s d line = fetched_by env (found_world env s) s d line.
 taken_by verb.Mcatalogue env s d line = listed_by (found_world env s) s d line.values
 taken_by _ env s d line = acted_by env s d line
 
+-- A line that may stand where it does.
 unfoldable pub line_taken : RunEnvironment → State → Declared → Stated → Verdict
 line_taken env s d line = taken_by line.verb env s d line
 
+-- The verdict on a line that may not stand where it does.
 abbrev pub check_refused : CheckFault → Verdict
 check_refused check_fault.NoGroup = refused refusal.NoGroup
 check_refused check_fault.Late = refused refusal.Late
@@ -286,6 +309,7 @@ check_refused check_fault.Limit = refused refusal.Limit
 check_refused check_fault.TooLarge = refused refusal.TooLarge
 check_refused check_fault.NoMemory = unjudged
 
+-- A line, by what its declarations say.
 abbrev pub checked : RunEnvironment → State → Stated → Result Declared CheckFault → Verdict
 checked env s line (Ok d) = line_taken env s d line
 checked env s line (Err fault) = check_refused fault

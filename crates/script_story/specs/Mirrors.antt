@@ -51,6 +51,7 @@ mirror_as m = record {
 abbrev pub no_mirroring : Mirroring
 no_mirroring = mirror_begins 0 (record { publisher = None; prefix = [] })
 
+-- A mirror, by its number.
 abbrev pub mirror_of : List Mirroring → ℕ → Mirroring
 mirror_of mirrors i = slice_index_or mirrors i no_mirroring
 
@@ -70,6 +71,7 @@ is_wanted_by ls m t =
 abbrev pub wanted_by : World → Mirroring → List Part
 wanted_by w m = filter (is_wanted_by (logs w) m) (all_parts (logs w))
 
+-- The parts that a fetch of it tries.
 abbrev pub asked_by : World → Mirroring → List Part
 asked_by w m = take 4096 (wanted_by w m)
 
@@ -92,6 +94,7 @@ module _ (passes : ℕ → ℕ → ℕ → ℕ → ℕ → ℕ → Bool) (w : Wo
   abbrev pub attempts_for : Mirroring → Part → ℕ
   attempts_for m t = unwrap_or (attempt_of m t) tries
 
+  -- How many attempts it makes.
   abbrev pub attempts_made : Mirroring → ℕ
   attempts_made m = sum_by (attempts_for m) (asked_by w m)
 

@@ -18,12 +18,14 @@ use Rattle.repo_member.specs.declared.refusals.HearRefusal.{HearRefusal}
 use Rattle.repo_member.specs.declared.refusals.HearRefusal.TheVariants as hear
 use Rattle.script_report.specs.Labels.{label_at}
 
+-- A fault of an element.
 abbrev pub tlv_fault_text : TlvFault → List ℕ
 tlv_fault_text (tlv.Truncated at) = codes "Truncated " ++ decimal at
 tlv_fault_text (tlv.NotShortest at) = codes "NotShortest " ++ decimal at
 tlv_fault_text (tlv.ZeroType at) = codes "ZeroType " ++ decimal at
 tlv_fault_text (tlv.TypeTooLarge at) = codes "TypeTooLarge " ++ decimal at
 
+-- The name of a field.
 abbrev pub field_word : Field → List ℕ
 field_word field.Name = codes "Name"
 field_word field.CanBePrefix = codes "CanBePrefix"
@@ -41,6 +43,7 @@ field_word field.SignatureType = codes "SignatureType"
 field_word field.KeyLocator = codes "KeyLocator"
 field_word field.SignatureValue = codes "SignatureValue"
 
+-- A fault of a packet.
 abbrev pub packet_fault_text : PacketFault → List ℕ
 packet_fault_text (packet.Tlv fault) = tlv_fault_text fault
 packet_fault_text packet.PacketTooLong = codes "PacketTooLong"
@@ -57,6 +60,7 @@ vector_fault_text labels (vector.NumberTooLarge m number) =
     codes "NumberTooLarge " ++ (label_at labels m ++ (codes " " ++ decimal number))
 vector_fault_text labels vector.NoMemory = []
 
+-- Why a sync Interest is refused.
 abbrev pub sync_refusal_text : List (List ℕ) → SyncRefusal → List ℕ
 sync_refusal_text labels (sync.Packet fault) = packet_fault_text fault
 sync_refusal_text labels sync.WrongGroup = codes "WrongGroup"
@@ -67,11 +71,13 @@ sync_refusal_text labels sync.BadSignature = codes "BadSignature"
 sync_refusal_text labels (sync.Vector fault) = vector_fault_text labels fault
 sync_refusal_text labels sync.NoMemory = []
 
+-- Why octets are refused as one.
 abbrev pub hear_refusal_text : List (List ℕ) → HearRefusal → List ℕ
 hear_refusal_text labels (hear.Sync refusal) = sync_refusal_text labels refusal
 hear_refusal_text labels (hear.OwnNumberAhead own reported) = codes "OwnNumberAhead"
 hear_refusal_text labels hear.NoMemory = []
 
+-- Why a packet is refused for a part.
 abbrev pub part_refusal_text : PartRefusal → List ℕ
 part_refusal_text (part.Packet fault) = packet_fault_text fault
 part_refusal_text part.UnsignedOctets = codes "UnsignedOctets"

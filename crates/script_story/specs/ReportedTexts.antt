@@ -138,6 +138,7 @@ abbrev pub labelled_news : List (List ℕ) → List ℕ → ℕ → List Entry �
 labelled_news labels label number entries =
     report.told_text label number (length entries) (map (publisher_label labels) entries) entries
 
+-- The report of a `told` line.
 abbrev pub news_text : List (List ℕ) → ℕ → ℕ → List Entry → List ℕ
 news_text labels m number entries = labelled_news labels (label_at labels m) number entries
 

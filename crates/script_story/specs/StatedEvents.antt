@@ -91,5 +91,6 @@ stated_by verb.Fire d (Text m ∷ []) = Some (EventValue.Fire (party_number m d.
 stated_by verb.Restart d (Text m ∷ []) = Some (EventValue.Restart (party_number m d.members))
 stated_by form d values = stated_of_group form d values
 
+-- The event that a line states, if it states one.
 abbrev pub stated_event : Declared → Stated → Option EventValue
 stated_event d s = stated_by s.verb d s.values

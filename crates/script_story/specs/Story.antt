@@ -26,6 +26,7 @@ pub record Reached : Type 0 where
   pub reported : ℕ
   pub state : State
 
+-- Before the first line.
 abbrev pub nothing_reached : Reached
 nothing_reached = record { lines = 0; octets = 0; reported = 0; state = opening_state }
 
