@@ -6,7 +6,7 @@ from cost_kinds import KEY, heads, kind, node, shuffled
 
 # ---- starting again
 
-@kind("restart after as many publications that wait to be fetched", 49_000)
+@kind("restart after as many publications that wait to be fetched", 49_900)
 def restart(n):
     yield from heads(2)
     for i in range(n):
@@ -16,7 +16,7 @@ def restart(n):
         yield f"restart m{1 + i % 2}"
 
 
-@kind("begin an insertion of 200 blocks and restart in turn", 49_000)
+@kind("begin an insertion of 200 blocks and restart in turn", 49_900)
 def restart_insertions(n):
     yield from heads(1, 1)
     for i in range(n):
@@ -51,7 +51,7 @@ def block(n):
             yield f"block m1 {i + 1} {b} fill:3:{i % 256}"
 
 
-@kind("blocks of an insertion that is published, or of none", 90_000)
+@kind("blocks of an insertion that is published, or of none", 99_900)
 def block_again(n):
     yield from heads(1, 1)
     yield "insert m1 c1 /o 0 0"
@@ -60,7 +60,7 @@ def block_again(n):
         yield f"block m1 {1 + i % 2} 0 fill:8:0"
 
 
-@kind("ask how insertions of 200 blocks stand", 49_000)
+@kind("ask how insertions of 200 blocks stand", 49_900)
 def status(n):
     yield from heads(1, 1)
     for i in range(n):
@@ -143,7 +143,7 @@ def claim_holes(n):
         yield "fetch m2 1 1 0"
 
 
-@kind("delete names that nothing has", 49_000)
+@kind("delete names that nothing has", 49_900)
 def delete_none(n):
     yield from heads(1, 1)
     for i in range(n):
@@ -167,7 +167,7 @@ def delete_tied(n):
 
 # ---- asking
 
-@kind("ask by a prefix that all names have", 49_000)
+@kind("ask by a prefix that all names have", 49_900)
 def ask_prefix(n):
     yield from heads(1)
     for i in range(n):
@@ -177,7 +177,7 @@ def ask_prefix(n):
         yield f"ask m1 {octets}"
 
 
-@kind("ask by a prefix, publish and ask in turn", 49_000)
+@kind("ask by a prefix, publish and ask in turn", 49_900)
 def ask_prefix_turns(n):
     yield from heads(1)
     octets = packets.interest(packets.text_name("/n"), True).hex()
@@ -186,7 +186,7 @@ def ask_prefix_turns(n):
         yield f"ask m1 {octets}"
 
 
-@kind("ask by a name, publish and ask in turn, names falling", 49_000)
+@kind("ask by a name, publish and ask in turn, names falling", 49_900)
 def ask_turns(n):
     yield from heads(1)
     octets = packets.interest(packets.text_name("/o")).hex()
@@ -195,7 +195,7 @@ def ask_turns(n):
         yield f"ask m1 {octets}"
 
 
-@kind("ask by full names that nothing has", 49_000)
+@kind("ask by full names that nothing has", 49_900)
 def ask_full(n):
     yield from heads(1)
     for i in range(n):

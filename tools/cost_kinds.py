@@ -8,7 +8,7 @@ GROUP, KEY = "/g", b"k"
 
 
 def kind(what, size, words="run", status=0):
-    """A kind of script: what it does, how often, and how its run ends."""
+    """A kind of script: what it does, how often at the most, and how its run ends."""
     def enter(make):
         KINDS[make.__name__] = (what, size, words, status, make)
         return make
@@ -44,3 +44,4 @@ def shuffled(n):
     order = list(range(n))
     random.Random(1).shuffle(order)
     return order
+

@@ -1,4 +1,4 @@
-"""The costliest scripts of what members do: they publish, list, tell, hear, fetch and settle."""
+"""The costliest scripts of what members do but for settles: they publish, list, report, hear and fetch."""
 import packets
 from cost_kinds import GROUP, KEY, entry, heads, kind, node, shuffled, sync
 
@@ -11,14 +11,14 @@ def publish_one_name(n):
         yield "publish m1 /o 1 text:"
 
 
-@kind("16 members publish objects of other names, in no order", 49_500)
+@kind("16 members publish objects of other names, in no order", 49_900)
 def publish_names(n):
     yield from heads(16)
     for i in shuffled(n):
         yield f"publish m{1 + i % 16} /o/{i * 7919 % 99991:06d}{'x' * 100} 1 text:a"
 
 
-@kind("publish what comes before as many entries of another", 49_000)
+@kind("publish what comes before as many entries of another", 49_900)
 def publish_before(n):
     yield from heads(2)
     for i in range(n):
@@ -35,11 +35,11 @@ def publish_segments(n):
         yield f"publish m1 /o/{i} 1 fill:200:{i % 256}"
 
 
-@kind("four publications of so many times 1,250 segments of one octet", 16)
+@kind("five publications of so many segments of one octet", 19_800)
 def publish_large(n):
     yield from heads(1)
-    for i in range(4):
-        yield f"publish m1 /o/{i} 1 fill:{1_250 * n}:{i}"
+    for i in range(5):
+        yield f"publish m1 /o/{i} 1 fill:{n}:{i}"
 
 
 @kind("publish objects of one name, then withdraw each, the first first", 32_700)
@@ -59,7 +59,7 @@ def publish_components(n):
         yield f"publish m1 {prefix}/{i:05d} 1 text:a"
 
 
-@kind("16 members with nodes of 200 octets, each of which knows all, publish and tell each time", 99_900)
+@kind("16 members with nodes of 200 octets, each of which knows all, publish so often", 99_900)
 def publish_long_nodes(n):
     yield f"group /{'g' * 198}"
     for j in range(16):
@@ -79,7 +79,7 @@ def catalogue(n):
         yield "catalogue m1"
 
 
-@kind("as many publications as summaries, 16 members that have settled", 49_000)
+@kind("as many publications as summaries, 16 members that have settled", 66_000)
 def summary(n):
     yield from heads(16)
     for i in range(n // 2):
@@ -89,7 +89,7 @@ def summary(n):
         yield "summary"
 
 
-@kind("as many publications as lines of vector, traffic, dump and sync", 49_000)
+@kind("as many publications as lines of vector, traffic, dump and sync", 49_900)
 def show(n):
     yield from heads(16)
     for i in range(n):
@@ -101,7 +101,7 @@ def show(n):
 
 # ---- watching
 
-@kind("as many publications as `told` lines that have no news", 49_000)
+@kind("as many publications as `told` lines that have no news", 49_900)
 def told(n):
     yield from heads(1)
     yield "watch m1 * /"
@@ -111,7 +111,7 @@ def told(n):
         yield "told m1 1"
 
 
-@kind("16 members that have settled get 16 watchers each", 49_000)
+@kind("16 members that have settled get 16 watchers each", 99_500)
 def watch(n):
     yield from heads(16)
     for i in range(n):
@@ -121,7 +121,7 @@ def watch(n):
         yield f"watch m{1 + i % 16} * /"
 
 
-@kind("16 watchers of names of 200 empty components are told of 5,000 objects each", 16)
+@kind("16 watchers of names of 200 empty components get the news of 5,000 objects each", 16)
 def reported_news(n):
     yield from heads(1)
     prefix = "/..." * 196
@@ -135,7 +135,7 @@ def reported_news(n):
 
 # ---- reporting and hearing
 
-@kind("one packet is delivered again and again", 90_000)
+@kind("one packet is delivered again and again", 99_900)
 def deliver_one(n):
     yield from heads(16)
     yield "publish m1 /o 1 text:"
@@ -143,7 +143,7 @@ def deliver_one(n):
         yield f"deliver 1 m{1 + i % 16}"
 
 
-@kind("each publication is delivered, the last first", 49_000)
+@kind("each publication is delivered, the last first", 49_900)
 def deliver_each(n):
     yield from heads(2)
     for i in range(n):
@@ -152,7 +152,7 @@ def deliver_each(n):
         yield f"deliver {i} m2"
 
 
-@kind("publish and deliver in turn", 49_000)
+@kind("publish and deliver in turn", 49_900)
 def deliver_turns(n):
     yield from heads(2)
     for i in range(n):
@@ -160,7 +160,7 @@ def deliver_turns(n):
         yield f"deliver {i + 1} m2"
 
 
-@kind("timers fire", 49_000)
+@kind("timers fire", 49_900)
 def fire(n):
     yield from heads(16)
     for i in range(n):
@@ -243,7 +243,7 @@ def claim_lose(n):
         yield "lose m2 16"
 
 
-@kind("claim where nothing is wanted any more", 49_000)
+@kind("claim where nothing is wanted any more", 49_900)
 def claim_none(n):
     yield from heads(2)
     for i in range(n):
@@ -253,7 +253,7 @@ def claim_none(n):
         yield "claim m2 1"
 
 
-@kind("answer by a member that has nothing", 49_000)
+@kind("answer by a member that has nothing", 49_900)
 def answer_none(n):
     yield from heads(3)
     for i in range(n):
@@ -277,7 +277,7 @@ def feed_passed_over(n):
         yield f"feed m2 1 {octets}"
 
 
-@kind("fetch 4,096 parts that are all lost, 16 times each", 400)
+@kind("fetch 4,096 parts that are all lost, 16 times each", 95_000)
 def fetch_lost(n):
     yield from heads(2)
     for i in range(4096):
@@ -287,7 +287,7 @@ def fetch_lost(n):
         yield "fetch m2 1 16 1000"
 
 
-@kind("fetch one part by 16 workers, all lost", 90_000)
+@kind("fetch one part by 16 workers, all lost", 99_900)
 def fetch_one(n):
     yield from heads(2)
     yield "publish m1 /o 1 text:"
@@ -296,7 +296,7 @@ def fetch_one(n):
         yield "fetch m2 16 1 1000"
 
 
-@kind("fetch 16 parts by 16 workers, all lost", 20_000)
+@kind("fetch 16 parts by 16 workers, all lost", 99_900)
 def fetch_workers(n):
     yield from heads(2)
     for i in range(16):
@@ -306,7 +306,7 @@ def fetch_workers(n):
         yield "fetch m2 16 1 1000"
 
 
-@kind("fetch where nothing is wanted any more", 49_000)
+@kind("fetch where nothing is wanted any more", 49_900)
 def fetch_none(n):
     yield from heads(2)
     for i in range(n):
@@ -325,7 +325,7 @@ def fetch_turns(n):
         yield "fetch m2 1 1 0"
 
 
-@kind("fetch by half, so that what is held has many holes", 40)
+@kind("fetch by half, so that what is held has many holes", 43)
 def fetch_half(n):
     yield from heads(2)
     for i in range(1500 * n):
@@ -333,50 +333,3 @@ def fetch_half(n):
     yield f"deliver {1500 * n} m2"
     for _ in range(n):
         yield "fetch m2 1 1 500"
-
-
-# ---- settling
-
-@kind("settle 16 members, objects of one segment", 49_000)
-def settle_once(n):
-    yield from heads(16)
-    for i in range(n):
-        yield f"publish m{1 + i % 16} /o/{i} 1 text:a"
-    yield "settle 1"
-
-
-@kind("settle 16 members, four publications of so many times 1,250 segments of one octet", 16)
-def settle_large(n):
-    yield from heads(16)
-    for i in range(4):
-        yield f"publish m1 /o/{i} 1 fill:{1_250 * n}:{i}"
-    yield "settle 1"
-
-
-@kind("settle 1,000 times, one publication each, after 16 members' 90,000", 1_000)
-def settle_news(n):
-    yield from heads(16)
-    for i in range(90 * n):
-        yield f"publish m{1 + i % 16} /o 1 text:"
-    for i in range(n):
-        yield f"publish m{1 + i % 16} /o 1 text:"
-        yield "settle 1"
-
-
-@kind("settle 1,000 times, where 16 members want 33,000 records each that nobody has any more", 1_000)
-def settle_deleted(n):
-    yield from heads(16, 1)
-    for i in range(33 * n):
-        yield "publish m1 /o 1 text:"
-    yield "delete m1 c1 /o"
-    for i in range(n):
-        yield "settle 1"
-
-
-@kind("settle by 16 workers, 16 publications each", 1_000)
-def settle_workers(n):
-    yield from heads(4)
-    for i in range(n):
-        for _ in range(16):
-            yield "publish m1 /o 1 text:"
-        yield "settle 16"

@@ -1,8 +1,8 @@
-"""The costliest scripts of what mirrors do: they hear, fetch, list, and gain their parts after a settle."""
+"""The costliest scripts of what mirrors do: they hear, fetch and list."""
 from cost_kinds import heads, kind
 
 
-@kind("one packet is delivered to a mirror again and again", 90_000)
+@kind("one packet is delivered to a mirror again and again", 99_900)
 def mdeliver_one(n):
     yield from heads(1, mirrors=4)
     yield "publish m1 /o 1 text:"
@@ -10,7 +10,7 @@ def mdeliver_one(n):
         yield f"mdeliver 1 k{1 + i % 4}"
 
 
-@kind("each publication is delivered to a mirror, the last first", 49_000)
+@kind("each publication is delivered to a mirror, the last first", 49_900)
 def mdeliver_each(n):
     yield from heads(1, mirrors=1)
     for i in range(n):
@@ -19,7 +19,7 @@ def mdeliver_each(n):
         yield f"mdeliver {i} k1"
 
 
-@kind("a mirror fetches 4,096 parts that are all lost, 16 times each", 400)
+@kind("a mirror fetches 4,096 parts that are all lost, 16 times each", 95_000)
 def mfetch_lost(n):
     yield from heads(1, mirrors=1)
     for i in range(4096):
@@ -29,7 +29,7 @@ def mfetch_lost(n):
         yield "mfetch k1 1 16 1000"
 
 
-@kind("a mirror fetches where nothing is wanted any more", 49_000)
+@kind("a mirror fetches where nothing is wanted any more", 49_900)
 def mfetch_none(n):
     yield from heads(1, mirrors=1)
     for i in range(n):
@@ -66,21 +66,3 @@ def mcatalogue(n):
     yield "settle 1"
     for _ in range(n):
         yield "mcatalogue k1"
-
-
-@kind("settle 16 members and 4 mirrors, objects of one segment", 49_000)
-def settle_mirrors(n):
-    yield from heads(16, mirrors=4)
-    for i in range(n):
-        yield f"publish m{1 + i % 16} /o/{i} 1 text:a"
-    yield "settle 1"
-
-
-@kind("settle 1,000 times, where 4 mirrors want 33,000 records each that nobody has any more", 1_000)
-def settle_mirrors_deleted(n):
-    yield from heads(1, 1, mirrors=4)
-    for i in range(33 * n):
-        yield "publish m1 /o 1 text:"
-    yield "delete m1 c1 /o"
-    for i in range(n):
-        yield "settle 1"

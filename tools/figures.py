@@ -1,0 +1,299 @@
+#!/usr/bin/env python3
+"""Measures the built program, and prints the tables of docs/FIGURES.md and docs/HOSTILE.md.
+
+    python3 tools/figures.py [--program FILE] [--live FILE] [--seconds N] [--write] [TABLE ..]
+
+Without names it makes all tables but `live`, which wants the program `ndnlive` besides. With --write the tables in the
+two documents are replaced by these, where a comment names them, each as soon as it is made. A run of `costs` that would
+take more than N seconds (12 by default, and 6 times as long for a settle) is left out. Instructions are counted by
+`valgrind --tool=callgrind`; where there is none the tables that need it are left out. All takes some ten minutes on a
+machine that does other work beside, and at most 3.5 GB of memory; `nice -n 10` before it lets others go first.
+
+    machine        seconds for a fixed load, by which two machines can be compared
+    scripts        time and memory of some scripts
+    settles        a settle, by objects and by members
+    instructions   what publishing, settling, fetching and deleting take
+    crates         in which crates the instructions of a generated script are
+    products       lines that grow by a product, and for each of what       (docs/HOSTILE.md)
+    refusals       requests that are refused in turn, by refuse_memory.py   (docs/HOSTILE.md)
+    random         scripts drawn at random, by fuzz.py                      (docs/HOSTILE.md)
+    costs          the costliest script of each kind of line, by costs.py
+    live           runs of a live group, by stress_live.py
+"""
+import argparse
+import os
+import pathlib
+import platform
+import re
+import subprocess
+import sys
+import tempfile
+
+sys.dont_write_bytecode = True
+import costs
+import figure_scripts as scripts
+import measured
+import packets
+
+TOP = measured.TOP
+TABLES = {}
+# The scripts that refuse_memory.py takes, as its rows and the columns of the table name them.
+REFUSED = {"one_object": "one object", "claims": "by hand", "insertion": "insertion", "every_line": "every line"}
+
+
+def table(*heads):
+    """A table under its function's name: its heads, and a function that yields the cells of its rows."""
+    def enter(make):
+        TABLES[make.__name__] = (heads, make)
+        return make
+    return enter
+
+
+def seconds(it):
+    return f"{it:.2f} s"
+
+
+def memory(it):
+    return f"{it:.0f} MB"
+
+
+def many(n):
+    """A number of instructions in few digits."""
+    for unit, word in ((1e9, "thousand million"), (1e6, "million")):
+        if n >= unit:
+            return f"{n / unit:.2f} {word}"
+    return f"{n:,.0f}"
+
+
+def each(n):
+    return f"{n:,.0f}" if abs(n) >= 100 else f"{abs(n):.1f}"
+
+
+@table("what", "measured")
+def machine(given):
+    yield "SHA-256 of 256 MB, by Python's hashlib, in one thread", seconds(measured.machine())
+    yield "processors; their kind", f"{os.cpu_count()}; {platform.machine()}"
+    yield "other work beside, as processes that wait for a processor (mean of a minute)", f"{os.getloadavg()[0]:.1f}"
+
+
+@table("script", "workers", "user time", "of the system", "elapsed", "greatest memory")
+def scripts_table(given):
+    program = given.program
+    example = (TOP / "examples/large_object.script").read_text().splitlines()
+    for what, workers, lines in [
+        ("8 members, 64 MiB in 42 objects, segments of 8,000 octets", "1", lambda: scripts.large(1)),
+        ("the same", "4", lambda: scripts.large(4)),
+        ("what `gen 16 2000 1` writes", "1 in place of its own", lambda: scripts.generated(program, 1)),
+        ("the same", "as written, 4", lambda: scripts.generated(program)),
+        ("49,000 empty objects of 16 members, and a settle", "1", lambda: scripts.empties(49_000)),
+        ("`examples/large_object.script`", "as written", lambda: iter(example)),
+    ]:
+        took = measured.run_lines(program, lines(), enough=2)
+        yield (what, workers, seconds(took.user), seconds(took.system), seconds(took.elapsed), memory(took.memory))
+
+
+@table("members", "objects", "the settle, user time", "greatest memory")
+def settles(given):
+    for members, n in [(16, 500), (16, 1_000), (16, 2_000), (16, 4_000), (2, 2_000), (4, 2_000), (8, 2_000)]:
+        without = measured.run_lines(given.program, scripts.objects(members, n, False))
+        took = measured.run_lines(given.program, scripts.objects(members, n))
+        yield str(members), f"{n:,}", seconds(max(took.user - without.user, 0)), memory(took.memory)
+
+
+@table("what", "number", "instructions", "each")
+def instructions(given):
+    def taken(lines):
+        return measured.instructions(given.program, lines)
+
+    def cells(what, n, it):
+        return what, f"{n:,}", many(it), each(it / n)
+
+    for n in (1_000, 4_000):
+        published = taken(scripts.segments(n))
+        yield cells("an object of segments of one octet: publishing it, for each segment", n, published)
+        yield cells("settling it between two members", n, taken(scripts.segments(n, ["settle 1"])) - published)
+        fetches = ["deliver 1 m2"] + ["fetch m2 1 1 0"] * (2 + -(-n // 4096))
+        yield cells("fetching it, by `fetch` lines", n, taken(scripts.segments(n, fetches)) - published)
+        yield cells("deleting it", n, taken(scripts.segments(n, ["delete m1 c1 /o"])) - published)
+    for n in (500, 2_000):
+        published = taken(scripts.small(n))
+        yield cells("objects of one segment: publishing them, for each object", n, published)
+        yield cells("withdrawing each", n, taken(scripts.withdrawn(n)) - published)
+    for n in (250, 1_000):
+        published = taken(scripts.empties(n, False))
+        yield cells("empty objects of 16 members: a settle, for each object", n, taken(scripts.empties(n)) - published)
+    for n in (500, 2_000):
+        published = taken(scripts.fetched("none", n))
+        for who in ("member", "mirror"):
+            it = taken(scripts.fetched(who, n)) - published
+            yield cells(f"objects of one segment: a {who} fetches and lists them", n, it)
+
+
+def crate_of(function):
+    """The crate that a function stands in, or what else it is of."""
+    name = function.split("'")[0]
+    found = re.match(r"<*&*(?:mut )?([a-z][a-z0-9_]*)(?:::|\.|\$)", name)
+    if found:
+        return found.group(1)
+    return "the C library and the system"
+
+
+@table("crate", "million instructions", "of 100")
+def crates(given):
+    taken = measured.instructions(given.program, scripts.generated(given.program, 1), by_function=True)
+    of = {}
+    for function, it in taken.items():
+        of[crate_of(function)] = of.get(crate_of(function), 0) + it
+    total = sum(of.values())
+    yield "all", f"{total / 1e6:,.0f}", "100"
+    rest = total
+    for crate, it in sorted(of.items(), key=lambda pair: -pair[1]):
+        if it < total / 100:
+            break
+        rest -= it
+        yield f"`{crate}`" if " " not in crate else crate, f"{it / 1e6:,.0f}", f"{100 * it / total:.0f}"
+    yield "all others", f"{rest / 1e6:,.0f}", f"{100 * rest / total:.0f}"
+
+
+@table("line", "instructions", "for each")
+def products(given):
+    few, n, lines = 500, 2_000, 32
+    asked = packets.interest(packets.text_name("/n"), True).hex()
+    by_name = packets.interest(packets.text_name("/o/0")).hex()
+
+    def taken(script):
+        return measured.instructions(given.program, script)
+
+    def slope(make):
+        """What a line takes more for each of n than for each of few."""
+        cost = {it: taken(make(it, lines)) - taken(make(it, 0)) for it in (few, n)}
+        return (cost[n] - cost[few]) / lines / (n - few)
+
+    def between(make):
+        return (taken(make(True)) - taken(make(False))) / lines / n
+
+    yield "`ask` by a prefix", each(slope(lambda k, more: scripts.asked_by_prefix(k, more, asked))), \
+        "part that the member holds whose name begins with it, at each line"
+    yield "`told`", each(slope(scripts.told)), "entry of the member's catalogue, at each line"
+    yield "`publish`", each(between(lambda first: scripts.published_before(n, lines, first))), \
+        "entry of the member's catalogue that stands after the new one, at each line"
+    yield "`settle` with one publication that is new", \
+        each(between(lambda first: scripts.settled_before(n, lines, first)) / 2), \
+        "entry of a catalogue that stands after a new one, at each phase that brings one, for each member"
+    yield "`delete` of a name that is listed, but not by the first entry", \
+        each(between(lambda second: scripts.deleted(n, lines, not second))), "entry that stands after, at each line"
+    yield "the same, once somebody asked by name", \
+        each(between(lambda asks: scripts.deleted(n, lines, False, by_name if asks else None))), \
+        "part that the member holds, at each line, besides"
+    yield "`settle`", each(slope(scripts.lost)), \
+        "part that 15 members and 4 mirrors want and nobody has, at each line, for all of them together"
+
+
+@table("refused", *REFUSED.values(), "exit status of these runs", "of them wrong")
+def refusals(given):
+    ran = subprocess.run([sys.executable, TOP / "tools/refuse_memory.py", "--program", given.program],
+                         capture_output=True, text=True)
+    print(ran.stderr, end="", file=sys.stderr)
+    said = {}
+    for line in ran.stdout.splitlines():
+        found = re.match(r"(\w+) +(\w+) +(\d+) requests, (\d+) refused in turn: (.*); (\d+) wrong", line)
+        if found:
+            kind, name, _, refused, ends, wrong = found.groups()
+            said.setdefault(kind, {})[name] = int(refused), ends, int(wrong)
+    for kind, what in [("memory", "memory, once"), ("shortage", "memory, from there on"), ("threads", "a thread, once"),
+                       ("reads", "reads from there on, by pieces of 20 octets"),
+                       ("writes", "writes from there on, by pieces of 8 octets"),
+                       ("signals", "one read or write, by a signal")]:
+        of = [said[kind][name] for name in REFUSED]
+        ends = {}
+        for _, told, _ in of:
+            for count, status in re.findall(r"(\d+) ended with (-?\d+)", told):
+                ends[status] = ends.get(status, 0) + int(count)
+        yield (what, *(f"{it[0]:,}" for it in of), ", ".join(f"{n:,} with {end}" for end, n in sorted(ends.items())),
+               str(sum(it[2] for it in of)))
+
+
+@table("drawn by", "how many", "differ", "exit status, and how many")
+def random(given):
+    for words in (["--seed", "1", "--count", "100"], ["--inspect", "--seed", "1", "--count", "300"]):
+        with tempfile.TemporaryDirectory() as room:
+            ran = subprocess.run([sys.executable, TOP / "tools/fuzz.py", "--program", f"{given.program}", "--keep", room,
+                                  *words], capture_output=True, text=True)
+        print(ran.stderr, end="", file=sys.stderr)
+        n, differ, ends = re.search(r"(\d+) scripts, (\d+) differ; ends by status: \{(.*)\}", ran.stdout).groups()
+        yield f"`tools/fuzz.py {' '.join(words)}`", n, differ, ends
+
+
+@table(*costs.HEADS)
+def costs_table(given):
+    for name in costs.KINDS:
+        # One settle is one line: the whole is what somebody can ask for, so it is given more time.
+        more = 6 if name.startswith("settle") else 1
+        yield costs.measure(name, given.program, more * given.seconds)
+
+
+@table("what", "printed")
+def live(given):
+    ran = subprocess.run([sys.executable, TOP / "tools/stress_live.py", "--program", given.live, "--runs", "100",
+                          "--members", "16", "--objects", "200"], capture_output=True, text=True)
+    print(ran.stderr, end="", file=sys.stderr)
+    for line in ran.stdout.splitlines():
+        yield "`stress_live.py --runs 100 --members 16 --objects 200`", line
+
+
+for given_name, name in (("scripts", "scripts_table"), ("costs", "costs_table")):
+    TABLES[given_name] = TABLES.pop(name)
+ORDER = ["machine", "scripts", "crates", "costs", "products", "instructions", "settles", "refusals", "random", "live"]
+COUNTED = {"instructions", "crates", "products"}
+
+
+def made(name, given):
+    heads, make = TABLES[name]
+    yield costs.row(heads)
+    yield "|---" * len(heads) + "|"
+    for cells in make(given):
+        yield costs.row(cells)
+
+
+def write(name, lines):
+    """Puts a table into the documents, in the place of the one that stands under the comment that names it."""
+    mark = f"<!-- python3 tools/figures.py {name} -->\n"
+    for page in (TOP / "docs/FIGURES.md", TOP / "docs/HOSTILE.md"):
+        text = page.read_text()
+        if mark in text:
+            before, _, after = text.partition(mark)
+            after = re.sub(r"\A(\|[^\n]*\n)*", "", after)
+            page.write_text(before + mark + "".join(f"{line}\n" for line in lines) + after)
+            return
+    sys.exit(f"no document has a place for {name}")
+
+
+def main():
+    asked = argparse.ArgumentParser(description=__doc__, formatter_class=argparse.RawDescriptionHelpFormatter)
+    asked.add_argument("--program", default=measured.PROGRAM)
+    asked.add_argument("--live", default=str(TOP / "crates/ndnlive/out/ndnlive"))
+    asked.add_argument("--seconds", type=float, default=12)
+    asked.add_argument("--write", action="store_true", help="put the tables into the documents")
+    asked.add_argument("tables", nargs="*", metavar="TABLE")
+    given = asked.parse_args()
+    given.program = str(pathlib.Path(given.program).resolve())
+    for name in given.tables:
+        if name not in TABLES:
+            asked.error(f"no table {name}; there are {', '.join(ORDER)}")
+    for name in given.tables or ORDER:
+        if name == "live" and not given.tables:
+            continue
+        if name in COUNTED and not measured.counts_instructions():
+            print(f"{name}: there is no valgrind", file=sys.stderr)
+            continue
+        print(f"\n{name}\n", flush=True)
+        lines = []
+        for line in made(name, given):
+            print(line, flush=True)
+            lines.append(line)
+        if given.write:
+            write(name, lines)
+
+
+if __name__ == "__main__":
+    main()
