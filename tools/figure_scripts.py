@@ -82,6 +82,7 @@ def fetched(who, n):
 # ---- lines that grow by a product: so many lines, over so many of what each goes through
 
 def asked_by_prefix(n, lines, octets):
+    """One line more than so many, so that what the first one does alone is in each script."""
     yield from heads(1)
     for i in range(n):
         yield f"publish m1 /o/{i} 1 text:"
@@ -119,15 +120,15 @@ def settled_before(n, lines, first):
         yield "settle 1"
 
 
-def deleted(n, lines, first, asks=None):
-    """Deletions of one object each, from the first or from the second on, perhaps once somebody asked by name."""
+def deleted(n, lines, second, asks=None):
+    """Deletions of one object each, from the second on or from the first, perhaps once somebody asked by name."""
     yield from heads(1, 1)
     for i in range(n):
         yield f"publish m1 /o/{i} 1 text:"
     if asks:
         yield f"ask m1 {asks}"
     for i in range(lines):
-        yield f"delete m1 c1 /o/{i if first else i + 1}"
+        yield f"delete m1 c1 /o/{i + 1 if second else i}"
 
 
 def lost(n, settles):
@@ -136,5 +137,5 @@ def lost(n, settles):
     for _ in range(n):
         yield "publish m1 /o 1 text:"
     yield "delete m1 c1 /o"
-    for _ in range(settles):
+    for _ in range(settles + 1):
         yield "settle 1"

@@ -169,21 +169,27 @@ def products(given):
         cost = {it: taken(make(it, lines)) - taken(make(it, 0)) for it in (few, n)}
         return (cost[n] - cost[few]) / lines / (n - few)
 
-    def between(make):
-        return (taken(make(True)) - taken(make(False))) / lines / n
+    def later(make):
+        """What lines take after so many others, beside the same script without them."""
+        return taken(make(n, lines)) - taken(make(n, 0))
 
-    yield "`ask` by a prefix", each(slope(lambda k, more: scripts.asked_by_prefix(k, more, asked))), \
+    def moved(make):
+        """What lines take by which entries move, less as many by which none does."""
+        return taken(make(n, lines, True)) - taken(make(n, lines, False))
+
+    yield "`ask` by a prefix", each(slope(lambda *k: scripts.asked_by_prefix(*k, asked))), \
         "part that the member holds whose name begins with it, at each line"
     yield "`told`", each(slope(scripts.told)), "entry of the member's catalogue, at each line"
-    yield "`publish`", each(between(lambda first: scripts.published_before(n, lines, first))), \
+    published = moved(scripts.published_before)
+    yield "`publish`", each(published / lines / n), \
         "entry of the member's catalogue that stands after the new one, at each line"
-    yield "`settle` with one publication that is new", \
-        each(between(lambda first: scripts.settled_before(n, lines, first)) / 2), \
-        "entry of a catalogue that stands after a new one, at each phase that brings one, for each member"
+    settled = moved(scripts.settled_before) - published
+    yield "`settle` that brings one publication", each(settled / 2 / lines / n), \
+        "entry of a member's catalogue that stands after the new one, at each line, for each member"
     yield "`delete` of a name that is listed, but not by the first entry", \
-        each(between(lambda second: scripts.deleted(n, lines, not second))), "entry that stands after, at each line"
-    yield "the same, once somebody asked by name", \
-        each(between(lambda asks: scripts.deleted(n, lines, False, by_name if asks else None))), \
+        each(moved(scripts.deleted) / lines / n), "entry that stands after, at each line"
+    asking = later(lambda *k: scripts.deleted(*k, True, by_name)) - later(lambda *k: scripts.deleted(*k, True))
+    yield "`delete`, once somebody asked by name", each(asking / lines / n), \
         "part that the member holds, at each line, besides"
     yield "`settle`", each(slope(scripts.lost)), \
         "part that 15 members and 4 mirrors want and nobody has, at each line, for all of them together"
