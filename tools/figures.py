@@ -5,9 +5,10 @@
 
 Without names it makes all tables but `live`, which wants the program `ndnlive` besides. With --write the tables in the
 two documents are replaced by these, where a comment names them, each as soon as it is made. A run of `costs` that would
-take more than N seconds (12 by default, and 6 times as long for a settle) is left out. Instructions are counted by
-`valgrind --tool=callgrind`; where there is none the tables that need it are left out. All takes some ten minutes on a
-machine that does other work beside, and at most 3.5 GB of memory; `nice -n 10` before it lets others go first.
+take more than N seconds (12 by default, 6 times as long for a settle, and less once 30 times as long is over) is left
+out. Instructions are counted by `valgrind --tool=callgrind`; where there is none the tables that need it are left out.
+All takes some ten minutes on a machine that does other work beside, and at most 3.5 GB of memory; `nice -n 10` before
+it lets others go first. The exit status is 1 where a table wasn't made.
 
     machine        seconds for a fixed load, by which two machines can be compared
     scripts        time and memory of some scripts
@@ -28,6 +29,8 @@ import re
 import subprocess
 import sys
 import tempfile
+import time
+import traceback
 
 sys.dont_write_bytecode = True
 import costs
@@ -71,7 +74,7 @@ def each(n):
 
 @table("what", "measured")
 def machine(given):
-    yield "SHA-256 of 256 MB, by Python's hashlib, in one thread", seconds(measured.machine())
+    yield "SHA-256 of 100 MB, by Python's hashlib, in one thread", seconds(measured.machine())
     yield "processors; their kind", f"{os.cpu_count()}; {platform.machine()}"
     yield "other work beside, as processes that wait for a processor (mean of a minute)", f"{os.getloadavg()[0]:.1f}"
 
@@ -232,10 +235,12 @@ def random(given):
 
 @table(*costs.HEADS)
 def costs_table(given):
-    for name in costs.KINDS:
-        # One settle is one line: the whole is what somebody can ask for, so it is given more time.
-        more = 6 if name.startswith("settle") else 1
-        yield costs.measure(name, given.program, more * given.seconds)
+    # One settle is one line: the whole is what somebody can ask for, so settles come first and are given more time.
+    names = sorted(costs.KINDS, key=lambda name: not name.startswith("settle"))
+    until = time.monotonic() + 30 * given.seconds
+    for name in names:
+        most = given.seconds * (6 if name.startswith("settle") else 1)
+        yield costs.measure(name, given.program, max(min(most, (until - time.monotonic()) / 4), 1))
 
 
 @table("what", "printed")
@@ -286,6 +291,7 @@ def main():
     for name in given.tables:
         if name not in TABLES:
             asked.error(f"no table {name}; there are {', '.join(ORDER)}")
+    failed = 0
     for name in given.tables or ORDER:
         if name == "live" and not given.tables:
             continue
@@ -293,12 +299,19 @@ def main():
             print(f"{name}: there is no valgrind", file=sys.stderr)
             continue
         print(f"\n{name}\n", flush=True)
-        lines = []
-        for line in made(name, given):
-            print(line, flush=True)
-            lines.append(line)
+        began, lines = time.monotonic(), []
+        try:
+            for line in made(name, given):
+                print(line, flush=True)
+                lines.append(line)
+        except Exception:
+            traceback.print_exc()
+            failed += 1
+            continue
+        print(f"{name}: {time.monotonic() - began:.0f} s", file=sys.stderr, flush=True)
         if given.write:
             write(name, lines)
+    sys.exit(1 if failed else 0)
 
 
 if __name__ == "__main__":

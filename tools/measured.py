@@ -128,11 +128,11 @@ def functions_of(counts):
 
 
 def machine():
-    """The least seconds of three in which Python's hashlib takes SHA-256 of 256 MB: a measure of the machine."""
+    """The least seconds of three in which Python's hashlib takes SHA-256 of 100 MB: a measure of the machine."""
     octets, least = bytes(1_000_000), float("inf")
     for _ in range(3):
         digest, began = hashlib.sha256(), time.process_time()
-        for _ in range(256):
+        for _ in range(100):
             digest.update(octets)
         least = min(least, time.process_time() - began)
     return least
