@@ -26,6 +26,7 @@ import os
 import pathlib
 import platform
 import re
+import shlex
 import subprocess
 import sys
 import tempfile
@@ -226,8 +227,9 @@ def refusals(given):
 def random(given):
     for words in (["--seed", "1", "--count", "100"], ["--inspect", "--seed", "1", "--count", "300"]):
         with tempfile.TemporaryDirectory() as room:
-            ran = subprocess.run([sys.executable, TOP / "tools/fuzz.py", "--program", f"{given.program}", "--keep", room,
-                                  *words], capture_output=True, text=True)
+            program = f"{shlex.quote(given.program)} {'inspect' if '--inspect' in words else 'run'}"
+            ran = subprocess.run([sys.executable, TOP / "tools/fuzz.py", "--program", program, "--keep", room, *words],
+                                 capture_output=True, text=True)
         print(ran.stderr, end="", file=sys.stderr)
         n, differ, ends = re.search(r"(\d+) scripts, (\d+) differ; ends by status: \{(.*)\}", ran.stdout).groups()
         yield f"`tools/fuzz.py {' '.join(words)}`", n, differ, ends
