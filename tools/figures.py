@@ -134,12 +134,9 @@ def instructions(given):
 
 
 def crate_of(function):
-    """The crate that a function stands in, or what else it is of."""
-    name = function.split("'")[0]
-    found = re.match(r"<*&*(?:mut )?([a-z][a-z0-9_]*)(?:::|\.|\$)", name)
-    if found:
-        return found.group(1)
-    return "the C library and the system"
+    """The crate that a function stands in: its path begins with the crate's name. Functions of C have no path."""
+    found = re.match(r"[<&(\[]*(?:mut |dyn )?([a-z][a-z0-9_]*)::", function)
+    return found.group(1) if found else "the C library and the system"
 
 
 @table("crate", "million instructions", "of 100")
