@@ -1,9 +1,10 @@
 #!/usr/bin/env python3
-"""gate_cost.py [COMMAND ..]: runs the command, `rt ci --anew` where none is named, and prints what each crate costs it.
+"""gate_cost.py [COMMAND ..]: runs the command, `rt ci` where none is named, and prints what each crate costs it.
 gate_cost.py --beside PID: the same of a run that has begun already, from now until it ends.
 
 Costs are minutes of processor time. The processes that prove are looked at twice a second, so each counts for up to
-half a second less than it took. What an earlier run proved and kept costs nothing: `--anew` proves all.
+half a second less than it took. With a kit whose `rt ci` keeps what an earlier run proved, that costs nothing: name
+`rt ci --anew` there.
 """
 import argparse
 import os
@@ -119,9 +120,9 @@ def print_table(minutes, total):
 def main():
     words = argparse.ArgumentParser(description=__doc__, formatter_class=argparse.RawDescriptionHelpFormatter)
     words.add_argument("--beside", type=int, metavar="PID", help="a run that has begun")
-    words.add_argument("command", nargs=argparse.REMAINDER, help="rt ci --anew where there is none")
+    words.add_argument("command", nargs=argparse.REMAINDER, help="rt ci where there is none")
     said = words.parse_args()
-    begun = None if said.beside else subprocess.Popen(said.command or ["rt", "ci", "--anew"])
+    begun = None if said.beside else subprocess.Popen(said.command or ["rt", "ci"])
     costs, status, total = Costs(said.beside or begun.pid), 0, 0.0
     try:
         while True:
