@@ -36,7 +36,7 @@ def once(name, n, program, seconds):
         lines, octets = measured.lines_into(make(n), script)
         if lines > 100_000 or octets > 16_777_216:
             sys.exit(f"{name}: a script of {lines} lines and {octets} octets")
-        took = measured.least(program, [words], script, seconds=3 * seconds)
+        took = measured.least(program, [words], script, seconds=3 * seconds + 5)
         if took.status != wanted:
             print(f"{name}: a run of {n} ended with {took.status} after {took.time():.2f} s", file=sys.stderr)
         return took

@@ -5,10 +5,10 @@
 
 Without names it makes all tables but `live`, which wants the program `ndnlive` besides. With --write the tables in the
 two documents are replaced by these, where a comment names them, each as soon as it is made. A run of `costs` that would
-take more than N seconds (12 by default, 6 times as long for a settle, and less once 30 times as long is over) is left
+take more than N seconds (12 by default, 5 times as long for a settle, and less once 20 times as long is over) is left
 out. Instructions are counted by `valgrind --tool=callgrind`; where there is none the tables that need it are left out.
-All takes some ten minutes on a machine that does other work beside, and at most 3.5 GB of memory; `nice -n 10` before
-it lets others go first. The exit status is 1 where a table wasn't made.
+All takes some eight minutes of processor time, one run after the other, and at most 3.5 GB of memory. The exit status
+is 1 where a table wasn't made.
 
     machine        seconds for a fixed load, by which two machines can be compared
     scripts        time and memory of some scripts
@@ -236,10 +236,10 @@ def random(given):
 def costs_table(given):
     # One settle is one line: the whole is what somebody can ask for, so settles come first and are given more time.
     names = sorted(costs.KINDS, key=lambda name: not name.startswith("settle"))
-    until = time.monotonic() + 30 * given.seconds
+    until = measured.spent() + 20 * given.seconds
     for name in names:
-        most = given.seconds * (6 if name.startswith("settle") else 1)
-        yield costs.measure(name, given.program, max(min(most, (until - time.monotonic()) / 4), 1))
+        most = given.seconds * (5 if name.startswith("settle") else 1)
+        yield costs.measure(name, given.program, max(min(most, (until - measured.spent()) / 4), 1))
 
 
 @table("what", "printed")

@@ -5,7 +5,6 @@ import pathlib
 import re
 import resource
 import shutil
-import signal
 import subprocess
 import tempfile
 import time
@@ -41,27 +40,20 @@ def lines_into(lines, file):
 
 
 def run(program, words, script, seconds=300.0):
-    """A run over this script. One that isn't done after so many seconds is ended, by SIGKILL."""
+    """A run over this script. One that takes more than so many seconds of processor time is ended."""
     with tempfile.NamedTemporaryFile() as report:
         began = time.monotonic()
         child = os.fork()
         if child == 0:
             try:
                 resource.setrlimit(resource.RLIMIT_AS, (ROOM, ROOM))
+                resource.setrlimit(resource.RLIMIT_CPU, (int(seconds) + 1, int(seconds) + 2))
                 os.dup2(os.open(script, os.O_RDONLY), 0)
                 os.dup2(os.open(report.name, os.O_WRONLY | os.O_TRUNC), 1)
                 os.execv(program, [program, *words])
             finally:
                 os._exit(127)
-        while True:
-            ended, status, used = os.wait4(child, os.WNOHANG)
-            if ended:
-                break
-            if time.monotonic() - began > seconds:
-                os.kill(child, signal.SIGKILL)
-                _, status, used = os.wait4(child, 0)
-                break
-            time.sleep(0.002)
+        _, status, used = os.wait4(child, 0)
         return Took(os.waitstatus_to_exitcode(status), used.ru_utime, used.ru_stime, time.monotonic() - began,
                     used.ru_maxrss * 1024 / 1e6, os.path.getsize(report.name) / 1e6)
 
@@ -85,6 +77,12 @@ def run_lines(program, lines, enough=0.5):
         if took.status:
             raise RuntimeError(f"a run ended with {took.status} after {took.time():.2f} s")
         return took
+
+
+def spent():
+    """The seconds of processor time that all runs so far have taken."""
+    used = resource.getrusage(resource.RUSAGE_CHILDREN)
+    return used.ru_utime + used.ru_stime
 
 
 def counts_instructions():
