@@ -253,7 +253,7 @@ def live(given):
 
 for given_name, name in (("scripts", "scripts_table"), ("costs", "costs_table")):
     TABLES[given_name] = TABLES.pop(name)
-ORDER = ["machine", "scripts", "crates", "costs", "products", "instructions", "settles", "refusals", "random", "live"]
+ORDER = ["machine", "scripts", "crates", "products", "settles", "instructions", "costs", "random", "refusals", "live"]
 COUNTED = {"instructions", "crates", "products"}
 
 
