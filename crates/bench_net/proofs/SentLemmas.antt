@@ -19,7 +19,7 @@ use Rattle.bench_net.specs.SentFields.{lists_of, packets_of, is_reported, Report
 use Rattle.bench_net.proofs.Places.{place-map, position-map, insert_key-map, any_within, place_found, place_missing}
 use Rattle.bench_net.proofs.Places.{found_at, missing_at}
 
--- A vector put in among those that were reported of, which is number i of them then.
+-- A vector put in among those that were sent, which is number i of them then.
 pub record PutIn (ks more : List (List ℕ)) (w : List ℕ) (i : ℕ) : Type 0 where
   pub longer : length ks ≤ length more
   pub within : i < length more

@@ -1,4 +1,4 @@
--- How what was sent is kept: each vector that was reported of once, and each packet with its vector's number.
+-- How what was sent is kept: each different vector once, and each packet with its vector's number.
 use Rattle.std.specs.Prelude.{◌≡◌, ℕ, ◌+◌, ◌<◌, ◌≤◌, Bool, false, List, [], map, length, slice_index_or, Vec}
 use Rattle.std.specs.Prelude.{vec_capacity, position, ◌==◌, ◌&&◌}
 use Rattle.std.specs.List.{list_any, All}

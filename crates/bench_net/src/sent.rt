@@ -9,7 +9,7 @@ use std::marker::Model;
 #[derive(Drop)]
 struct Packet {
     sender: u32,
-    // The vector's number among those that were reported of.
+    // The vector's number among those that were sent.
     vector: usize,
     octets: Vec<u8>,
 }
@@ -20,9 +20,9 @@ struct Packet {
 /// a time that doesn't grow with the list.
 pub struct Sent {
     packets: Vec<Packet>,
-    // Each vector that was reported of, once.
+    // Each vector that was sent, once.
     vectors: IndexSet<Vec<u16>>,
-    // Who reported of which, by the vector's number.
+    // Who sent which, by the vector's number.
     reported: IndexSet<(u32, usize)>,
     spare: usize,
 }

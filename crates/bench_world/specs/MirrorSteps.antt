@@ -20,7 +20,7 @@ no_mirror = mirror_opening (record { publisher = None; prefix = [] }) 0
 abbrev pub mirror_at : List MirrorState → ℕ → MirrorState
 mirror_at mirrors i = slice_index_or mirrors i no_mirror
 
--- It is given a vector.
+-- It hears a vector.
 abbrev pub mirror_learns : List ℕ → MirrorState → MirrorState
 mirror_learns reported m = record m { known = join m.known reported }
 

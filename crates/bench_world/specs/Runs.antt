@@ -50,8 +50,8 @@ abbrev pub JoinsAfter : EventValue → World → Type 0
 JoinsAfter (EventValue.Settle workers) w = NothingHidden w → AllJoined w
 JoinsAfter _ w = Unit {0}
 
--- What an event comes to, by what refuses it and what is to become of the world and to be reported: where nothing
--- refuses it, these; else why it isn't taken.
+-- How an event ends, by what may refuse it, the world after it and what is reported: where nothing refuses it, this
+-- world and this report; else why it isn't taken.
 pub record ComesTo (why : Option Refusal) (then : World) (what : Reported) (e : EventValue) (old : GroupState)
     (result : Result Happened EventError) (new : GroupState) : Type 0 where
   pub taken : OnOk result (why ≡ None)
@@ -64,7 +64,7 @@ pub record ComesTo (why : Option Refusal) (then : World) (what : Reported) (e : 
   pub refused : IfErr result (IsFaultOf why)
   pub err : OnErr result (StandsAsBefore e old new)
 
--- A step is what the model makes of the world, reports it and refuses.
+-- A step is what the model makes of the world, reports and refuses.
 abbrev pub IsStep : Environment → EventValue → GroupState → Result Happened EventError → GroupState → Type 0
 IsStep out e old result new =
     ComesTo (refusal out (world_of old) (group_event old.keys e))

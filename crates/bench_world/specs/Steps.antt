@@ -105,7 +105,7 @@ HearNamesMember n (hear.Sync refusal) = SyncNamesMember n refusal
 HearNamesMember n (hear.OwnNumberAhead own reported) = Unit {0}
 HearNamesMember n hear.NoMemory = ⊥
 
--- Each number that stands for a member is that of one of so many. Where all are reported of, they stand in order, each
+-- Each number that stands for a member is that of one of so many. Where all are named, they stand in order, each
 -- with a number, or with its sums.
 abbrev pub NamesAll : ℕ → Reported → Type 0
 NamesAll n Reported.Nothing = Unit {0}

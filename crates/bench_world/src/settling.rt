@@ -18,7 +18,7 @@ use std::thread::Threads;
 
 /// All claims end, each member tells what it knows and learns what all know, and each gathers what the others store.
 ///
-/// The answer is what was reported, how many parts came, and how many octets.
+/// The answer has the sync Interests of all members, how many parts came, and how many octets.
 pub(crate) fn settle_members<N: Net + Sync, R: Threads + Sync>(
     rt: &R,
     alloc: Global,
@@ -47,7 +47,7 @@ pub(crate) fn settle_members<N: Net + Sync, R: Threads + Sync>(
     Ok((reported, parts, octets))
 }
 
-/// What was reported is sent, for which room was made.
+/// The members' sync Interests are sent, for which room was made.
 pub(crate) fn send_all(sent: &mut Sent, reported: Vec<MemberSync>)
     requires room { vec_len reported ≤ sent.old.spare }
     requires few { length sent.old.packets + vec_len reported < 4294967295 }

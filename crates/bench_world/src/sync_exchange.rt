@@ -70,7 +70,7 @@ pub(crate) fn learn_all(known: &Vector, members: &mut Vec<Member>)
 {
     for member in members.iter_mut() {
         member.end_claims();
-        // What all know says of no publication of a member that it didn't make.
+        // What all know has no publication of a member that it didn't make.
         member.join_vector(known);
     }
 }

@@ -26,7 +26,7 @@ pub struct Board<T> {
     alloc: Global,
 }
 
-// What is fixed of it. The words and places are in many hands, and no contract can tell what they are at a time.
+// What is fixed of it. All seats change words and places, so no contract can say what these are.
 impl<T> Model for Board<T> {
     ghost use Rattle.fetch_board.specs.Seats.{BoardTerms};
 

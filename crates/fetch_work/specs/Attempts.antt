@@ -33,7 +33,7 @@ checked_reply want ring None = None
 checked_reply want ring (Some octets) = if_passed (ring_verdict want ring octets) (checked_part want ring octets)
 
 -- What an attempt at the job brings after so many others in the same phase, where a link gives these
--- answers. After `base` attempts of earlier phases the link is informed of it as the next.
+-- answers. The link is given its number: after `base` attempts of earlier phases, the next.
 abbrev pub brings : (WantedPart → ℕ → Option (List ℕ)) → List NamedKey → Job → ℕ → Option CheckedPart
 brings answer ring job before = checked_reply job.want ring (answer job.want (job.base + before + 1))
 

@@ -60,7 +60,7 @@ if_idle_or_foreign None came = Some Refusal.FetcherIdle
 if_idle_or_foreign (Some t) Another = Some Refusal.Foreign
 if_idle_or_foreign (Some t) _ = None
 
--- A vector that tells too much of the member itself is informed of before.
+-- A vector that reports too many publications of the member itself is refused for that, and not as foreign.
 abbrev pub if_unsent : World → ℕ → Option SyncInterest → Option Refusal
 if_unsent w j None = None
 if_unsent w j (Some sync) = if reports_too_much w j sync then None else unless (has_sent w sync) Refusal.Foreign

@@ -58,7 +58,7 @@ pub record TrafficOutcome : Type 0 where
   pub octets : ℕ
 
 -- Of octets that are a sync Interest, the member's mode afterwards; or how many publications it has made, and the
--- number beyond them that it was informed.
+-- greater number that the vector has of it.
 abbrev pub HearOutcome : Option SyncInterest → Type 0
 HearOutcome None = Unit {0}
 HearOutcome (Some sync) = Result Mode (ℕ × ℕ)

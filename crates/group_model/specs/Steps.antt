@@ -109,7 +109,8 @@ after_came out w j f (Some t) Another = after_part out w j f t
 abbrev pub settled_vector : World → List ℕ
 settled_vector w = join_all (map (λ m. m.known) w.members)
 
--- A part that is reported of then, isn't hidden, is held by someone, with its record, and isn't held yet.
+-- A part of a publication that is known then and isn't hidden, which someone holds, with its record, and which isn't
+-- held yet.
 abbrev pub comes_to : World → Member → Part → Bool
 comes_to w m t =
     nat_le t.seq (slice_index (settled_vector w) t.publisher)

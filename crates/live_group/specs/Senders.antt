@@ -19,7 +19,7 @@ pub record OpenedView : Type 0 where
   pub inbox : InboxView
   pub ports : List (PortView (List ℕ))
 
--- The octets went into the inbox, after all others; or it was full at one time of the call, and nothing changed.
+-- The octets went into the inbox, after all others; or it was full at some time during the call, and nothing changed.
 abbrev pub Tells : List ℕ → SenderView → SenderView → Type 0
 Tells octets old new =
     (new ≡ record old { port = puts octets old.port }) ⊎ ((new ≡ old) × Held old.inbox.capacity (HeldOf old.port))

@@ -22,7 +22,7 @@ pub struct Inbox<T> {
     queue: Queue<T>,
 }
 
-// What is fixed of it. What it holds at a time is in many hands, and no contract can tell.
+// What is fixed of it. Many threads change what it holds, so no contract can say what that is.
 impl<T> Model for Inbox<T> {
     ghost use Rattle.crossbeam_queue.specs.Passes.{ruled_capacity};
     ghost use Rattle.live_inbox.specs.Ends.{InboxView};

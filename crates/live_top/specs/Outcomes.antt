@@ -18,7 +18,7 @@ outcome_after others line (refused why) = Refused line why
 outcome_after others line (takes next) = others next
 outcome_after others line unjudged = Unjudged
 
--- What lines come to after those before them.
+-- What is decided of lines, after those before them.
 unfoldable pub outcome_from : Reached → List (List ℕ) → Outcome
 outcome_from r [] = Taken r
 outcome_from r (line ∷ others) = outcome_after (λ next. outcome_from next others) (r.lines + 1) (judged r line)

@@ -32,7 +32,7 @@ fn is_steady(rt: &impl Abort, machine: &Machine, due: u64, next_draw: u64) {
     same(rt, machine.next_draw(), next_draw, "steady");
 }
 
-// What a member of two knows, or is reported, of publications of the first.
+// What a member of two knows, or hears, of publications of the first.
 fn vector(rt: &(impl Abort + AllocGlobal), seq: u16) -> Vector
     ensures { length result ≡ 2 }
 {
@@ -41,7 +41,7 @@ fn vector(rt: &(impl Abort + AllocGlobal), seq: u16) -> Vector
     vector
 }
 
-// A member that knows of one publication is reported of none at time 10, with draw 302.
+// A member that knows of one publication hears of none at time 10, with draw 302.
 #[test]
 fn a_member_that_others_do_not_tell_for_sends(rt: HostRuntime) {
     let known = vector(&rt, 1);
@@ -72,7 +72,7 @@ fn sends(rt: &impl Abort, machine: &mut Machine, known: &Vector)
     same(rt, machine.fired(111, known, 0), Fired::Send, "at 111");
 }
 
-// A member that knows of two publications is reported of one at time 0, and then of both. Each draw
+// A member that knows of two publications hears of one at time 0, and then of both. Each draw
 // is 100.
 #[test]
 fn a_member_that_others_tell_for_is_quiet(rt: HostRuntime) {

@@ -66,7 +66,7 @@ pub fn taken_commands_are_within_limits()
         → IsTrue (is_command command) × (client < length ring) }
 {}
 
-/// A refusal that octets get is reported by them, and is never out of memory: each has its status code.
+/// The refusal of octets follows from the octets, and is never out of memory: each has its status code.
 pub fn command_refusals_are_of_the_octets()
     ensures { (node : List Component) (ring : List NamedKey) (octets : List ℕ)
         → IfErr (command_verdict node ring octets) (λ refusal. refusal ≢ NoMemory) }

@@ -42,7 +42,7 @@ pub listing_sized : (o : Option (List ℕ)) (l : Listed) → option_and_then lis
 listing_sized None l h = absurd cc
 listing_sized (Some octets) l h = reported_sized octets (Lists l) (listing_says (Some octets) l h)
 
--- what is reported of a record that is reported of so
+-- the summary of a record that has it
 pub shape_sized : (octets : List ℕ) (summary : RecordSummary) → option_map summary_of (stated_in octets) ≡ Some summary
     → IsShape (summary_shape summary)
 shape_sized octets summary h = go (stated_in octets) refl h where

@@ -20,7 +20,7 @@ changed Nothing entries = entries
 changed (Lists e) entries = with_entry e entries
 changed (Removes publisher seq) entries = without (publisher, seq) entries
 
--- whether a publication is withdrawn by what is reported of another
+-- whether a publication is withdrawn by what is said of another
 abbrev pub withdraws_too : Pair → Option RecordSummary → Pair → Bool
 withdraws_too pair None q = false
 withdraws_too pair (Some (Object shape name)) q = false
@@ -31,7 +31,7 @@ abbrev pub lists_entry : Option Entry → Change
 lists_entry None = Nothing
 lists_entry (Some e) = Lists e
 
--- what changes by what is reported newly of a publication: what it withdraws is removed, unless that was withdrawn
+-- what changes by what is newly said of a publication: what it withdraws is removed, unless that was withdrawn
 -- before, and else its own entry is listed, if there is one
 abbrev pub change_by : List Pair → Pair → Option RecordSummary → Option Entry → Change
 change_by withdrawn pair None entry = lists_entry entry

@@ -1,4 +1,4 @@
--- Digests of publications' contents that are reported before their entries are made.
+-- Digests of publications' contents that are given before their entries are made.
 use Rattle.std.specs.Prelude.{◌≡◌, ℕ, List, length, IfSome}
 use Rattle.sha2.specs.Sha256.{sha256}
 use Rattle.repo_catalog.specs.declared.entry.Entry.{Entry}
@@ -11,11 +11,11 @@ pub record IsOver (contents : List ℕ) (e : Entry) : Type 0 where
   pub octets : e.octets ≡ length contents
   pub digest : e.digest ≡ sha256 contents
 
--- an entry has the number of octets and the digest that are reported
+-- an entry has the number of octets and the digest that are given
 pub record IsToldBy (d : ContentsDigest) (e : Entry) : Type 0 where
   pub octets : d.octets ≡ e.octets
   pub digest : d.digest ≡ e.digest
 
--- what is reported is true of the publication, where it is stored wholly
+-- what is given is right for the publication, where it is stored whole
 abbrev pub IsDigestIn : List Packet → ContentsDigest → Type 0
 IsDigestIn packets d = IfSome (whole_at packets (d.publisher, d.seq)) (IsToldBy d)

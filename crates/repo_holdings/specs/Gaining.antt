@@ -20,8 +20,8 @@ use Rattle.repo_holdings.specs.Listed.{stored_at, stated_at, listed_shape, shape
 use Rattle.repo_holdings.specs.StoredParents.{lists_at, ListsAsMany}
 use Rattle.repo_holdings.specs.Noted.{NotesState, AreNotes}
 
--- a plan holds what is stored, and knows what the stored records tell; after each stored part stands a stored record,
--- and each stored index packet lists as many digests as it has to
+-- a plan holds what is stored, and knows what the stored records say; the record of each stored part is stored, and
+-- each stored index packet lists as many digests as it must
 pub record AreTied (plan : PlanState) (packets : List Packet) : Type 0 where
   pub in_order : Rises part_cmp (keys packets)
   pub held : plan.held ≡ keys packets

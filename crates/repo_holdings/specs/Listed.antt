@@ -50,7 +50,7 @@ stated_at packets pair = option_and_then stated_in (stored_at packets pair 0)
 abbrev pub listing_at : List Packet → Pair → Option Listed
 listing_at packets pair = option_and_then listing_in (stored_at packets pair 0)
 
--- by publication, which parts each stored record reports
+-- by publication, which parts there are, as each stored record says
 abbrev pub shapes_in : List Packet → List (Pair × Shape)
 shapes_in packets = kept_values (λ pair octets. option_map shape_stated (stated_in octets)) (records_in packets)
 

@@ -30,8 +30,8 @@ ListInTurn l x [] = Unit {0}
 ListInTurn l x (octets ∷ more) =
     ListsAsMany octets (option_and_then (index_count x) l) × ListInTurn l (x + 1) more
 
--- the packets of a publication that is reported of so, the record, the index packets, and then the segments: the first
--- is a record that tells this, and the others are those after it
+-- the packets of a publication with this summary, the record, the index packets, and then the segments: the first is
+-- a record that says this, and the others are those after it
 abbrev pub ArePackets : RecordSummary → List (List ℕ) → Type 0
 ArePackets summary [] = ⊥
 ArePackets summary (octets ∷ following) =

@@ -16,7 +16,7 @@ joined pieces = flat_map (λ piece. piece.now) pieces
 abbrev pub AreContentsIn : List Packet → Pair → List (Bor (List ℕ)) → Type 0
 AreContentsIn packets pair contents = IfSome (whole_at packets pair) (IsOver (joined contents))
 
--- the same of a publication that is reported with its contents, whose octets a `u64` counts
+-- the same of a publication that is given with its contents, whose octets a `u64` counts
 pub record IsWholeIn (packets : List Packet) (w : Whole) : Type 0 where
   pub contents : AreContentsIn packets (w.publisher, w.seq) w.contents.items
   pub few : length (joined w.contents.items) < 2 ^ 64

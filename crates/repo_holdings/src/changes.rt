@@ -42,8 +42,8 @@ impl Change {
     }
 }
 
-// Notes what is reported newly of a publication, for which there is room, and tells what changes in the catalogue.
-// Digests over contents that are reported aren't taken again.
+// Notes what is newly said of a publication, for which there is room, and answers what changes in the catalogue.
+// Digests over contents that are given aren't made again.
 pub(crate) fn change_by_summary(
     plan: &Plan,
     store: &Store,

@@ -24,7 +24,7 @@ pub struct ContentsDigest {
 }
 
 // How many octets the contents of an object that is stored wholly have together, and their digest: as they are given,
-// or else as they are found now. A digest is found among those that are reported where these are in order.
+// or else as they are found now. A digest is found among those that are given where these are in order.
 pub(crate) fn reported_or_taken(
     store: &Store,
     publisher: u32,

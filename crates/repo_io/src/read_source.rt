@@ -8,7 +8,8 @@ use crate::source::Source;
 use std::io::{ErrorKind, Read};
 use std::marker::Model;
 
-/// A source over a reader. It tells what the reader says of its octets: a slice all of them, standard input nothing.
+/// A source over a reader. Contracts know of its octets what they know of the reader's: all of a slice, and nothing of
+/// standard input.
 #[derive(Debug, Drop)]
 pub struct ReadSource<R: Read> {
     reader: R,

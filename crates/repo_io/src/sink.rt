@@ -12,7 +12,7 @@ pub trait Sink {
     /// How many calls failed, or took nothing of a piece. The count stays at 18,446,744,073,709,551,615.
     ghost faults: { Self → ℕ };
 
-    /// Takes octets from the start of the piece, and tells how many.
+    /// Takes octets from the start of the piece, and answers how many.
     fn write(&mut self, piece: &[u8]) -> Result<usize, Failed>
         ensures count { IfOk result (λ n. n ≤ length piece.now) }
         ensures given { IfOk result (λ n. Appends (out self.old) (out self.new) (take n piece.now)) }

@@ -8,7 +8,7 @@ use crate::sink::Sink;
 use std::alloc::Global;
 use std::marker::Model;
 
-/// A sink that keeps what it takes, for tests: it takes small pieces, and fails where it is reported to.
+/// A sink that keeps what it takes, for tests: it takes small pieces, and fails where it is asked to.
 #[derive(Debug, Drop)]
 pub struct VecSink {
     octets: Vec<u8>,

@@ -6,7 +6,7 @@ use crate::failed::Failed;
 use crate::source::Source;
 use std::marker::Model;
 
-/// A source over octets in memory, for tests: it gives small pieces, and fails where it is reported to.
+/// A source over octets in memory, for tests: it gives small pieces, and fails where it is asked to.
 #[derive(Debug, Drop)]
 pub struct VecSource {
     octets: Vec<u8>,

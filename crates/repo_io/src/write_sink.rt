@@ -8,7 +8,8 @@ use crate::sink::Sink;
 use std::io::{ErrorKind, Write};
 use std::marker::Model;
 
-/// A sink over a writer. It tells what the writer says of its octets: a vector all of them, standard output nothing.
+/// A sink over a writer. Contracts know of its octets what they know of the writer's: all of a vector, and nothing of
+/// standard output.
 #[derive(Debug, Drop)]
 pub struct WriteSink<W: Write> {
     writer: W,

@@ -56,7 +56,7 @@ abbrev pub CompletesAnObject : BlockState → Type 0
 CompletesAnObject (Whole p) = IsObject (object_of p)
 CompletesAnObject _ = Unit {0}
 
--- What is reported of a block is what it comes to.
+-- The answer to a block says what was done with it.
 abbrev pub ReportsBlock : GroupKeys → (old new : MemberState) → BlockState → Blocked → Type 0
 ReportsBlock g old new Unknown blocked.Unknown = Unit {0}
 ReportsBlock g old new Already blocked.Already = Unit {0}

@@ -125,7 +125,7 @@ after_calls g (call ∷ calls) a = after_calls g calls (after_call g call a)
 
 -- ---- which calls can be made
 
--- A vector that a member can be reported: it has a number for each member, and reports no more publications of this one
+-- A vector that a member can hear: it has a number for each member, and reports no more publications of this one
 -- than it made.
 pub record CanBeReported (a : MemberState) (reported : List ℕ) : Type 0 where
   pub width : length reported ≡ length a.known
@@ -212,7 +212,7 @@ abbrev pub NumbersNeverFall : Type 0
 NumbersNeverFall = (g : GroupKeys) (calls : List MemberCall) (a : MemberState) (p : ℕ) → IsMemberState a
     → slice_index a.known p ≤ slice_index (after_calls g calls a).known p
 
--- The vector that a call reported the member, if it took one.
+-- The vector that the member heard in a call, if it took one.
 abbrev pub vector_taken : Result (List ℕ) HearRefusal → List (List ℕ)
 vector_taken (Ok reported) = reported ∷ []
 vector_taken (Err refusal) = []
@@ -224,12 +224,12 @@ vector_of_call g a (JoinFrom octets) = vector_taken (hear_verdict g a octets)
 vector_of_call g a (JoinVector reported) = vector_taken (vector_verdict a reported)
 vector_of_call g a _ = []
 
--- The vectors that calls reported it, in order.
+-- The vectors that it heard in calls, in order.
 abbrev pub vectors_reported : GroupKeys → List MemberCall → MemberState → List (List ℕ)
 vectors_reported g [] a = []
 vectors_reported g (call ∷ calls) a = vector_of_call g a call ++ vectors_reported g calls (after_call g call a)
 
--- A member knows the join of what it knew and of what it was reported, and of itself how many objects it published.
+-- A member knows the join of what it knew and of what it heard, and of itself how many objects it published.
 abbrev pub KnownIsTheJoin : Type 0
 KnownIsTheJoin = (g : GroupKeys) (calls : List MemberCall) (a : MemberState) → IsMemberState a
     → (after_calls g calls a).known

@@ -155,7 +155,7 @@ BlockIsEvent = (out : Environment) (w : World) (j process index : ℕ) (content 
 
 -- ---- a settle
 
--- What vectors make of a member of which its machine isn't informed.
+-- What vectors make of a member, where its machine isn't informed of them.
 abbrev pub learns_all : List (List ℕ) → MemberState → MemberState
 learns_all [] a = a
 learns_all (reported ∷ others) a = learns_all others (member_learns reported a)

@@ -20,7 +20,7 @@ abbrev pub sync_of : GroupKeys → ℕ → List ℕ → List ℕ
 sync_of g number vector =
     sync_interest g.name vector g.members.names (key_name (node_at g number)) (member_key g number)
 
--- a vector that is reported, unless it reports more publications of the member than it made
+-- a vector that is heard, unless it reports more publications of the member than it made
 abbrev pub vector_verdict : MemberState → List ℕ → Result (List ℕ) HearRefusal
 vector_verdict a reported =
     if nat_lt (length a.log) (slice_index reported a.number)

@@ -130,7 +130,7 @@ pub fn publications_last()
 {}
 
 /// No number that a member knows falls, whatever is called. What it knows is the join of what it knew and of the
-/// vectors that it was reported and took; of itself it knows how often it published.
+/// vectors that it heard and took; of itself it knows how often it published.
 pub fn vectors_only_rise()
     ensures rise { NumbersNeverFall }
     ensures join { KnownIsTheJoin }
@@ -213,7 +213,7 @@ pub fn claimed_parts_are_accepted()
     ensures taken { TakesTheConsistent }
 {}
 
-/// A member begins so, and stays so whatever it does, as long as what it is reported and what it takes is what was
+/// A member begins so, and stays so whatever it does, as long as what it hears and what it takes is what was
 /// published.
 pub fn consistent_members_stay_consistent()
     ensures begins { BeginsConsistent }

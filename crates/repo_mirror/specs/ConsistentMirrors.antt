@@ -61,7 +61,7 @@ abbrev pub MirrorsBeginConsistent : Type 0
 MirrorsBeginConsistent =
     (g : GroupKeys) (logs : Logs) (pattern : Pattern) → IsConsistentMirror g logs (mirror_opening pattern (length logs))
 
--- It stays so where it is given a vector that reports no publication that there isn't.
+-- It stays so where it hears a vector that reports no publication that there isn't.
 abbrev pub MirrorsLearnConsistent : Type 0
 MirrorsLearnConsistent = (g : GroupKeys) (logs : Logs) (m : MirrorState) (reported : List ℕ)
     → IsConsistentVector logs reported

@@ -71,13 +71,13 @@ abbrev pub PassedStays : Type 0
 PassedStays = (calls : List MirrorCall) (m : MirrorState) (pair : Pair) → contains pair_cmp m.passed pair ≡ true
     → contains pair_cmp (after_mirror_calls calls m).passed pair ≡ true
 
--- The vectors that calls reported it, in order.
+-- The vectors that it heard in calls, in order.
 abbrev pub vectors_learnt : List MirrorCall → List (List ℕ)
 vectors_learnt [] = []
 vectors_learnt (Learn reported ∷ calls) = reported ∷ vectors_learnt calls
 vectors_learnt (TakeOutcome jobs parts attempts ∷ calls) = vectors_learnt calls
 
--- It knows the join of what it knew and of what it was informed.
+-- It knows the join of what it knew and of what it heard.
 abbrev pub KnowsTheJoin : Type 0
 KnowsTheJoin = (calls : List MirrorCall) (m : MirrorState)
     → (after_mirror_calls calls m).known ≡ join_all (m.known ∷ vectors_learnt calls)

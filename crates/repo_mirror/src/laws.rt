@@ -20,7 +20,7 @@ pub fn calls_keep_mirrors_sound()
 {}
 
 /// Whatever is called, what a mirror stores stays stored, what it passed over stays passed over, and it knows the join
-/// of what it knew and of the vectors that it was informed.
+/// of what it knew and of the vectors that it heard.
 pub fn calls_take_nothing_from_mirrors()
     ensures stored { StoredStays }
     ensures passed { PassedStays }
@@ -51,8 +51,8 @@ pub fn mirrors_are_the_groups()
     ensures lists { MirrorsListAlike }
 {}
 
-/// Stored packets are those of their parts from the start on, and stay so where others publish, and where the mirror is
-/// given what was published and takes packets that are those of wanted parts. Then it holds just these too.
+/// Stored packets are those of their parts from the start on, and stay so where others publish, and where the mirror
+/// hears of what was published and takes packets that are those of wanted parts. Then it holds just these too.
 pub fn consistent_mirrors_stay_consistent()
     ensures begins { MirrorsBeginConsistent }
     ensures learns { MirrorsLearnConsistent }

@@ -1,4 +1,4 @@
-// What a mirror is given.
+// What a mirror hears.
 ghost use Rattle.std.specs.Prelude.{◌≡◌, ◌≤◌, length, if◌then◌else◌};
 ghost use Rattle.svs_vector.specs.Vectors.{join};
 ghost use Rattle.repo_watch.specs.Patterns.{is_publisher};

@@ -23,7 +23,7 @@ use std::alloc::{AllocError, Global};
 use std::marker::Model;
 use svs_vector::{Roster, Vector};
 
-/// A mirror: a pattern, the numbers that it was reported, and what it holds of what its pattern is for.
+/// A mirror: a pattern, the numbers that it knows of, and what it holds of what its pattern is for.
 ///
 /// A record whose object its pattern isn't for is passed over: its packet isn't kept, and no part of that publication
 /// is wanted any more. The records of withdrawals are kept, since they take objects out of the catalogue.
@@ -125,7 +125,7 @@ impl Mirror {
             .held_jobs(alloc, publishers, group, others, after, most)
     }
 
-    /// The numbers that the mirror was given.
+    /// The numbers of publications that the mirror knows of.
     pub fn vector(&self) -> &Vector
         ensures { result.now ≡ self.now.known }
     {

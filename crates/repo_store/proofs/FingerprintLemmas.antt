@@ -27,7 +27,7 @@ use Rattle.repo_store.specs.Slots.{is_sought_at, IsNextOf}
 use Rattle.repo_store.specs.Indexes.{first_part, held_part, IsFirstOf, lesser}
 use Rattle.repo_store.proofs.IndexLemmas.{PartLe, first_part_least}
 
--- ---- orders of fronts
+-- ---- orders of fingerprints
 
 fingerprints_total : IsTotalOrder fingerprinted_cmp
 fingerprints_total =
@@ -100,7 +100,7 @@ fingerprint_between x own fingerprint from same low high =
     (first_le (nat_cmp x.fingerprint own.fingerprint) _ high) in
     omega (arith, above, below, same)
 
--- ---- what is found by a front
+-- ---- what is found by a fingerprint
 
 module _ (fs : List (Fingerprinted × Unit {0})) (rises : Rises fingerprinted_cmp (keys fs)) (fingerprint from : ℕ) where
   pub next_none : first_from fingerprinted_cmp (start fingerprint from) fs ≡ None

@@ -62,7 +62,7 @@ fn packet(part: Part) -> &'static [u8] {
     &SEGMENT
 }
 
-// A mirror of the group that was reported of two publications of alice.
+// A mirror of the group that knows of two publications of alice.
 fn reported_mirror(
     rt: &(impl Abort + AllocGlobal),
     publisher: Option<u32>,

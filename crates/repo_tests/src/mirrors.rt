@@ -1,4 +1,4 @@
-// What mirrors of a world are reported, fetch and list.
+// What mirrors of a world hear, fetch and list.
 ghost use Rattle.std.specs.Prelude.{◌≡◌, ◌==◌, ◌+◌, ◌<◌, ◌≤◌, [], length};
 
 use crate::expect::{is, same};
@@ -99,7 +99,7 @@ fn add(
     }
 }
 
-// The mirror is given what was sent under that number. Nothing was sent under number 4.
+// The mirror hears what was sent under that number. Nothing was sent under number 4.
 fn tell(rt: &impl Abort, world: &mut World, i: u32, k: u32)
     requires there { i < length world.old.mirrors }
     ensures len { length world.new.mirrors ≡ length world.old.mirrors }
@@ -148,7 +148,7 @@ fn compare_entries(
     }
 }
 
-// A mirror of alice's objects under "/doc" fetches the records of her publications that it was reported of, and then
+// A mirror of alice's objects under "/doc" fetches the records of her publications that it knows of, and then
 // the one segment that it wants.
 fn fetches_of_alice<R: Threads + Abort + AllocGlobal + Sync>(
     rt: &R,
@@ -169,7 +169,7 @@ fn fetches_of_alice<R: Threads + Abort + AllocGlobal + Sync>(
     compare_entries(rt, world.mirror_catalogue(0), &[(ALICE, 1, "/doc/a")]);
 }
 
-// A second one, of all objects, is reported of bob's. It goes to the network by its own number, and tries on.
+// A second one, of all objects, hears of bob's. It goes to the network by its own number, and tries on.
 fn fetches_of_all<R: Threads + Abort + AllocGlobal + Sync>(
     rt: &R,
     world: &mut World,

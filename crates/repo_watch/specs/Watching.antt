@@ -1,4 +1,4 @@
--- Watchers: what each asks for and was reported, and what a call makes of them.
+-- Watchers: what each asks for and what was reported to it, and what a call makes of them.
 use Rattle.std.specs.Prelude.{ℕ, zero, suc, Bool, not, ◌&&◌, List, [], ◌∷◌, ◌++◌, map, filter, Option, Some, None}
 use Rattle.std.specs.Ordering.{is_lt}
 use Rattle.repo_plan.specs.Parts.{Pair, pair_cmp}
@@ -12,7 +12,7 @@ use Rattle.repo_watch.specs.Patterns.{accepts}
 abbrev pub most_watchers : ℕ
 most_watchers = 16
 
--- What a watcher asks for, and the publications that it was reported, in order.
+-- What a watcher asks for, and the publications that were reported to it, in order.
 pub record Watching : Type 0 where
   pub pattern : Pattern
   pub reported : List Pair
@@ -25,11 +25,11 @@ watching pattern entries = record { pattern = pattern; reported = map publicatio
 abbrev pub is_for : Pattern → Entry → Bool
 is_for pattern e = accepts pattern e.publisher e.name
 
--- The watcher asks for the entry, and was not reported it.
+-- The watcher asks for the entry, which was not reported to it.
 abbrev pub is_news : Watching → Entry → Bool
 is_news w e = is_for w.pattern e && not (contains pair_cmp w.reported (publication_of e))
 
--- What there is to tell a watcher of a catalogue, in order.
+-- What is new to a watcher in a catalogue, in order.
 abbrev pub news : Watching → List Entry → List Pair
 news w entries = map publication_of (filter (is_news w) entries)
 
@@ -50,12 +50,12 @@ watch_of zero (w ∷ ws) = None
 watch_of (suc zero) (w ∷ ws) = Some w
 watch_of (suc (suc n)) (w ∷ ws) = watch_of (suc n) ws
 
--- What there is to tell the watcher of a number.
+-- What is new to the watcher of a number.
 abbrev pub news_of : Option Watching → List Entry → List Pair
 news_of None entries = []
 news_of (Some w) entries = news w entries
 
--- The watchers once the one of a number was reported the news.
+-- The watchers once the news was reported to the one of a number.
 abbrev pub after_take : ℕ → List Entry → List Watching → List Watching
 after_take n entries [] = []
 after_take zero entries (w ∷ ws) = w ∷ ws

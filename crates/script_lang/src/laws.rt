@@ -53,7 +53,7 @@ pub fn printed_lines_are_read()
         → line_of (printed_line s) ≡ Ok (Some s) }
 {}
 
-/// A refusal that a line gets is reported by it and the lines before it, and is never out of memory.
+/// The refusal of a line follows from it and the lines before it, and is never out of memory.
 pub fn refusals_are_of_the_lines()
     ensures read { (octets : List ℕ) → IfErr (line_of octets) (λ f. f ≢ fault.NoMemory) }
     ensures checked { (d : Declared) (s : Stated) → AreShaped (form s.verb).kinds s.values

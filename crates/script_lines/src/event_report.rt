@@ -276,7 +276,7 @@ fn put_of_commands(
     }
 }
 
-// Writes what the watcher of this number of a member is informed.
+// Writes what is reported to the watcher of this number of a member.
 pub(crate) fn put_news(
     report: &mut Vec<u8>,
     labels: &[String],

@@ -15,7 +15,7 @@ pub fn put_watch(out: &mut Vec<u8>, m: &str, w: u64) -> Result<(), AllocError>
     put_line(out, "watch", &[Word(m), Number(w)])
 }
 
-/// What the watcher `w` of a member is informed: how many entries, and the entries, each under its publisher's label.
+/// The news of the watcher `w` of a member: how many entries, and the entries, each under its publisher's label.
 pub fn put_told(
     out: &mut Vec<u8>,
     m: &str,

@@ -139,7 +139,7 @@ pub record IsToBeListed (w : World) (m : ℕ) (pair : Pair) : Type 0 where
   pub had : (pair.0 ≡ m) ⊎ HoldsAllOf w m pair
   pub not_withdrawn : HoldsNoWithdrawal (logs w) (member w m) pair
 
--- Entries list just that, each once under its publisher and number, in order; and each reports its object.
+-- Entries list just that, each once under its publisher and number, in order; and each entry is that of its object.
 pub record ListExactly (w : World) (m : ℕ) (entries : List Entry) : Type 0 where
   pub exactly : (pair : Pair) → (lists pair entries ≡ true) ↔ IsToBeListed w m pair
   pub in_order : IsCatalogue entries
@@ -173,7 +173,7 @@ pub record IsSettleLine (env : RunEnvironment) (r : Reached) (report : List ℕ)
   pub stated : Says line (statement verb.Settle (Number workers ∷ []))
   pub taken : LineIsTaken env r line report new
 
--- These forms change nothing of the group: they report it, or they are of watchers or of mirrors.
+-- These forms change nothing of the group: they say what there is, or they are of watchers or of mirrors.
 abbrev pub only_reports : Verb → Bool
 only_reports verb.Sync = true
 only_reports verb.Vector = true

@@ -1,4 +1,4 @@
--- Which members and mirrors reports report.
+-- Which members and mirrors a report names.
 use Rattle.std.specs.Prelude.{ℕ, ◌≡◌, ◌<◌, true, List, [], length, map}
 use Rattle.std.specs.List.{All}
 use Rattle.script_lang.specs.Checking.{is_mirror, party_label}
@@ -12,9 +12,9 @@ use Rattle.script_story.specs.Judging.{RunEnvironment}
 use Rattle.script_story.specs.Story.{Reached}
 use Rattle.script_story.specs.Headline.{AreTakenFirst, LineIsTaken}
 
--- A report is empty, or it reports members alone that have one of these labels: of an event, of a new watcher of a
--- member, or of what a member's watcher is given; or it reports a mirror with one of its labels: what it hears, fetches
--- or lists, and that of members alone.
+-- A report is empty, or it names only members that have one of these labels: in the report of an event, of a new
+-- watcher of a member, or of a watcher's news; or it names a mirror that has one of its labels: what it hears, fetches
+-- or lists, and that only members published.
 pub data ReportsOfMembers (labels mirrors : List (List ℕ)) (report : List ℕ) : Type 0 where
   silent : report ≡ [] → ReportsOfMembers labels mirrors report
   tells : (reported : Reported) → report ≡ reported_text labels reported → NamesAll (length labels) reported

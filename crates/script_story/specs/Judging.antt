@@ -1,4 +1,4 @@
--- What a line comes to, after those before it.
+-- What is decided of a line, after those before it.
 use Rattle.std.specs.Prelude.{◌≡◌, ◌≢◌, ◌↔◌, ℕ, ◌+◌, Bool, List, [], ◌∷◌, ◌++◌, map, length, slice_index_or}
 use Rattle.std.specs.Prelude.{slice_set, Option, Some, None, is_some, Result, Ok, Err, unwrap_or, nat_le}
 use Rattle.std.specs.Prelude.{if◌then◌else◌}
@@ -137,7 +137,8 @@ watched w s d m pattern =
     else says (watch_text (label_at (map party_label d.members) m) (length (watchers_at s m) + 1))
     (with_watchers w s d m (after_add pattern (catalogue_at w m) (watchers_at s m)))
 
--- The watcher of a number is reported what the member lists that it asks for and was not reported. There must be one.
+-- What the member lists, the watcher asks for, and was not reported to it is reported now. There must be such a
+-- watcher.
 abbrev pub told_at : World → State → Declared → ℕ → ℕ → Verdict
 told_at w s d m number =
     if is_some (watch_of number (watchers_at s m))

@@ -34,7 +34,7 @@ abbrev pub mirror_begins : ℕ → Pattern → Mirroring
 mirror_begins members pattern =
     record { pattern = pattern; known = replicate members 0; holds = λ t. false; tries = λ t. 0 }
 
--- It is given a vector.
+-- It hears a vector.
 abbrev pub mirror_hears : List ℕ → Mirroring → Mirroring
 mirror_hears reported m = record m { known = join m.known reported }
 

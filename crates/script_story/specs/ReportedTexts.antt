@@ -71,7 +71,7 @@ reported_text labels (Reported.Summary members entries segments octets) =
 reported_text labels (Reported.Traffic syncs delivered attempts parts octets) =
     traffic_text syncs delivered attempts parts octets
 
--- ---- the kinds of what is told, as the code goes through them
+-- ---- the kinds of what is reported, as the code goes through them
 
 -- A command that came as octets, or a deletion.
 abbrev pub of_commands : Reported → Bool
@@ -126,14 +126,14 @@ of_group reported = of_parts reported
 abbrev pub reported_if : (Reported → Bool) → List (List ℕ) → Reported → List ℕ
 reported_if is_of labels reported = if is_of reported then reported_text labels reported else []
 
--- ---- what watchers are told, and what mirrors list
+-- ---- what is reported to watchers, and what mirrors list
 
 -- The entries that are news to the watcher that a number may have.
 abbrev pub news_in : Option Watching → List Entry → List Entry
 news_in None entries = []
 news_in (Some watching) entries = filter (is_news watching) entries
 
--- What the watcher of this number is reported, under a member's label or by the member's number.
+-- What is reported to the watcher of this number, under a member's label or by the member's number.
 abbrev pub labelled_news : List (List ℕ) → List ℕ → ℕ → List Entry → List ℕ
 labelled_news labels label number entries =
     report.told_text label number (length entries) (map (publisher_label labels) entries) entries

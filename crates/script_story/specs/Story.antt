@@ -1,4 +1,4 @@
--- What a script comes to: the text of its report, its end, and the group after its last line.
+-- The story of a script: the text of its report, its end, and the group after its last line.
 use Rattle.std.specs.Prelude.{◌≡◌, ℕ, ◌+◌, Bool, ◌&&◌, List, [], ◌∷◌, ◌++◌, length, Option, None, nat_lt, nat_le}
 use Rattle.std.specs.Prelude.{if◌then◌else◌}
 use Rattle.script_lang.specs.Limits.{script_lines, script_octets}

@@ -26,8 +26,8 @@ pub fn stories_are_their_lines()
 {}
 
 /// After any lines that are taken the group is sound, its members are those that the lines declared, no two under one
-/// label, and what they published is within the limits of publications. Lines that only report the group, and those of
-/// watchers and of mirrors, leave it as it is.
+/// label, and what they published is within the limits of publications. Lines that only say what there is, and those
+/// of watchers and of mirrors, leave it as it is.
 pub fn lines_reach_sound_groups()
     ensures sound { ReachSoundGroups }
     ensures unchanged { ReportChangesNothing }

@@ -3,7 +3,7 @@ ghost use Rattle.script_story.specs.declared.ending.Ending.TheVariants.{Done, Re
 ghost use Rattle.script_story.specs.Judging.{EachLineIsJudged, RunEnvironment, SyntaxIsOfTheGrammar};
 ghost use Rattle.script_story.specs.Story.{Reports};
 
-/// What every line comes to is reported, and it is Syntax exactly where the grammar refuses the line.
+/// Every line is judged, and refused as Syntax exactly where the grammar refuses it.
 pub fn syntax_is_of_the_grammar()
     ensures judged { EachLineIsJudged }
     ensures syntax { SyntaxIsOfTheGrammar }

@@ -70,8 +70,8 @@ module _ {K V : Type 0} (R : K → K → Ordering) where
   AreBefore [] k = Unit {0}
   AreBefore (e ∷ es) k = (R e.0 k ≡ Less) × AreBefore es k
 
-  -- the key belongs into the block at this place: all keys in front are before it, all after it after it, and some key
-  -- from the block on is not above it where the block isn't the first
+  -- the key belongs into the block at this place: all keys of the blocks before are less, all of those after greater,
+  -- and some key from the block on is not greater where the block isn't the first
   abbrev pub IsPlace : {A : Type 0} → K → List (Vec (K × V) A) → ℕ → Type 0
   IsPlace k [] i = Unit {0}
   IsPlace k (b ∷ bs) zero = IsBefore R k (keys (joined bs))

@@ -6,7 +6,7 @@ use Rattle.std.specs.declared.cmp.Ordering.TheVariants.{Less}
 use Rattle.sorted_lists.specs.Members.{In}
 
 module _ {A K : Type 0} (R : K → K → Ordering) (key : A → K) where
-  -- nothing comes after what stands after it
+  -- no key stands before a lesser one
   abbrev pub Climbs : List A → Type 0
   Climbs [] = Unit {0}
   Climbs (x ∷ xs) = ((y : A) → In y xs → is_le (R (key x) (key y)) ≡ true) × Climbs xs

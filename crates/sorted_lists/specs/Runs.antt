@@ -33,8 +33,8 @@ module _ {K : Type 0} (R : K → K → Ordering) where
   AreRuns next [] = Unit {0}
   AreRuns next (run ∷ runs) = (is_le (R run.0 run.1) ≡ true) × IsBefore R (next run.1) (keys runs) × AreRuns next runs
 
-  -- where the run of one more key begins, by the last run that doesn't begin after it: there where that one ends in
-  -- prefix of the key, else at the key
+  -- where the run of one more key begins, by the last run that doesn't begin after it: where that one begins, if it
+  -- ends right before the key, and else at the key
   abbrev pub start_at : (K → K) → Option (K × K) → K → K
   start_at next None q = q
   start_at next (Some run) q = if eq_by_cmp R (next run.1) q then run.0 else q

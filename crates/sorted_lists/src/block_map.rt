@@ -35,8 +35,8 @@ impl<K: Ord + Copy, V: Copy> BlockMap<K, V> {
         }
     }
 
-    // Makes room for so many more entries. Each entry takes one empty block at most. Beyond that each block may must be
-    // split once, and then one of them at every `HALF` further entries.
+    // Makes room for so many more entries. Each entry takes one empty block at most. Beyond that each block may need
+    // one split, and then one of them at every `HALF` further entries.
     pub fn reserve(&mut self, n: usize) -> Result<(), AllocError>
         requires { IsMap K.cmp self.old }
         ensures entries { entries self.new ≡ entries self.old }

@@ -7,11 +7,11 @@ use Rattle.svs_sync.specs.declared.mode.Mode.TheVariants.{Steady, Suppressed}
 use Rattle.svs_sync.specs.declared.fired.Fired.{Fired}
 use Rattle.svs_sync.specs.declared.fired.Fired.TheVariants.{Early, Quiet, Send}
 
--- How long a member waits that was reported nothing.
+-- How long a steady member waits.
 abbrev pub periodic : ℕ → ℕ
 periodic draw = 27000 + draw % 6001
 
--- How long a member holds back that was reported of an older vector than its own.
+-- How long a member is suppressed that heard an older vector than its own.
 abbrev pub suppression : ℕ → ℕ
 suppression draw = draw % 201
 

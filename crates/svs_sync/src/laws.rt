@@ -52,7 +52,7 @@ pub fn reported_vectors_have_all_members()
         → sync_verdict group roster ring octets ≡ Ok reported → length reported.1 ≡ length roster }
 {}
 
-/// A refusal that octets get is reported by them, and is never out of memory, nor is the fault of its vector.
+/// The refusal of octets follows from the octets, and is never out of memory, nor is the fault of their vector.
 pub fn sync_refusals_are_of_the_octets()
     ensures { (group : List Component) (roster : List (List Component)) (ring : List NamedKey)
         (octets : List ℕ) → IfErr (sync_verdict group roster ring octets)

@@ -155,7 +155,7 @@ impl Machine {
     }
 }
 
-// How long a member waits that was reported nothing.
+// How long a steady member waits.
 fn periodic(draw: u32) -> u64
     ensures exact { result ≡ periodic draw }
     ensures short { result < 33001 }
@@ -163,7 +163,7 @@ fn periodic(draw: u32) -> u64
     27_000 + u64::from(draw) % 6_001
 }
 
-// How long a member holds back that was reported of an older vector.
+// How long a member is suppressed that heard an older vector.
 fn suppression(draw: u32) -> u64
     ensures exact { result ≡ suppression draw }
     ensures short { result < 201 }

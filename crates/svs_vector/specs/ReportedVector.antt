@@ -19,7 +19,7 @@ use Rattle.svs_vector.specs.StateVector.{Entry, entry_in, fault_in}
 abbrev pub number_reported : List Component → Entry → ℕ
 number_reported name entry = if has_same_octets entry.0 name then entry.1 else 0
 
--- The greatest number that entries report a node, 0 where they tell none.
+-- The greatest number that entries have of a node, 0 where they have none.
 abbrev pub greatest_reported : List Component → List Entry → ℕ
 greatest_reported name [] = 0
 greatest_reported name (e ∷ es) = max (number_reported name e) (greatest_reported name es)

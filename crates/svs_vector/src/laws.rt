@@ -9,7 +9,7 @@ pub fn join_takes_the_greater()
         → slice_index (join_all vs) p ≡ fold max 0 (map (λ v. slice_index v p) vs) }
 {}
 
-/// Which of two vectors is reported of first doesn't matter.
+/// Which of two vectors is heard first doesn't matter.
 pub fn join_is_commutative()
     ensures { (v w : List ℕ) → join v w ≡ join w v }
 {}
@@ -19,7 +19,7 @@ pub fn join_is_associative()
     ensures { (u v w : List ℕ) → join (join u v) w ≡ join u (join v w) }
 {}
 
-/// A vector that is reported of again changes nothing.
+/// A vector that is heard again changes nothing.
 pub fn join_is_idempotent()
     ensures itself { (v : List ℕ) → join v v ≡ v }
     ensures again { (v w : List ℕ) → join (join v w) w ≡ join v w }
@@ -43,7 +43,7 @@ pub fn joins_are_the_join_of_all()
     ensures { (v : List ℕ) (ws : List (List ℕ)) → fold join v ws ≡ join_all (v ∷ ws) }
 {}
 
-/// The order in which vectors are reported of, and how often each is, doesn't matter.
+/// The order in which vectors are heard, and how often each is, doesn't matter.
 pub fn joins_in_any_order_give_the_same()
     ensures { (v : List ℕ) (us ws : List (List ℕ)) → HaveSameVectors us ws → fold join v us ≡ fold join v ws }
 {}

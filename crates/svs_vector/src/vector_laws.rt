@@ -36,7 +36,7 @@ pub fn state_vectors_tell_their_entries()
         → vector_of roster octets ≡ Err fault → IsFault roster octets fault }
 {}
 
-/// A fault that octets have is reported by them, and is never out of memory.
+/// The fault of octets follows from the octets, and is never out of memory.
 pub fn vector_faults_are_of_the_octets()
     ensures { (roster : List (List Component)) (octets : List ℕ)
         → IfErr (vector_of roster octets) (λ fault. fault ≢ NoMemory) }

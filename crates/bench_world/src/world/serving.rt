@@ -1,4 +1,4 @@
-// What comes for claims, from other members and from outside, and what octets from outside are reported.
+// What comes for claims, from other members and from outside, and what is reported of octets from outside.
 ghost use Rattle.std.specs.Prelude.{◌≡◌, ◌+◌, ◌<◌, length, IfOk};
 ghost use Rattle.repo_plan.specs.Calls.{IsFetcher};
 ghost use Rattle.repo_store.specs.Served.{served};

@@ -23,7 +23,7 @@ const ROWS: [(&str, &str, Status); 25] = [
          > traffic syncs 3 delivered 2 attempts 0 parts 2 octets 197\n",
         Status::Done,
     ),
-    // What a member is informed of it knows.
+    // A member knows what it hears.
     (
         PRE,
         "publish alice /doc 10 text:abc\n\

@@ -81,7 +81,7 @@ pub(super) fn gain(
 }
 
 // The same of a packet that came, and what it tells is noted. The answer is what changes in the catalogue. Digests over
-// contents that are reported aren't taken again.
+// contents that are given aren't made again.
 pub(super) fn gain_noted(
     plan: &mut Plan,
     store: &mut Store,

@@ -12,7 +12,7 @@ use repo_plan::{Part, Plan};
 use repo_store::Store;
 
 impl Holdings {
-    /// The parts of a new publication that is reported of so are held from now on, with these packets, where room was
+    /// The parts of a new publication with this summary are held from now on, with these packets, where room was
     /// made: the record, the index packets and the segments. An object is catalogued, and what a withdrawal withdraws
     /// is removed. It takes no memory.
     pub fn publish_parts(
@@ -50,7 +50,7 @@ impl Holdings {
     }
 }
 
-// The parts of a new publication that is reported of so are held from now on, with these packets, for which room was
+// The parts of a new publication with this summary are held from now on, with these packets, for which room was
 // made.
 fn gain_all(
     plan: &mut Plan,

@@ -42,7 +42,7 @@ impl Holdings {
     /// and the attempts are counted. The entries of what becomes whole are merged into the catalogue together, and
     /// those of what is withdrawn are removed together. It takes no memory.
     ///
-    /// Digests over contents that are reported, in order of their publications, aren't taken again.
+    /// Digests over contents that are given, in order of their publications, aren't made again.
     pub fn take(&mut self, all: Vec<Tried>, digests: &[ContentsDigest]) -> Taken
         requires room { vec_len all ≤ self.old.spare }
         requires takable { AreTakable (held_plan self.old) self.old.store all.items }

@@ -127,7 +127,7 @@ impl Member {
         sync_of(alloc, g, self.number, &self.vector)
     }
 
-    // The vector that octets tell, if they are a sync Interest of the group and report no more publications of this
+    // The vector that octets have, if they are a sync Interest of the group and report no more publications of this
     // member than it made. Memory is taken for it last.
     fn reported(&self, g: &Group, octets: &[u8]) -> Result<Vector, HearRefusal>
         requires { IsOfGroup g.now self.now }
@@ -148,7 +148,7 @@ impl Member {
         Ok(reported.to_vector(*self.log.allocator())?)
     }
 
-    // No more publications of this member are reported of than it made.
+    // No more publications of this member are reported than it made.
     fn not_ahead(&self, reported: u16) -> Result<(), HearRefusal>
         ensures ok { OnOk result (reported ≤ length self.now.log) }
         ensures ahead { IfErr result (λ refusal.
