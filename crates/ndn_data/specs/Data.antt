@@ -54,6 +54,7 @@ pub record DataSoFar : Type 0 where
   pub info : Option Info
   pub signature : Option (List ℕ × List ℕ)
 
+-- Before the first field.
 abbrev pub no_data_field : DataSoFar
 no_data_field = record { name = None; meta = plain; content = []; info = None; signature = None }
 
@@ -62,6 +63,7 @@ abbrev pub signed_before : List ℕ → Option (ℕ × List Component) → ℕ �
 signed_before octets None offset = []
 signed_before octets (Some name) offset = slice_range octets name.0 offset
 
+-- The fields so far with one more, or the fault of that one.
 abbrev pub with_data_field : List ℕ → DataSoFar → DataField × Item → Result DataSoFar PacketFault
 with_data_field octets s (Name, e) =
     name_in (BadField field.Name e.start) e
@@ -125,6 +127,7 @@ Satisfies name can_be_prefix digest d =
 
 -- ---- the structs without where their octets lie in memory
 
+-- The fields that were read so far.
 abbrev pub data_so_far : DataFields → DataSoFar
 data_so_far g =
     record {
@@ -139,6 +142,7 @@ data_so_far g =
 abbrev pub NameStartsBy : ℕ → DataFields → Type 0
 NameStartsBy offset g = IfSome g.name (λ n. n.0 ≤ offset)
 
+-- The Data packet that was read.
 abbrev pub data_seen : DataView → Data
 data_seen d =
     record {

@@ -33,6 +33,7 @@ pub record Meta : Type 0 where
   pub content_type : ℕ
   pub last : Option Component
 
+-- What holds where nothing is said: the content is plain, and no last segment is named.
 abbrev pub plain : Meta
 plain = record { content_type = Blob; last = None }
 

@@ -34,6 +34,7 @@ abbrev pub signed : List ℕ → List ℕ → List ℕ
 signed portion key =
     element types.Data (portion ++ element types.SignatureValue (hmac key portion))
 
+-- The packet of this name and content, signed under the key. It may name the last segment.
 abbrev pub written_data : List Component → Option ℕ → List ℕ → List Component → List ℕ → List ℕ
 written_data name last content key_name key =
     signed (written_signed name last content key_name) key

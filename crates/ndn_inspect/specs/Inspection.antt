@@ -35,6 +35,7 @@ pub record Lines : Type 0 where
   pub text : List ℕ
   pub fault : Option TlvFault
 
+-- No lines, and no fault.
 abbrev pub no_lines : Lines
 no_lines = record { text = []; fault = None }
 
@@ -48,6 +49,7 @@ abbrev pub carried_on : List ℕ → Option TlvFault → Lines → Lines
 carried_on text None others = text before others
 carried_on text (Some fault) others = record { text = text; fault = Some fault }
 
+-- Lines, and others after them unless a fault ended the first ones.
 infixr 10 ◌and_then◌
 abbrev pub ◌and_then◌ : Lines → Lines → Lines
 lines and_then others = carried_on lines.text lines.fault others
@@ -77,9 +79,11 @@ lines_at depth offset octets = lines_within (length octets) depth offset octets
 abbrev pub inspected : List ℕ → Lines
 inspected octets = lines_at 0 0 octets
 
+-- The line of a fault with this word, at this offset.
 abbrev pub fault_text : ℕ → List ℕ → List ℕ
 fault_text at word = codes "fault " ++ word ++ codes " " ++ decimal at ++ codes "\n"
 
+-- The line of a fault of elements, with its offset in the input.
 abbrev pub fault_line : TlvFault → List ℕ
 fault_line (Truncated at) = fault_text at (codes "Truncated")
 fault_line (NotShortest at) = fault_text at (codes "NotShortest")

@@ -39,9 +39,11 @@ abbrev pub name_among : List (ℕ × List ℕ) → ℕ → List ℕ
 name_among [] typ = codes "Unknown"
 name_among (named ∷ others) typ = if typ == named.0 then named.1 else name_among others typ
 
+-- The name that is printed for a type number, and "Unknown" where it has none.
 unfoldable pub type_name : ℕ → List ℕ
 type_name typ = name_among type_names typ
 
+-- The type number is one of these.
 abbrev pub is_type_among : List ℕ → ℕ → Bool
 is_type_among [] typ = false
 is_type_among (other ∷ others) typ = typ == other || is_type_among others typ

@@ -76,6 +76,7 @@ pub record InterestSoFar : Type 0 where
   pub info : Option Info
   pub signature : Option (List ℕ × Option (List ℕ))
 
+-- Before the first field.
 abbrev pub no_interest_field : InterestSoFar
 no_interest_field =
     record {
@@ -97,6 +98,7 @@ abbrev pub some_name : PacketFault → List Component → Result (List Component
 some_name bad [] = Err bad
 some_name bad (c ∷ cs) = Ok (c ∷ cs)
 
+-- The name that an element is. An Interest needs one component at least.
 abbrev pub interest_name_in : Item → Result (List Component) PacketFault
 interest_name_in e =
     name_in (BadField field.Name e.start) e >>= some_name (BadField field.Name e.start)
@@ -117,9 +119,11 @@ one_octet bad [] = Err bad
 one_octet bad (n ∷ []) = Ok n
 one_octet bad (n ∷ m ∷ octets) = Err bad
 
+-- The hop limit that an element is.
 abbrev pub hop_limit_in : Item → Result ℕ PacketFault
 hop_limit_in e = one_octet (BadField field.HopLimit e.start) e.value
 
+-- The fields so far with one more, or the fault of that one.
 abbrev pub with_interest_field : List ℕ → InterestSoFar → InterestField × Item
     → Result InterestSoFar PacketFault
 with_interest_field octets s (Name, e) =
@@ -151,9 +155,11 @@ interest_fields octets e =
 
 -- ---- the whole
 
+-- The last component of a name, if it has one.
 abbrev pub last_component : List Component → Option Component
 last_component name = slice_get name (length name - 1)
 
+-- A name without its last component.
 abbrev pub without_last : List Component → List Component
 without_last name = take (length name - 1) name
 
@@ -171,6 +177,7 @@ signed_of name false signature = None
 signed_of name true None = None
 signed_of name true (Some s) = option_map (λ portion. (encoding (without_last name), portion)) s.1
 
+-- The Interest of this name and these fields, or the first fault.
 abbrev pub interest_named : List ℕ → InterestSoFar → List Component → Result Interest PacketFault
 interest_named octets s name =
     if is_some s.parameters && not (ends_in_digest name) then Err (Missing field.ParametersDigest)
@@ -239,10 +246,12 @@ pub record InterestIsSpelled (octets : List ℕ) (i : Interest) : Type 0 where
 
 -- ---- the structs without where their octets lie in memory
 
+-- The octets of a signature, and of what it signs after the name.
 abbrev pub signature_parts : Option (Bor (List ℕ) × Option (Bor (List ℕ)))
     → Option (List ℕ × Option (List ℕ))
 signature_parts signature = option_map (λ s. (s.0.now, option_map (λ o. o.now) s.1)) signature
 
+-- The fields that were read so far.
 abbrev pub interest_so_far : InterestFields → InterestSoFar
 interest_so_far g =
     record {
@@ -261,6 +270,7 @@ interest_so_far g =
 abbrev pub ParametersStartBy : ℕ → InterestFields → Type 0
 ParametersStartBy offset g = IfSome g.parameters (λ p. p.0 ≤ offset)
 
+-- The Interest that was read.
 abbrev pub interest_seen : InterestView → Interest
 interest_seen i =
     record {

@@ -25,6 +25,7 @@ abbrev pub is_digest_of : List ℕ → Option Component → Bool
 is_digest_of octets None = false
 is_digest_of octets (Some last) = last.0 == types.ParametersSha256DigestComponent && bytes_eq last.1 (sha256 octets)
 
+-- The parameters digest in the name is the right one.
 abbrev pub has_its_digest : Interest → Bool
 has_its_digest i = option_map_or (λ octets. is_digest_of octets (last_component i.name)) i.digested false
 
@@ -40,6 +41,7 @@ abbrev pub is_mac : List ℕ × List ℕ → Option NamedKey → List ℕ → Bo
 is_mac signed None signature = false
 is_mac signed (Some pair) signature = bytes_eq (hmac pair.key (signed.0 ++ signed.1)) signature
 
+-- The signature is the mac under the key that has this number in the ring.
 abbrev pub is_signed : List NamedKey → ℕ → List ℕ × List ℕ → Interest → Bool
 is_signed ring signer signed i = option_map_or (is_mac signed (slice_get ring signer)) i.signature false
 

@@ -40,6 +40,7 @@ with_digest name digested =
     element types.Interest
     (element types.Name (encoding (with_digest_of digested name)) ++ digested)
 
+-- The signed Interest of this name and these parameters, under a key and its name.
 abbrev pub written_interest : List Component → List ℕ → List Component → List ℕ → List ℕ
 written_interest name parameters key_name key =
     with_digest name (written_digested name parameters key_name key)

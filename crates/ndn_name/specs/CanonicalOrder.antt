@@ -23,6 +23,7 @@ component_cmp_total =
     (then_total (on_total (λ (c : Component). length c.1) nat_cmp_total)
     (on_total (λ (c : Component). c.1) nat_list_cmp_total))
 
+-- The canonical order of names is a total order.
 pub canonical_cmp_total : IsTotalOrder canonical_cmp
 canonical_cmp_total = lists_total component_cmp_total
 

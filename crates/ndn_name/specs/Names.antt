@@ -58,6 +58,7 @@ component_of e =
     then Err (BadDigestLength e.start)
     else Ok (e.typ, e.value)
 
+-- A name with the component after it that an element is, or why the element is none.
 abbrev pub with_component : List Component → Item → Result (List Component) NameFault
 with_component name e = component_of e >>= λ c. Ok (name ++ c ∷ [])
 

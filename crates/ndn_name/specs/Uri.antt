@@ -34,6 +34,7 @@ IsEscaped (octet ∷ octets) text =
     (first : List ℕ) × (rest : List ℕ) × (text ≡ first ++ rest) × IsOctetText octet first
     × IsEscaped octets rest
 
+-- All octets are periods, as of no octets.
 abbrev pub are_periods : List ℕ → Bool
 are_periods octets = list_all (λ o. o == 46) octets
 
@@ -41,6 +42,7 @@ are_periods octets = list_all (λ o. o == 46) octets
 abbrev pub guarded : List ℕ → List ℕ
 guarded value = if are_periods value then 46 ∷ 46 ∷ 46 ∷ value else value
 
+-- A text of a value: the octets, escaped where they must be, with three more periods where these are needed.
 abbrev pub IsValueText : List ℕ → List ℕ → Type 0
 IsValueText value text = IsEscaped (guarded value) text
 
@@ -51,6 +53,7 @@ IsDigits (octet ∷ octets) text =
     (high : ℕ) × (low : ℕ) × (rest : List ℕ) × (text ≡ high ∷ low ∷ rest) × IsPair octet high low
     × IsDigits octets rest
 
+-- A text of a digest: two hexadecimal digits for each of its 32 octets.
 abbrev pub IsDigestText : List ℕ → List ℕ → Type 0
 IsDigestText value text = (length value ≡ 32) × IsDigits value text
 
@@ -58,6 +61,7 @@ IsDigestText value text = (length value ≡ 32) × IsDigits value text
 abbrev pub IsDecimal : ℕ → ℕ → List ℕ → Type 0
 IsDecimal most n text = (n ≤ most) × (text ≡ decimal n)
 
+-- A text of a value that is a number in its shortest width: the number in decimal.
 abbrev pub IsNumberText : List ℕ → List ℕ → Type 0
 IsNumberText value text = (n : ℕ) × (value ≡ number_field n) × IsDecimal 18446744073709551615 n text
 
@@ -107,6 +111,7 @@ IsUri parts text =
     IsRooted 0 parts text
     ⊎ ((path : List ℕ) × (text ≡ codes "ndn:" ++ path) × IsRooted 4 parts path)
 
+-- The components of the parts, without where these stand in the text.
 abbrev pub name_of_parts : List Part → List Component
 name_of_parts parts = map (λ part. part.1) parts
 
@@ -116,12 +121,15 @@ name_of_parts parts = map (λ part. part.1) parts
 abbrev pub hex_pair : Bool → ℕ → List ℕ
 hex_pair upper octet = digit_glyph upper (octet / 16) ∷ digit_glyph upper (octet % 16) ∷ []
 
+-- The text of an octet: the character itself where it is unreserved, and else a percent sign and two digits.
 abbrev pub escape_of : ℕ → List ℕ
 escape_of octet = if is_unreserved octet then octet ∷ [] else 37 ∷ hex_pair true octet
 
+-- The text that is printed of a value.
 abbrev pub value_text : List ℕ → List ℕ
 value_text value = flat_map escape_of (guarded value)
 
+-- The text that is printed of a digest, with digits in lower case.
 abbrev pub digest_text : List ℕ → List ℕ
 digest_text value = flat_map (λ o. hex_pair false o) value
 
@@ -130,6 +138,7 @@ abbrev pub in_shortest_width : List ℕ → Option ℕ → Option ℕ
 in_shortest_width value None = None
 in_shortest_width value (Some n) = if length (number_field n) == length value then Some n else None
 
+-- The text that is printed of a component without a keyword: its type in decimal, unless it is generic.
 abbrev pub plain_text : Component → List ℕ
 plain_text c =
     if c.0 == types.GenericNameComponent then value_text c.1
@@ -140,9 +149,11 @@ abbrev pub number_text : List ℕ → Option ℕ → Component → List ℕ
 number_text word None c = plain_text c
 number_text word (Some n) c = word ++ decimal n
 
+-- The text after the keyword of a number, or the plain one where the value is no number in its shortest width.
 abbrev pub shortest_text : List ℕ → Component → List ℕ
 shortest_text word c = number_text word (in_shortest_width c.1 (number_of c.1)) c
 
+-- The text that is printed of a component.
 abbrev pub component_text : Component → List ℕ
 component_text c =
     if c.0 == types.ImplicitSha256DigestComponent then codes "sha256digest=" ++ digest_text c.1
@@ -153,9 +164,11 @@ component_text c =
     else if c.0 == types.SequenceNumNameComponent then shortest_text (codes "seq=") c
     else plain_text c
 
+-- The components of a name, each after a slash.
 abbrev pub path_text : List Component → List ℕ
 path_text name = flat_map (λ c. 47 ∷ component_text c) name
 
+-- The text that is printed of a name. The name without components is a slash.
 abbrev pub uri : List Component → List ℕ
 uri [] = 47 ∷ []
 uri (c ∷ cs) = path_text (c ∷ cs)

@@ -86,6 +86,7 @@ IsHead (Number typ) head =
     ⊎ ((typ ≡ types.SequenceNumNameComponent) × (head ≡ codes "seq")))
 IsHead (Escaped typ) head = (0 < typ) × IsDecimal greatest_type typ head
 
+-- The text is not the head of a form, an equals sign and a tail.
 abbrev pub HasNoHead : List ℕ → Type 0
 HasNoHead text = (form : Form) (head tail : List ℕ) → IsHead form head → text ≡ headed head tail → ⊥
 
@@ -107,6 +108,7 @@ IsTail (Digest typ) c tail = (c.0 ≡ typ) × IsDigestText c.1 tail
 IsTail (Number typ) c tail = (c.0 ≡ typ) × IsNumberText c.1 tail
 IsTail (Escaped typ) c tail = (c.0 ≡ typ) × IsValueText c.1 tail
 
+-- The octets of a value that was read. Those of a number are in its shortest width.
 abbrev pub value_octets : PartValue → List ℕ
 value_octets (value.Octets v) = v.items
 value_octets (value.Number n) = number_field n

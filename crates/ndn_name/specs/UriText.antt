@@ -12,6 +12,7 @@ use Rattle.ndn_name.specs.Uri.{are_periods, is_unreserved}
 
 -- ---- values
 
+-- An octet before others, where there are such.
 abbrev pub onto : ℕ → Option (List ℕ) → Option (List ℕ)
 onto octet octets = option_map (λ others. octet ∷ others) octets
 
@@ -34,9 +35,11 @@ abbrev pub after_three : List ℕ → Option (List ℕ)
 after_three (a ∷ b ∷ c ∷ value) = Some value
 after_three octets = None
 
+-- The value that these octets stand for: of periods alone, three are taken away.
 abbrev pub unguarded : List ℕ → Option (List ℕ)
 unguarded octets = if are_periods octets then after_three octets else Some octets
 
+-- The value that the text is of, where it is one of a value.
 abbrev pub value_of_text : List ℕ → Option (List ℕ)
 value_of_text text = option_and_then unguarded (unescaped text)
 
@@ -48,6 +51,7 @@ octets_of_digits (high ∷ low ∷ text) =
     if nat_lt (digit_value high) 16 && nat_lt (digit_value low) 16
     then onto (digit_value high * 16 + digit_value low) (octets_of_digits text) else None
 
+-- The 32 octets of the digest that the text is of, where it is one of a digest.
 abbrev pub digest_of_text : List ℕ → Option (List ℕ)
 digest_of_text text =
     option_and_then (λ octets. if length octets == 32 then Some octets else None)
@@ -64,11 +68,13 @@ decimal_of_text most text =
     if is_decimal text && nat_le (digits_value 10 text) most then Some (digits_value 10 text)
     else None
 
+-- The value of the number that the text is in decimal, in its shortest width. The number has 64 bits at most.
 abbrev pub number_of_text : List ℕ → Option (List ℕ)
 number_of_text text = option_map number_field (decimal_of_text 18446744073709551615 text)
 
 -- ---- components
 
+-- A component of this type, where there is a value.
 abbrev pub typed : ℕ → Option (List ℕ) → Option Component
 typed typ value = option_map (λ octets. (typ, octets)) value
 
@@ -97,18 +103,22 @@ cut_at octet (c ∷ text) =
     if c == octet then Some ([], text)
     else option_map (λ parts. (c ∷ parts.0, parts.1)) (cut_at octet text)
 
+-- The component of a text that was cut at its first equals sign, or that has none.
 abbrev pub component_by : List ℕ → Option (List ℕ × List ℕ) → Option Component
 component_by text None = typed types.GenericNameComponent (value_of_text text)
 component_by text (Some parts) = component_of_parts parts.0 parts.1
 
+-- The component that the text is of, where it is one of a component.
 unfoldable pub component_of_text : List ℕ → Option Component
 component_of_text text = component_by text (cut_at 61 text)
 
 -- ---- names
 
+-- A component before others, where there are such.
 abbrev pub component_before : Component → Option (List Component) → Option (List Component)
 component_before c name = option_map (λ others. c ∷ others) name
 
+-- The components that the texts are of, where each is one of a component.
 unfoldable pub components_of_texts : List (List ℕ) → Option (List Component)
 components_of_texts [] = Some []
 components_of_texts (text ∷ texts) =
@@ -126,6 +136,7 @@ after_word [] text = Some text
 after_word (c ∷ word) [] = None
 after_word (c ∷ word) (d ∷ text) = if c == d then after_word word text else None
 
+-- The text after the scheme "ndn:", which may be absent.
 abbrev pub without_scheme : List ℕ → List ℕ
 without_scheme text = unwrap_or (after_word (codes "ndn:") text) text
 
@@ -137,6 +148,7 @@ name_of_text text = option_and_then name_of_path (after_word (codes "/") (withou
 abbrev pub is_digest : Component → Bool
 is_digest c = nat_le c.0 types.ParametersSha256DigestComponent
 
+-- The component, unless it is a digest.
 abbrev pub plain_component : Component → Option Component
 plain_component c = if is_digest c then None else Some c
 

@@ -24,6 +24,7 @@ IsUriText text = (parts : List Part) × IsUri parts text
 abbrev pub HasUri : List Component → List ℕ → Type 0
 HasUri name text = (parts : List Part) × IsUri parts text × (name ≡ name_of_parts parts)
 
+-- The component has the type of a digest, but not 32 octets.
 abbrev pub is_bad_digest : Component → Bool
 is_bad_digest c = nat_le c.0 types.ParametersSha256DigestComponent && not (length c.1 == 32)
 

@@ -51,6 +51,7 @@ locator_in e =
     first_of (BadField field.KeyLocator e.start) e.value_start e.value
     >>= locator_from (BadField field.KeyLocator e.start)
 
+-- The fields so far with one more, or the fault of that one.
 abbrev pub with_info_field : InfoSoFar → InfoField × Item → Result InfoSoFar PacketFault
 with_info_field s (SignatureType, e) =
     number_in field.SignatureType e >>= λ n. Ok (record s { signature_type = Some n })
@@ -62,6 +63,7 @@ info_fields e =
     gathered with_info_field packet_fault (record { signature_type = None; locator = None })
     (fields signature_info_table (elements e.value_start e.value))
 
+-- The signature info of these fields. A signature type is needed.
 abbrev pub info_from : InfoSoFar → Result Info PacketFault
 info_from s =
     ok_or s.signature_type (Missing field.SignatureType)
@@ -73,8 +75,10 @@ info_in e = info_fields e >>= info_from
 
 -- ---- the structs without where their octets lie in memory
 
+-- The signature info that was read.
 abbrev pub info : declared_info.SignatureInfo → Info
 info i = record { signature_type = i.signature_type; locator = i.locator }
 
+-- The fields that were read so far.
 abbrev pub info_so_far : InfoFields → InfoSoFar
 info_so_far g = record { signature_type = g.signature_type; locator = g.locator }

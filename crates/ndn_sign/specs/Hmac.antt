@@ -6,9 +6,11 @@ use Rattle.sha2.specs.Sha256.{sha256}
 abbrev pub block_octets : ℕ
 block_octets = 64
 
+-- The octet of the inner pad, which RFC 2104 calls ipad.
 abbrev pub inner_pad : ℕ
 inner_pad = 0x36
 
+-- The octet of the outer pad, which RFC 2104 calls opad.
 abbrev pub outer_pad : ℕ
 outer_pad = 0x5c
 

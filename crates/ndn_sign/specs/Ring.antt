@@ -8,6 +8,7 @@ pub record NamedKey : Type 0 where
   pub name : List ℕ
   pub key : List ℕ
 
+-- A key under the octets of its name.
 abbrev pub pair : List ℕ → List ℕ → NamedKey
 pair name key = record { name = name; key = key }
 
@@ -15,6 +16,7 @@ pair name key = record { name = name; key = key }
 abbrev pub key_number : List ℕ → List NamedKey → Option ℕ
 key_number name ring = position (λ pair. bytes_eq name pair.name) ring
 
+-- Two pairs have the same name.
 abbrev pub has_same_name : NamedKey → NamedKey → Bool
 has_same_name a b = bytes_eq a.name b.name
 
