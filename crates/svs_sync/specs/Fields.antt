@@ -10,6 +10,7 @@ abbrev pub heard_in : Mode → List ℕ → Option (List ℕ)
 heard_in Steady vector = None
 heard_in Suppressed vector = Some vector
 
+-- What contracts see of the machine.
 abbrev pub keeper : Inside → Keeper
 keeper m =
     record {

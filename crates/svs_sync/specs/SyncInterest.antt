@@ -54,16 +54,19 @@ abbrev pub packet_or : Result Interest PacketFault → Result Interest SyncRefus
 packet_or (Ok interest) = Ok interest
 packet_or (Err fault) = Err (Packet fault)
 
+-- The refusal of a sync Interest that nobody signed, by the reason.
 abbrev pub unsigned_as : SignatureError → SyncRefusal
 unsigned_as signature.Unsigned = Unsigned
 unsigned_as signature.ParamsDigest = ParamsDigest
 unsigned_as signature.UnknownKey = UnknownKey
 unsigned_as signature.BadSignature = BadSignature
 
+-- The number of the signer, or a refusal of the sync Interest.
 abbrev pub signed_or : Result ℕ SignatureError → Result ℕ SyncRefusal
 signed_or (Ok signer) = Ok signer
 signed_or (Err refusal) = Err (unsigned_as refusal)
 
+-- The vector, or a refusal of the sync Interest.
 abbrev pub vector_or : Result (List ℕ) VectorFault → Result (List ℕ) SyncRefusal
 vector_or (Ok vector) = Ok vector
 vector_or (Err fault) = Err (Vector fault)

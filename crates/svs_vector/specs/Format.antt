@@ -8,12 +8,15 @@ use Rattle.svs_vector.specs.declared.entry.EntryField.TheVariants as entry_field
 use Rattle.svs_vector.specs.declared.read.VectorField.{VectorField}
 use Rattle.svs_vector.specs.declared.read.VectorField.TheVariants as vector_field
 
+-- A state vector: its value is the entries.
 abbrev pub StateVector : ℕ
 StateVector = 201
 
+-- An entry of a state vector: a node name and a sequence number.
 abbrev pub StateVectorEntry : ℕ
 StateVectorEntry = 202
 
+-- The sequence number of an entry, as a number field.
 abbrev pub SeqNo : ℕ
 SeqNo = 204
 

@@ -42,20 +42,24 @@ pub record EntrySoFar : Type 0 where
   pub name : Option (List Component)
   pub number : Option ℕ
 
+-- The name of an entry. Where it reads as none, the vector is bad at that element.
 abbrev pub entry_name : Item → Result (List Component) NameFault → Result (List Component) VectorFault
 entry_name e (Ok name) = Ok name
 entry_name e (Err f) = Err (BadVector e.start)
 
+-- The number of an entry. Where it reads as none, the vector is bad at that element.
 abbrev pub good_number : Item → Option ℕ → Result ℕ VectorFault
 good_number e (Some n) = Ok n
 good_number e None = Err (BadVector e.start)
 
+-- The fields of an entry so far with one more, or the fault of that one.
 abbrev pub with_entry_field : EntrySoFar → EntryField × Item → Result EntrySoFar VectorFault
 with_entry_field s (entry_field.Name, e) =
     entry_name e (name_of e.value_start e.value) >>= λ name. Ok (record s { name = Some name })
 with_entry_field s (entry_field.SeqNo, e) =
     good_number e (number_of e.value) >>= λ n. Ok (record s { number = Some n })
 
+-- The fields of an entry, or the first fault.
 abbrev pub entry_fields : Item → Result EntrySoFar VectorFault
 entry_fields e =
     gathered with_entry_field (fault_in e) (record { name = None; number = None })
@@ -67,9 +71,11 @@ both e (Some name) (Some n) = Ok (name, n)
 both e (Some name) None = Err (BadVector e.start)
 both e None n = Err (BadVector e.start)
 
+-- The entry that an element is, or the first fault.
 abbrev pub entry_in : Item → Result Entry VectorFault
 entry_in e = entry_fields e >>= λ s. both e s.name s.number
 
+-- The fields of an entry that were read so far.
 abbrev pub entry_so_far : EntryFields → EntrySoFar
 entry_so_far g = record { name = g.name; number = g.number }
 
@@ -82,10 +88,12 @@ counted vector n (Some member) =
     if nat_lt number_limit n then Err (NumberTooLarge member n)
     else Ok (slice_set vector member (max (slice_index vector member) n))
 
+-- The numbers so far with those of one more entry, or the fault of that one.
 abbrev pub with_vector_entry : List (List Component) → List ℕ → VectorField × Item → Result (List ℕ) VectorFault
 with_vector_entry roster vector field =
     entry_in field.1 >>= λ entry. counted vector entry.1 (member_of entry.0 roster)
 
+-- The numbers that an element has for the members of the roster, in its order, or the first fault.
 abbrev pub vector_in : List (List Component) → Item → Result (List ℕ) VectorFault
 vector_in roster e =
     gathered (with_vector_entry roster) (fault_in e) (replicate (length roster) 0)
@@ -96,5 +104,6 @@ abbrev pub vector_among : List Item → Result Item VectorFault
 vector_among [] = Err (BadVector 0)
 vector_among (e ∷ es) = if e.typ == format.StateVector then Ok e else Err (BadVector 0)
 
+-- The numbers that octets have for the members of the roster, in its order, or the first fault.
 abbrev pub vector_of : List (List Component) → List ℕ → Result (List ℕ) VectorFault
 vector_of roster octets = vector_among (elements 0 octets).items >>= vector_in roster

@@ -23,6 +23,7 @@ in_canonical_order entries = fold (λ placed entry. insert_entry canonical_cmp p
 abbrev pub entry_value : Entry → List ℕ
 entry_value entry = element types.Name (encoding entry.0) ++ element format.SeqNo (number_field entry.1)
 
+-- The octets of an entry.
 abbrev pub written_entry : Entry → List ℕ
 written_entry entry = element format.StateVectorEntry (entry_value entry)
 
