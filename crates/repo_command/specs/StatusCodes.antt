@@ -5,21 +5,27 @@ use Rattle.repo_command.specs.declared.command_refusal.CommandRefusal.TheVariant
 use Rattle.repo_command.specs.declared.command_refusal.CommandRefusal.TheVariants.{BadSignature, Packet, OtherName}
 use Rattle.repo_command.specs.declared.command_refusal.CommandRefusal.TheVariants.{Unsigned, BadParameter, NoMemory}
 
+-- An insertion process has begun.
 abbrev pub Accepted : ℕ
 Accepted = 100
 
+-- The object of a process is published, or objects were deleted.
 abbrev pub Done : ℕ
 Done = 200
 
+-- Blocks of the process are missing.
 abbrev pub InProgress : ℕ
 InProgress = 300
 
+-- The command has a wrong parameters digest, an unknown key or a wrong mac.
 abbrev pub NotValidated : ℕ
 NotValidated = 401
 
+-- The command is refused for what it is, or process numbers are used up.
 abbrev pub Malformed : ℕ
 Malformed = 403
 
+-- There is no such process, or no catalogued object of that name.
 abbrev pub NotFound : ℕ
 NotFound = 404
 

@@ -24,6 +24,7 @@ pub record Fetched : Type 0 where
   pub packet : Option (List ℕ)
   pub attempts : ℕ
 
+-- What is stored, and the packet of a part, where one came.
 abbrev pub with_fetched : Part → Option (List ℕ) → List Packet → List Packet
 with_fetched t None stored = stored
 with_fetched t (Some octets) stored = with_packet t octets stored

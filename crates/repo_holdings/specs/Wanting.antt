@@ -14,6 +14,7 @@ use Rattle.repo_holdings.specs.Listed.{listing_at, listed_shape}
 use Rattle.repo_holdings.specs.StoredParents.{digest_at}
 use Rattle.repo_holdings.specs.HoldingsState.{HoldingsState, held_plan}
 
+-- No name, no segments and no digests: what counts as listed where no record is stored.
 abbrev pub nothing_listed : Listed
 nothing_listed = record { name = []; segments = 0; digests = [] }
 

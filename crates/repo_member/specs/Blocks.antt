@@ -23,6 +23,7 @@ pub record IsWithinLimits (p : Process) : Type 0 where
   pub few : length (indexes p) ≤ 200
   pub contents : (index : ℕ) (content : List ℕ) → value_of nat_cmp p.blocks index ≡ Some content → IsContent content
 
+-- Every process of the list is within the limits.
 abbrev pub AreWithinLimits : List (ℕ × Process) → Type 0
 AreWithinLimits processes = (number : ℕ) (p : Process) → value_of nat_cmp processes number ≡ Some p → IsWithinLimits p
 
@@ -32,6 +33,7 @@ AreWithinLimits processes = (number : ℕ) (p : Process) → value_of nat_cmp pr
 abbrev pub member_block : MemberState → (process index : ℕ) → List ℕ → BlockState
 member_block a process index content = block_state a.insertions.processes process index content
 
+-- The member keeps a process under this number from now on.
 abbrev pub member_keeps : ℕ → Process → MemberState → MemberState
 member_keeps number p a = record a { insertions = with_process number p a.insertions }
 
@@ -41,12 +43,14 @@ member_publishes_whole g number time draw p a =
     if nat_lt (length a.log) publication_limit
     then member_publishes g (Offers (object_of p)) time draw (member_keeps number (closed p) a) else a
 
+-- The member after a block, by what became of that.
 abbrev pub after_block : GroupKeys → (number time draw : ℕ) → MemberState → BlockState → MemberState
 after_block g number time draw a Unknown = a
 after_block g number time draw a Already = a
 after_block g number time draw a (Waiting p) = member_keeps number p a
 after_block g number time draw a (Whole p) = member_publishes_whole g number time draw p a
 
+-- The member after a block came for a process.
 abbrev pub member_blocks : GroupKeys → (process index : ℕ) → List ℕ → (time draw : ℕ) → MemberState → MemberState
 member_blocks g process index content time draw a =
     after_block g process time draw a (member_block a process index content)

@@ -186,6 +186,7 @@ pub record GoesOn (earlier log : List Post) : Type 0 where
   pub prefix : take (length earlier) log ≡ earlier
   pub longer : length earlier ≤ length log
 
+-- Calls take back nothing that was published.
 abbrev pub LogsGoOn : Type 0
 LogsGoOn = (g : GroupKeys) (calls : List MemberCall) (a : MemberState) → GoesOn a.log (after_calls g calls a).log
 
@@ -208,6 +209,7 @@ LoggedPacketsStay = (g : GroupKeys) (calls : List MemberCall) (a : MemberState) 
 
 -- ---- what is known
 
+-- No number of the member's vector falls.
 abbrev pub NumbersNeverFall : Type 0
 NumbersNeverFall = (g : GroupKeys) (calls : List MemberCall) (a : MemberState) (p : ℕ) → IsMemberState a
     → slice_index a.known p ≤ slice_index (after_calls g calls a).known p
@@ -217,6 +219,7 @@ abbrev pub vector_taken : Result (List ℕ) HearRefusal → List (List ℕ)
 vector_taken (Ok reported) = reported ∷ []
 vector_taken (Err refusal) = []
 
+-- The vector that the member hears in this call, if it takes one.
 abbrev pub vector_of_call : GroupKeys → MemberState → MemberCall → List (List ℕ)
 vector_of_call g a (Hear octets time draw) = vector_taken (hear_verdict g a octets)
 vector_of_call g a (HearVector reported time draw) = vector_taken (vector_verdict a reported)

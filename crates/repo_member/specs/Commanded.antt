@@ -61,31 +61,37 @@ abbrev pub member_state_starts : List Component → ℕ → ℕ → MemberState 
 member_state_starts name first last a None = a
 member_state_starts name first last a (Some number) = record a { insertions = starts name first last a.insertions }
 
+-- The member after a command.
 abbrev pub member_obeys : Command → MemberState → MemberState
 member_obeys (Insert name first last) a = member_state_starts name first last a (next_number a.insertions)
 member_obeys (Check process) a = a
 member_obeys (Delete name) a = member_deletes name a
 
+-- The member after octets that were read as a client's command, or refused with a status code.
 abbrev pub member_after_order : Result (ℕ × Command) ℕ → MemberState → MemberState
 member_after_order (Ok order) a = member_obeys order.1 a
 member_after_order (Err code) a = a
 
 -- ---- what is answered
 
+-- The answer to an insertion: the number of its process, or that numbers are used up.
 abbrev pub start_answer : Option ℕ → Answer
 start_answer None = code_only status.Malformed
 start_answer (Some number) = record (code_only status.Accepted) { process = Some number }
 
+-- The answer to a deletion: how many packets are dropped, or that nothing has that name.
 abbrev pub delete_answer : List Component → MemberState → Answer
 delete_answer name a =
     if length (catalogued_named name a) == 0 then code_only status.NotFound
     else record (code_only status.Done) { deleted = Some (member_drops name a) }
 
+-- The answer to a command.
 abbrev pub answer_to : Command → MemberState → Answer
 answer_to (Insert name first last) a = start_answer (next_number a.insertions)
 answer_to (Check process) a = check_answer (value_of nat_cmp a.insertions.processes process)
 answer_to (Delete name) a = delete_answer name a
 
+-- The answer to octets that were read as a client's command, or refused with a status code.
 abbrev pub member_order_answer : Result (ℕ × Command) ℕ → MemberState → Answer
 member_order_answer (Ok order) a = answer_to order.1 a
 member_order_answer (Err code) a = code_only code
@@ -108,5 +114,6 @@ abbrev pub reply_to_interest : GroupKeys → ℕ → Answer → Result Interest 
 reply_to_interest g number answer (Ok i) = reply_named g number answer i.name
 reply_to_interest g number answer (Err fault) = None
 
+-- The Data packet that replies to octets, if they are an Interest whose name isn't too long.
 abbrev pub reply_to_octets : GroupKeys → ℕ → Answer → List ℕ → Option (List ℕ)
 reply_to_octets g number answer octets = reply_to_interest g number answer (interest_of octets)

@@ -51,6 +51,7 @@ LearnsConsistent = (g : GroupKeys) (logs : Logs) (reported : List ℕ) (a : Memb
     → IsConsistentVector logs reported → IsConsistentMember g logs a
     → IsConsistentMember g logs (member_learns reported a)
 
+-- It hears a vector that reports no publication that there isn't.
 abbrev pub HearsConsistent : Type 0
 HearsConsistent = (g : GroupKeys) (logs : Logs) (reported : List ℕ) (time draw : ℕ) (a : MemberState)
     → IsConsistentVector logs reported
@@ -80,18 +81,22 @@ abbrev pub ObeysConsistent : Type 0
 ObeysConsistent = (g : GroupKeys) (logs : Logs) (command : Command) (a : MemberState) → AreLogs g logs
     → IsConsistentMember g logs a → IsConsistentMember g logs (member_obeys command a)
 
+-- Its timer fires.
 abbrev pub FiresConsistent : Type 0
 FiresConsistent = (g : GroupKeys) (logs : Logs) (time draw : ℕ) (a : MemberState) → IsConsistentMember g logs a
     → IsConsistentMember g logs (member_fires time draw a)
 
+-- Its machine is Steady anew.
 abbrev pub ResetsConsistent : Type 0
 ResetsConsistent = (g : GroupKeys) (logs : Logs) (time draw : ℕ) (a : MemberState) → IsConsistentMember g logs a
     → IsConsistentMember g logs (member_resets time draw a)
 
+-- It starts again.
 abbrev pub RestartsConsistent : Type 0
 RestartsConsistent = (g : GroupKeys) (logs : Logs) (time draw : ℕ) (a : MemberState) → IsConsistentMember g logs a
     → IsConsistentMember g logs (member_restarts time draw a)
 
+-- All its claims end.
 abbrev pub EndsClaimsConsistent : Type 0
 EndsClaimsConsistent = (g : GroupKeys) (logs : Logs) (a : MemberState) → IsConsistentMember g logs a
     → IsConsistentMember g logs (member_ends_claims a)
@@ -102,6 +107,7 @@ ClaimsConsistent = (g : GroupKeys) (logs : Logs) (f : ℕ) (a : MemberState) →
     → IsConsistentMember g logs a
     → IsConsistentMember g logs (member_claims f (first (unclaimed (member_plan a))) a)
 
+-- A fetcher loses its claim.
 abbrev pub LosesConsistent : Type 0
 LosesConsistent = (g : GroupKeys) (logs : Logs) (f : ℕ) (a : MemberState) → IsConsistentMember g logs a
     → IsConsistentMember g logs (member_claims f None a)

@@ -54,10 +54,12 @@ abbrev pub ConsistentIsMemberState : Type 0
 ConsistentIsMemberState = (g : GroupKeys) (logs : Logs) (a : MemberState) → IsConsistentMember g logs a
     → IsMemberState a
 
+-- Its vector has a number for each member of the group.
 abbrev pub ConsistentIsOf : Type 0
 ConsistentIsOf = (g : GroupKeys) (logs : Logs) (a : MemberState) → AreLogs g logs → IsConsistentMember g logs a
     → IsOfGroup g a
 
+-- Each packet that it stores is that of a published part.
 abbrev pub ConsistentStores : Type 0
 ConsistentStores = (g : GroupKeys) (logs : Logs) (a : MemberState) → IsConsistentMember g logs a
     → StoresConsistently g logs a
@@ -98,6 +100,7 @@ abbrev pub PacketsPass : Type 0
 PacketsPass = (g : GroupKeys) (logs : Logs) (t : Part) (octets : List ℕ) → AreLogs g logs → IsPublishedPart logs t
     → published_packet g logs t ≡ Some octets → IsOk (ring_verdict (published_want g logs t) g.members.ring octets)
 
+-- The published packet of a part that a member wants passes for its want.
 abbrev pub PacketsPassForMembers : Type 0
 PacketsPassForMembers = (g : GroupKeys) (logs : Logs) (a : MemberState) (t : Part) (octets : List ℕ) → AreLogs g logs
     → IsConsistentMember g logs a → is_wanted (member_plan a) t ≡ true → published_packet g logs t ≡ Some octets

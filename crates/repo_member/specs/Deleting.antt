@@ -15,6 +15,7 @@ member_state_hides pairs a = record a { store = outside_all pairs a.store; hidde
 abbrev pub catalogued_named : List Component → MemberState → List Pair
 catalogued_named name a = all_named name (member_catalogue a.store)
 
+-- The member hides every catalogued publication of an object of that name.
 abbrev pub member_deletes : List Component → MemberState → MemberState
 member_deletes name a = member_state_hides (catalogued_named name a) a
 

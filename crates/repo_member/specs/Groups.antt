@@ -16,6 +16,7 @@ pub record NodeKeys : Type 0 where
   pub names : List (List Component)
   pub ring : List NamedKey
 
+-- No member, or no client.
 abbrev pub no_nodes : NodeKeys
 no_nodes = record { names = []; ring = [] }
 
@@ -48,6 +49,7 @@ member_key group number = (unwrap_or (slice_get group.members.ring number) (pair
 abbrev pub client_at : GroupKeys → ℕ → List Component
 client_at group client = unwrap_or (slice_get group.clients.names client) []
 
+-- The key of a client, by its number.
 abbrev pub client_key_at : GroupKeys → ℕ → List ℕ
 client_key_at group client = (unwrap_or (slice_get group.clients.ring client) (pair [] [])).key
 

@@ -43,18 +43,21 @@ pub record IsConsistentIn (g : GroupKeys) (w : World) (a : MemberState) : Type 0
 
 -- ---- what is published, heard and fired
 
+-- The member publishes an object.
 abbrev pub PublishIsEvent : Type 0
 PublishIsEvent = (out : Environment) (w : World) (j : ℕ) (g : GroupKeys) (object : NamedContents) (a : MemberState)
     → IsMemberOf w j a → StoresInOrder a
     → member (after_event out w (Event.Publish j object)) j
     ≡ in_group (member_publishes g (Offers object) w.time (drawn out w j) a)
 
+-- The member withdraws a publication.
 abbrev pub WithdrawIsEvent : Type 0
 WithdrawIsEvent = (out : Environment) (w : World) (j seq : ℕ) (g : GroupKeys) (a : MemberState)
     → IsMemberOf w j a → StoresInOrder a
     → member (after_event out w (Event.Withdraw j seq)) j
     ≡ in_group (member_publishes g (Withdraws seq) w.time (drawn out w j) a)
 
+-- The member hears a sync Interest that was sent in the group.
 abbrev pub DeliverIsEvent : Type 0
 DeliverIsEvent = (out : Environment) (w : World) (k j : ℕ) (a : MemberState) → IsMemberOf w j a
     → member (after_event out w (Event.Deliver k j)) j
@@ -68,10 +71,12 @@ HearIsEvent = (out : Environment) (w : World) (j : ℕ) (sync : SyncInterest) (a
     (if nat_lt (length a.log) (slice_index sync.vector a.number) then a
     else member_hears sync.vector w.time (drawn out w j) a)
 
+-- The member's timer is asked.
 abbrev pub FireIsEvent : Type 0
 FireIsEvent = (out : Environment) (w : World) (j : ℕ) (a : MemberState) → IsMemberOf w j a
     → member (after_event out w (Event.Fire j)) j ≡ in_group (member_fires w.time (drawn out w j) a)
 
+-- The member starts again.
 abbrev pub RestartIsEvent : Type 0
 RestartIsEvent = (out : Environment) (w : World) (j : ℕ) (a : MemberState) → IsMemberOf w j a
     → member (after_event out w (Event.Restart j)) j ≡ in_group (member_restarts w.time (drawn out w j) a)
@@ -84,6 +89,7 @@ ClaimIsEvent = (out : Environment) (w : World) (j f : ℕ) (g : GroupKeys) (a : 
     → IsMemberOf w j a → IsConsistentIn g w a → claim_of (member_plan a) f ≡ None
     → member (after_event out w (Event.Claim j f)) j ≡ in_group (member_claims f (first (unclaimed (member_plan a))) a)
 
+-- A fetcher loses its claim.
 abbrev pub LoseIsEvent : Type 0
 LoseIsEvent = (out : Environment) (w : World) (j f : ℕ) (a : MemberState) → IsMemberOf w j a
     → member (after_event out w (Event.Lose j f)) j ≡ in_group (member_claims f None a)
@@ -109,6 +115,7 @@ pub record IsOutcomeIn (out : Environment) (w : World) (j tries loss : ℕ) (xs 
   pub came : that_came xs ≡ fetched_parts out w j tries loss
   pub tried : AreTries (attempts_for out w j tries loss) xs
 
+-- What came of a fetch is taken, where the group has the same outcome.
 abbrev pub FetchIsEvent : Type 0
 FetchIsEvent = (out : Environment) (w : World) (j tries loss : ℕ) (xs : List Fetched) (a : MemberState)
     → IsMemberOf w j a → StoresInOrder a → IsOutcomeIn out w j tries loss xs
@@ -123,6 +130,7 @@ OrderIsEvent = (out : Environment) (w : World) (j : ℕ) (order : Result (ℕ ×
     → IsMemberOf w j a → IsConsistentIn g w a
     → member (after_event out w (Event.Order j order)) j ≡ in_group (member_after_order order a)
 
+-- The group replies to such a command with the member's answer.
 abbrev pub OrderIsAnswered : Type 0
 OrderIsAnswered = (out : Environment) (w : World) (j : ℕ) (order : Result (ℕ × Command) ℕ) (g : GroupKeys)
     (a : MemberState)
@@ -135,6 +143,7 @@ IssueIsEvent = (out : Environment) (w : World) (j client : ℕ) (command : Comma
     → IsMemberOf w j a → IsConsistentIn g w a
     → member (after_event out w (Event.Issue j client command)) j ≡ in_group (member_obeys command a)
 
+-- The group replies to a command that a client makes with the member's answer.
 abbrev pub IssueIsAnswered : Type 0
 IssueIsAnswered = (out : Environment) (w : World) (j client : ℕ) (command : Command) (g : GroupKeys) (a : MemberState)
     → IsMemberOf w j a → IsConsistentIn g w a
@@ -181,12 +190,14 @@ pub record IsSettling (w : World) (j : ℕ) (a : MemberState) (vectors : List (L
   pub came : (t : Part) → contains part_cmp (that_came xs) t ≡ contains part_cmp (new_parts w (member w j)) t
   pub tried : AreTries (λ t. 0) xs
 
+-- In a settle the member learns all vectors and takes what came of others.
 abbrev pub GatheringIsEvent : Type 0
 GatheringIsEvent = (out : Environment) (w : World) (j : ℕ) (vectors : List (List ℕ)) (xs : List Fetched)
     (a : MemberState)
     → IsMemberOf w j a → StoresInOrder a → IsSettling w j a vectors xs
     → member (after_gathering out w) j ≡ in_group (member_takes xs (learns_all vectors (member_ends_claims a)))
 
+-- After a settle the member's machine is Steady anew, too.
 abbrev pub SettleIsEvent : Type 0
 SettleIsEvent = (out : Environment) (w : World) (j : ℕ) (vectors : List (List ℕ)) (xs : List Fetched) (a : MemberState)
     → IsMemberOf w j a → StoresInOrder a → IsSettling w j a vectors xs
@@ -200,6 +211,7 @@ abbrev pub OpenPartsAlike : Type 0
 OpenPartsAlike = (w : World) (j : ℕ) (g : GroupKeys) (a : MemberState) → IsMemberOf w j a → IsConsistentIn g w a
     → open_at w j ≡ unclaimed (member_plan a)
 
+-- The member lists the catalogue that the group has for it.
 abbrev pub CataloguesAlike : Type 0
 CataloguesAlike = (w : World) (j : ℕ) (g : GroupKeys) (a : MemberState) → IsMemberOf w j a → IsConsistentIn g w a
     → catalogue_at w j ≡ member_catalogue a.store

@@ -104,6 +104,7 @@ AcceptsAlike = (f : ℕ) (t : Part) (octets : List ℕ) (a : MemberState) → St
 abbrev pub asked_for : List Fetched → List Part
 asked_for xs = map (λ x. x.part) xs
 
+-- The parts of a fetch whose packets came.
 abbrev pub that_came : List Fetched → List Part
 that_came xs = asked_for (filter (λ x. is_some x.packet) xs)
 

@@ -113,6 +113,7 @@ member_publishes g post time draw a = record a {
 abbrev pub packet_in : Publisher → Part → Post → Option (List ℕ)
 packet_in publisher t post = packet_at publisher t.seq post t.part
 
+-- The packet of a part that the member itself published, by its log.
 abbrev pub logged : GroupKeys → MemberState → Part → Option (List ℕ)
 logged g a t =
     if t.publisher == a.number then
@@ -122,6 +123,7 @@ logged g a t =
 
 -- ---- hearing
 
+-- The member knows of all that a vector reports.
 abbrev pub member_learns : List ℕ → MemberState → MemberState
 member_learns reported a = record a { known = join a.known reported }
 
@@ -130,6 +132,7 @@ abbrev pub member_hears : List ℕ → ℕ → ℕ → MemberState → MemberSta
 member_hears reported time draw a =
     record (member_learns reported a) { machine = hears_kept time reported a.known draw a.machine a.machine.heard }
 
+-- The member's timer is asked at this time, in milliseconds.
 abbrev pub member_fires : ℕ → ℕ → MemberState → MemberState
 member_fires time draw a = record a { machine = fired_kept time draw a.machine }
 
@@ -150,6 +153,7 @@ member_accepts f t octets a = record (member_claims f None a) { store = with_pac
 
 -- ---- a fetch's outcome
 
+-- The packets that came are stored, and all attempts counted.
 abbrev pub member_takes : List Fetched → MemberState → MemberState
 member_takes [] a = a
 member_takes (x ∷ xs) a = member_takes xs (record a {
@@ -159,9 +163,11 @@ member_takes (x ∷ xs) a = member_takes xs (record a {
 
 -- ---- starting again
 
+-- No fetcher of the member claims a part.
 abbrev pub member_ends_claims : MemberState → MemberState
 member_ends_claims a = record a { claims = no_claims }
 
+-- The member's machine is Steady from this time on.
 abbrev pub member_resets : ℕ → ℕ → MemberState → MemberState
 member_resets time draw a = record a { machine = steady_kept time draw a.machine }
 
@@ -169,5 +175,6 @@ member_resets time draw a = record a { machine = steady_kept time draw a.machine
 abbrev pub member_clears : MemberState → MemberState
 member_clears a = record a { insertions = record a.insertions { processes = [] } }
 
+-- The member starts again: claims and insertion processes end, and its machine is Steady.
 abbrev pub member_restarts : ℕ → ℕ → MemberState → MemberState
 member_restarts time draw a = member_resets time draw (member_clears (member_ends_claims a))

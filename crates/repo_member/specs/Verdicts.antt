@@ -45,6 +45,7 @@ abbrev pub passed : Part → Result Data PartRefusal → Result Part AcceptRefus
 passed t (Ok d) = Ok t
 passed t (Err refusal) = Err (Refused refusal)
 
+-- The part that octets are taken for, or why they are refused, by what the fetcher claims.
 abbrev pub claim_verdict : GroupKeys → MemberState → List ℕ → Option Part → Result Part AcceptRefusal
 claim_verdict g a octets None = Err FetcherIdle
 claim_verdict g a octets (Some t) = passed t (ring_verdict (want_of g a.store t) g.members.ring octets)

@@ -83,6 +83,7 @@ pub record TakesConsistently (g : GroupKeys) (logs : Logs) (xs : List Fetched) (
   pub held : (u : Part) → mirror_holds (mirror_in_group (mirror_takes xs m)) u
       ≡ (contains part_cmp (that_came xs) u || mirror_holds (mirror_in_group m) u)
 
+-- A consistent mirror that takes what came stays consistent, and holds the parts that came too.
 abbrev pub MirrorsTakeConsistent : Type 0
 MirrorsTakeConsistent = (g : GroupKeys) (logs : Logs) (m : MirrorState) (xs : List Fetched) → AreLogs g logs
     → IsConsistentMirror g logs m → All (CameForMirror g logs m) xs → TakesConsistently g logs xs m

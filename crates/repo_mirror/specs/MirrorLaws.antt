@@ -27,6 +27,7 @@ pub record GainsPart (pattern : Pattern) (logs : Logs) (t : Part) (m : Mirror) :
   pub sound : IsSoundMirror pattern logs (mirror_gains pattern logs t m)
   pub held : (u : Part) → mirror_holds (mirror_gains pattern logs t m) u ≡ (eq_by_cmp part_cmp u t || mirror_holds m u)
 
+-- A sound mirror gains a part that it wants, and stays sound.
 abbrev pub MirrorsGain : Type 0
 MirrorsGain = (pattern : Pattern) (logs : Logs) (m : Mirror) (t : Part) → IsSoundMirror pattern logs m
     → IsWantedByMirror pattern logs m t → GainsPart pattern logs t m
@@ -65,6 +66,7 @@ pub record GainsThose (pattern : Pattern) (logs : Logs) (members : List Member) 
   pub all : HasComeToRest pattern logs members new → (any : List Part) → ComeInTurn pattern logs members any m
       → (t : Part) → contains part_cmp any t ≡ true → mirror_holds new t ≡ true
 
+-- A sound mirror that is gathering has gained those parts.
 abbrev pub GatheringGainsThose : Type 0
 GatheringGainsThose = (pattern : Pattern) (logs : Logs) (members : List Member) (m new : Mirror)
     → IsSoundMirror pattern logs m → IsGathering pattern logs members m new → GainsThose pattern logs members m new

@@ -8,6 +8,7 @@ use Rattle.repo_holdings.specs.HoldingsState.{HoldingsState, held_plan}
 use Rattle.repo_watch.specs.declared.pattern.Pattern.{Pattern}
 use Rattle.repo_mirror.specs.Asked.{asked_numbers}
 
+-- A mirror by itself: its pattern, what it knows of and holds, and how often it tried parts.
 pub record MirrorState : Type 0 where
   pub pattern : Pattern
   pub known : List ℕ  -- its vector: one number a member

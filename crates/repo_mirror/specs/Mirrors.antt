@@ -47,6 +47,7 @@ module _ (pattern : Pattern) where
 
   -- ---- how it is kept: as a member that hides what it passed over, and knows of nobody that it doesn't ask
 
+  -- The member that the mirror is kept as.
   abbrev pub as_member : Mirror → Member
   as_member m = record no_member {
     known = asked_numbers pattern.publisher 0 m.known;
@@ -55,6 +56,7 @@ module _ (pattern : Pattern) where
     attempts = m.attempts;
   }
 
+  -- The fetch plan of the mirror.
   abbrev pub mirror_plan : Logs → Mirror → PlanState
   mirror_plan logs m = plan_of logs (as_member m)
 
@@ -77,18 +79,21 @@ module _ (pattern : Pattern) where
     pub publisher : is_publisher pattern.publisher pair.0 ≡ true
     pub not_accepted : is_kept pattern logs pair ≡ false
 
+  -- Both hold of all that the mirror keeps and has passed over.
   pub record IsSoundMirror (logs : Logs) (m : Mirror) : Type 0 where
     pub kept : (t : Part) → contains part_cmp m.kept t ≡ true → IsKeptSoundly logs m t
     pub passed : (pair : Pair) → contains pair_cmp m.passed pair ≡ true → IsPassedSoundly logs m pair
 
   -- ---- what it makes of a part that comes: the record of an object that the pattern isn't for is passed over
 
+  -- The mirror after a part came.
   abbrev pub mirror_gains : Logs → Part → Mirror → Mirror
   mirror_gains logs t m =
       if is_kept pattern logs (pair_of t)
       then record m { kept = insert_key part_cmp t m.kept }
       else record m { passed = insert_key pair_cmp (pair_of t) m.passed }
 
+  -- The mirror after these parts came, one after another.
   abbrev pub mirror_gains_all : Logs → List Part → Mirror → Mirror
   mirror_gains_all logs [] m = m
   mirror_gains_all logs (t ∷ ts) m = mirror_gains_all logs ts (mirror_gains logs t m)

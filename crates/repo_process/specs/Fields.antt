@@ -16,9 +16,11 @@ blocks_from index [] = []
 blocks_from index ([] ∷ contents) = blocks_from (index + 1) contents
 blocks_from index ((octet ∷ octets) ∷ contents) = (index, octet ∷ octets) ∷ blocks_from (index + 1) contents
 
+-- The contents of the blocks by their indexes, empty where a block is missing.
 abbrev pub contents_of : insertion.Inside → List (List ℕ)
 contents_of m = map (λ c. c.items) m.contents.items
 
+-- What contracts see of an insertion.
 abbrev pub process_of : insertion.Inside → Process
 process_of m = record {
   name = m.name;
@@ -52,6 +54,7 @@ insertions_of m = record {
   next_process = m.next;
 }
 
+-- Each process that is kept has a number from 1 on, and numbers have 32 bits.
 pub record ProcessesAreNumbered (m : processes.Inside) : Type 0 where
   pub given : length m.insertions.items < m.next
   pub last : m.next ≤ 2 ^ 32

@@ -15,6 +15,7 @@ pub record Insertions : Type 0 where
 abbrev pub next_number : Insertions → Option ℕ
 next_number i = if nat_le i.next_process 4294967295 then Some i.next_process else None
 
+-- A process is kept under this number from now on.
 abbrev pub with_process : ℕ → Process → Insertions → Insertions
 with_process number p i = record i { processes = with_value nat_cmp number p i.processes }
 
@@ -28,6 +29,7 @@ abbrev pub with_changed : ℕ → (Process → Process) → Insertions → Optio
 with_changed number change i None = i
 with_changed number change i (Some p) = with_process number (change p) i
 
+-- The process of this number is changed, if there is one.
 abbrev pub changes_process : ℕ → (Process → Process) → Insertions → Insertions
 changes_process number change i = with_changed number change i (value_of nat_cmp i.processes number)
 
@@ -38,5 +40,6 @@ with_arrival number i Already = i
 with_arrival number i (Waiting p) = with_process number p i
 with_arrival number i (Whole p) = with_process number p i
 
+-- A block comes for the process of this number.
 abbrev pub blocks_process : (number index : ℕ) → List ℕ → Insertions → Insertions
 blocks_process number index content i = with_arrival number i (block_state i.processes number index content)

@@ -24,6 +24,7 @@ abbrev pub name_of : Option (List ℕ) → List ℕ
 name_of None = []
 name_of (Some octets) = packet_name octets
 
+-- The name of the packet that is held for a part, as octets.
 abbrev pub name_at : Slots → Held → List ℕ
 name_at slots h = name_of (at slots h.1)
 
@@ -35,6 +36,7 @@ Key = List ℕ × Part
 abbrev pub key_cmp : Key → Key → Ordering
 key_cmp a b = ordering_then (slice_cmp nat_cmp a.0 b.0) (part_cmp a.1 b.1)
 
+-- What the packet that is held for a part is found by.
 abbrev pub key_in : Slots → Held → Key
 key_in slots h = (name_at slots h, h.0)
 
@@ -42,6 +44,7 @@ key_in slots h = (name_at slots h, h.0)
 abbrev pub AreInOrder : Slots → List Held → Type 0
 AreInOrder slots held = Climbs key_cmp (key_in slots) held
 
+-- The entries of an index are in order of their keys.
 abbrev pub IndexIsInOrder : Index → Type 0
 IndexIsInOrder i = AreInOrder i.kept.now.slots i.held.now
 

@@ -12,6 +12,7 @@ fingerprint_of digest = from_be_bytes w64 (take 8 digest)
 abbrev pub Slots : Type 0
 Slots = List (Option (List ℕ))
 
+-- What is in the slot of this number. A slot that there isn't has nothing.
 abbrev pub at : Slots → ℕ → Option (List ℕ)
 at slots slot = slice_index_or slots slot None
 

@@ -54,5 +54,6 @@ served_entry interest packets = interest_of interest >>= λ i. Ok (first_served 
 abbrev pub served : List ℕ → List (Part × List ℕ) → Result (Option (List ℕ)) PacketFault
 served interest packets = served_entry interest packets >>= λ e. Ok (option_map (λ s. s.1) e)
 
+-- The part whose packet answers the Interest, if there is one, or the fault of the Interest.
 abbrev pub served_part : List ℕ → List (Part × List ℕ) → Result (Option Part) PacketFault
 served_part interest packets = served_entry interest packets >>= λ e. Ok (option_map (λ s. s.0) e)

@@ -125,6 +125,7 @@ pub record IsPut (part : Part) (octets : List ℕ) (slot : ℕ) (old new : Packe
 abbrev pub held_outside : Pair → List Held → List Held
 held_outside pair held = filter (λ (h : Held). not (is_in pair h.0)) held
 
+-- What is held of other publications than these.
 abbrev pub held_outside_all : List Pair → List Held → List Held
 held_outside_all pairs held = filter (λ (h : Held). not (is_in_any pairs h.0)) held
 

@@ -29,6 +29,7 @@ different_octets (e ∷ es) = insert_key (slice_cmp nat_cmp) e.1 (different_octe
 abbrev pub packets_in : Pair → List (Part × List ℕ) → List (Part × List ℕ)
 packets_in pair packets = filter (λ e. is_in pair e.0) packets
 
+-- The packets of the parts of other publications.
 abbrev pub packets_outside : Pair → List (Part × List ℕ) → List (Part × List ℕ)
 packets_outside pair packets = filter (λ e. not (is_in pair e.0)) packets
 
@@ -40,6 +41,7 @@ is_in_any pairs t = list_any (λ pair. is_in pair t) pairs
 abbrev pub packets_in_any : List Pair → List (Part × List ℕ) → List (Part × List ℕ)
 packets_in_any pairs packets = filter (λ e. is_in_any pairs e.0) packets
 
+-- The packets of the parts of publications that aren't listed.
 abbrev pub packets_outside_all : List Pair → List (Part × List ℕ) → List (Part × List ℕ)
 packets_outside_all pairs packets = filter (λ e. not (is_in_any pairs e.0)) packets
 

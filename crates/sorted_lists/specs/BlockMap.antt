@@ -78,6 +78,7 @@ module _ {K V : Type 0} (R : K → K → Ordering) where
   IsPlace k (b ∷ bs) (suc i) = AreBefore b.items k × (is_some (last_up_to R k (joined bs)) ≡ true) × IsPlace k bs i
 
 module _ {K V : Type 0} where
+  -- All entries of the blocks, in order of their keys.
   abbrev pub entries : BlockMap K V → List (K × V)
   entries m = joined m.blocks.items
 
