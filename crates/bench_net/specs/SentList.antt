@@ -10,6 +10,7 @@ pub record SentPacket : Type 0 where
   pub vector : List ℕ
   pub octets : List ℕ
 
+-- A packet with its sender, its vector and its octets.
 abbrev pub sent_packet : ℕ → List ℕ → List ℕ → SentPacket
 sent_packet sender vector octets =
     record { sender = sender; vector = vector; octets = octets }

@@ -56,6 +56,7 @@ abbrev pub fed_by : Result Data PartRefusal → Fed
 fed_by (Ok d) = Kept
 fed_by (Err refusal) = Fed.Refused refusal
 
+-- What is reported of octets that come for a part: they are kept, or refused for a reason.
 abbrev pub fed_as : GroupKeys → Logs → List ℕ → Part → Fed
 fed_as g logs octets t = fed_by (ring_verdict (published_want g logs t) g.members.ring octets)
 
@@ -72,6 +73,7 @@ accepts_claimed g logs f t Nothing a = a
 accepts_claimed g logs f t Its a = member_accepts f t (unwrap_or (published_packet g logs t) []) a
 accepts_claimed g logs f t Another a = a
 
+-- The member after something came for what the fetcher claims, if it claims a part.
 abbrev pub after_claimed : GroupKeys → Logs → ℕ → Option Part → Came → MemberState → MemberState
 after_claimed g logs f None came a = a
 after_claimed g logs f (Some t) came a = accepts_claimed g logs f t came a

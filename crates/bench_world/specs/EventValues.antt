@@ -41,6 +41,7 @@ use Rattle.bench_world.specs.Readings.{read_as, finds}
 
 -- ---- events
 
+-- An event of a step, with the values that its line states. Members, clients, fetchers and packets are numbers.
 pub data EventValue : Type 0 where
   Publish : (m : ℕ) (name : List Component) (size : ℕ) (content : List ℕ) → EventValue
   Withdraw : (m s : ℕ) → EventValue
@@ -68,6 +69,7 @@ pub data EventValue : Type 0 where
   Summary : EventValue
   Traffic : EventValue
 
+-- The value of an event of the program.
 abbrev pub event_value : Event → EventValue
 event_value (is.Publish m name size content) = EventValue.Publish m name size content.items
 event_value (is.Withdraw m s) = EventValue.Withdraw m s
@@ -95,6 +97,7 @@ event_value (is.Delete m client name) = EventValue.Delete m client name
 event_value is.Summary = EventValue.Summary
 event_value is.Traffic = EventValue.Traffic
 
+-- The part of this publisher, sequence number and place.
 abbrev pub part_at : ℕ → ℕ → ℕ → Part
 part_at p s x = record { publisher = p; seq = s; part = x }
 
@@ -172,6 +175,7 @@ pub data Reported : Type 0 where
   Summary : (members entries segments octets : List ℕ) → Reported
   Traffic : (syncs delivered attempts parts octets : ℕ) → Reported
 
+-- The value of a report of the program.
 abbrev pub reported_value : Happened → Reported
 reported_value (was.Publish m seq segments sync) = Reported.Publish m seq segments sync
 reported_value (was.Withdraw m seq withdrawn sync) = Reported.Withdraw m seq withdrawn sync
@@ -217,6 +221,7 @@ reported_value (was.Traffic syncs delivered attempts parts octets) = Reported.Tr
 
 -- ---- what is told in a world
 
+-- The report of a sync Interest that a member heard, by the mode of its machine afterwards.
 abbrev pub delivered_reported : ℕ → ℕ → Mode → Reported
 delivered_reported k m Steady = Reported.DeliverSteady k m
 delivered_reported k m Suppressed = Reported.DeliverSuppressed k m
@@ -227,6 +232,7 @@ fired_reported m k fired.Early = Reported.FireEarly m
 fired_reported m k fired.Quiet = Reported.FireQuiet m
 fired_reported m k fired.Send = Reported.FireSent m k
 
+-- The report of a claim: the part that the fetcher claims now, or that there is none.
 abbrev pub claim_reported : ℕ → ℕ → Option Part → Reported
 claim_reported m f None = Reported.ClaimNone m f
 claim_reported m f (Some t) = Reported.ClaimPart m f t.publisher t.seq t.part
@@ -236,17 +242,21 @@ abbrev pub lost_reported : ℕ → ℕ → Option Part → Reported
 lost_reported m f None = Reported.Nothing
 lost_reported m f (Some t) = Reported.Lose m f t.publisher t.seq t.part
 
+-- The report of an answer for a claimed part: it was kept, or nothing was.
 abbrev pub answer_reported : ℕ → ℕ → Bool → Reported
 answer_reported m f kept = if kept then Reported.AnswerKept m f else Reported.AnswerNone m f
 
+-- The report of the packet that a member holds of a part, if it holds one.
 abbrev pub dump_reported : ℕ → Option (List ℕ) → Reported
 dump_reported m None = Reported.DumpNone m
 dump_reported m (Some octets) = Reported.DumpHex m octets
 
+-- The report of octets that a member took as a sync Interest, by the mode of its machine afterwards.
 abbrev pub mode_reported : ℕ → Mode → Reported
 mode_reported m Steady = Reported.HearSteady m
 mode_reported m Suppressed = Reported.HearSuppressed m
 
+-- The report of a sync Interest from outside: the mode then, or that it has too many publications of the member.
 abbrev pub heard_as : ℕ → Result Mode (ℕ × ℕ) → Reported
 heard_as m (Ok mode) = mode_reported m mode
 heard_as m (Err ahead) = Reported.HearRefused m (hear.OwnNumberAhead ahead.0 ahead.1)
@@ -257,11 +267,13 @@ abbrev pub hear_reported : (m : ℕ) (verdict : Result (ℕ × List ℕ) SyncRef
 hear_reported m (Err refusal) heard = Reported.HearRefused m (hear.Sync refusal)
 hear_reported m (Ok reported) heard = heard_as m heard
 
+-- The report of octets that ask a member as an Interest: the packet, that there is none, or their fault.
 abbrev pub ask_reported : ℕ → Result (Option (List ℕ)) PacketFault → Reported
 ask_reported m (Err fault) = Reported.AskRefused m fault
 ask_reported m (Ok None) = Reported.AskNone m
 ask_reported m (Ok (Some octets)) = Reported.AskFound m octets
 
+-- The report of octets that are handed to a fetcher, by the verdict on them.
 abbrev pub fed_reported : ℕ → ℕ → Result Data PartRefusal → Reported
 fed_reported m f (Ok d) = Reported.FeedKept m f
 fed_reported m f (Err refusal) = Reported.FeedRefused m f refusal
@@ -276,12 +288,15 @@ feed_reported g w m f octets (Some t) = fed_reported m f
 abbrev pub order_reported : ℕ → CommandAnswer → Reported
 order_reported m a = Reported.Order m a.code a.process a.inserted a.deleted
 
+-- The report of an insertion that a client asked for.
 abbrev pub insert_reported : ℕ → CommandAnswer → Reported
 insert_reported m a = Reported.Insert m a.code a.process a.inserted a.deleted
 
+-- The report of a check of an insertion process.
 abbrev pub status_reported : ℕ → CommandAnswer → Reported
 status_reported m a = Reported.Status m a.code a.process a.inserted a.deleted
 
+-- The report of a deletion that a client asked for.
 abbrev pub delete_reported : ℕ → CommandAnswer → Reported
 delete_reported m a = Reported.Delete m a.code a.process a.inserted a.deleted
 
@@ -328,5 +343,6 @@ event_reported g w EventValue.Summary totals = Reported.Summary (numbers_from 0 
 event_reported g w EventValue.Traffic reported =
     Reported.Traffic reported.syncs reported.delivered reported.attempts reported.parts reported.octets
 
+-- The report of an event in a world.
 abbrev pub event_report : GroupKeys → Environment → World → EventValue → Reported
 event_report g out w e = event_reported g w e (outcome out w (group_event g e))

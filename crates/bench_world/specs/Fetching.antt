@@ -21,5 +21,6 @@ fetched_one passes others tries h t = record {
   attempts = unwrap_or (attempt_at passes others tries h t) tries;
 }
 
+-- What comes of all parts, each in so many tries at most.
 abbrev pub fetched_all : (Part → ℕ → Bool) → List MemberState → ℕ → HoldingsState → List Part → List Fetched
 fetched_all passes others tries h ts = map (fetched_one passes others tries h) ts

@@ -24,6 +24,7 @@ next_lent others after h = take 4096 (filter (lends others) (filter (is_after af
 abbrev pub lent_one : List MemberState → Part → Fetched
 lent_one others t = record { part = t; packet = lent others t; attempts = 0 }
 
+-- What a phase brings for all its parts.
 abbrev pub lent_all : List MemberState → List Part → List Fetched
 lent_all others ts = map (lent_one others) ts
 
@@ -32,6 +33,7 @@ abbrev pub IsPlaceIn : List Part → Option Part → Type 0
 IsPlaceIn ts None = ts ≡ []
 IsPlaceIn ts (Some t) = contains part_cmp ts t ≡ true
 
+-- The weight of a part where parts are counted.
 abbrev pub one_each : Part → ℕ
 one_each t = 1
 
@@ -47,6 +49,7 @@ module _ {H : Type 0} (words : HolderWords H) where
   abbrev pub held_sum : (Part → ℕ) → H → ℕ
   held_sum weight s = sum_by weight (words.held s)
 
+  -- The sum has grown by `n`.
   abbrev pub Counts : (Part → ℕ) → ℕ → H → H → Type 0
   Counts weight n old new = n + held_sum weight old ≡ held_sum weight new
 

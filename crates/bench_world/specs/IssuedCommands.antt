@@ -33,6 +33,7 @@ command_input (Insert name first last) = fed.slice fed.u8 (encoding name) ++ (fe
 command_input (Check process) = fed.u64 process
 command_input (Delete name) = fed.slice fed.u8 (encoding name)
 
+-- What is fed to a hasher of a command with its member and its client.
 abbrev pub issued_input : IssuedCommand → HashWrites
 issued_input c = fed.u32 c.member ++ (fed.u32 c.client ++ command_input c.command)
 
@@ -59,6 +60,7 @@ same_commands (Check a) (Check b) h = ap Check ((unsigned_Decides a b).0 h)
 same_commands (Delete a) (Delete b) h = ap Delete (same_names a b h)
 same_commands _ _ h = absurd (true≢false (sym h))
 
+-- Commands that the test finds the same are equal.
 pub same_is : (a b : IssuedCommand) → is_same a b ≡ true → a ≡ b
 same_is a b h =
     let equal = derived_equal a.command b.command in
@@ -70,5 +72,6 @@ same_is a b h =
     let command = same_commands a.command b.command is_equal in
     λ i. record { member = member i; client = client i; command = command i }
 
+-- Commands that the test finds the same are fed to a hasher alike.
 pub issued_alike : (a b : IssuedCommand) → is_same a b ≡ true → issued_input a ≡ issued_input b
 issued_alike a b h = ap issued_input (same_is a b h)

@@ -9,6 +9,7 @@ use Rattle.bench_world.specs.declared.issued.IssuedCommands.TheInside.{Inside}
 use Rattle.bench_world.specs.Commanding.{is_that}
 use Rattle.bench_world.specs.IssuedCommands.{issued_of, is_same}
 
+-- What is found under a number that no command has.
 abbrev pub no_command : IssuedCommand
 no_command = record { member = 0; client = 0; command = Check 0 }
 

@@ -2,6 +2,7 @@
 use Rattle.bench_world.specs.declared.world.World.TheInside.{Inside}
 use Rattle.bench_world.specs.Worlds.{GroupState, IsConsistentState}
 
+-- What contracts see of a world.
 abbrev pub world_state : Inside → GroupState
 world_state w = record {
   keys = w.group;
@@ -14,5 +15,6 @@ world_state w = record {
   mirrors = w.mirrors.items;
 }
 
+-- The group that is kept is a consistent one.
 abbrev pub IsWorld : Inside → Type 0
 IsWorld w = IsConsistentState (world_state w)

@@ -7,6 +7,7 @@ use Rattle.repo_object.specs.Wants.{WantedPart}
 use Rattle.repo_member.specs.MemberState.{MemberState}
 use Rattle.bench_world.specs.Others.{place_among_others}
 
+-- A packet, or else another.
 abbrev pub or_else : Option (List ℕ) → Option (List ℕ) → Option (List ℕ)
 or_else None other = other
 or_else (Some octets) other = Some octets
@@ -22,6 +23,7 @@ lends others t = is_some (lent others t)
 
 -- ---- the publisher first
 
+-- The packet that a member stores of a part, if there is the member.
 abbrev pub lent_at : Option MemberState → Part → Option (List ℕ)
 lent_at None t = None
 lent_at (Some a) t = value_of part_cmp a.store t
@@ -38,6 +40,7 @@ abbrev pub attempt_comes : (ℕ → ℕ → ℕ → ℕ → ℕ → ℕ → Bool
 attempt_comes passes asker None t attempt = true
 attempt_comes passes asker (Some loss) t attempt = passes asker t.publisher t.seq t.part attempt loss
 
+-- A packet, where the attempt at it comes through.
 abbrev pub if_comes : Bool → Option (List ℕ) → Option (List ℕ)
 if_comes true octets = octets
 if_comes false octets = None

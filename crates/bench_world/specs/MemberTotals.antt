@@ -5,6 +5,7 @@ use Rattle.group_model.specs.Steps.{catalogue_totals}
 use Rattle.repo_member.specs.Listed.{member_catalogue}
 use Rattle.repo_member.specs.MemberState.{MemberState}
 
+-- How many entries a member's catalogue has, and how many segments and octets these have together.
 abbrev pub totals_in : MemberState → CatalogueTotals
 totals_in a = catalogue_totals (member_catalogue a.store)
 

@@ -5,6 +5,7 @@ use Rattle.repo_member.specs.MemberState.{MemberState, member_holdings, member_t
 use Rattle.repo_member.specs.ConsistentMembers.{IsConsistentMember}
 use Rattle.bench_world.specs.Holders.{HolderWords}
 
+-- What the words of holders mean for members.
 abbrev pub member_words : HolderWords MemberState
 member_words = record {
   holdings = member_holdings;

@@ -24,6 +24,7 @@ pub record HasSettled (w : World) (old new : MirrorState) : Type 0 where
   pub gains : GainsThose old.pattern (logs w) w.members (learns_all w (mirror_in_group old)) (mirror_in_group new)
   pub rest : HasComeToRest old.pattern (logs w) w.members (mirror_in_group new)
 
+-- Every mirror has settled.
 abbrev pub HaveSettled : World → List MirrorState → List MirrorState → Type 0
 HaveSettled w old new = (i : ℕ) → i < length old → HasSettled w (mirror_at old i) (mirror_at new i)
 
@@ -31,6 +32,7 @@ HaveSettled w old new = (i : ℕ) → i < length old → HasSettled w (mirror_at
 abbrev pub held_by : MirrorState → ℕ
 held_by m = length (mirror_held m)
 
+-- How many parts the mirrors hold together.
 abbrev pub held_by_all : List MirrorState → ℕ
 held_by_all mirrors = sum_by held_by mirrors
 
@@ -50,6 +52,7 @@ pub record IsPartlySettledMirror (w : World) (old new : MirrorState) : Type 0 wh
       → ComeInTurn old.pattern (logs w) w.members (path_to (logs w) (learns_all w (mirror_in_group old)) t)
       (learns_all w (mirror_in_group old))
 
+-- Every mirror has come a part of the way.
 abbrev pub ArePartlySettledMirrors : World → List MirrorState → List MirrorState → Type 0
 ArePartlySettledMirrors w old new =
     (i : ℕ) → i < length old → IsPartlySettledMirror w (mirror_at old i) (mirror_at new i)

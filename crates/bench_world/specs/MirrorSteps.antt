@@ -13,6 +13,7 @@ use Rattle.bench_world.specs.Fetching.{fetched_all}
 abbrev pub mirror_limit : ℕ
 mirror_limit = 4
 
+-- What is found under a number that no mirror has.
 abbrev pub no_mirror : MirrorState
 no_mirror = mirror_opening (record { publisher = None; prefix = [] }) 0
 

@@ -18,6 +18,7 @@ mirror_held m = insert_keys (map (λ pair. part_of pair 0) m.passed) (keys m.sto
 abbrev pub mirror_rest : MirrorState → MirrorState
 mirror_rest m = record m { store = []; passed = [] }
 
+-- What the words of holders mean for mirrors.
 abbrev pub state_words : HolderWords MirrorState
 state_words = record {
   holdings = mirror_holdings;

@@ -53,6 +53,7 @@ record_there pairs t =
     (contains_in exact_parts (map (λ pair. part_of pair 0) pairs) (part_of (pair_of t) 0)
     (in_map (λ pair. part_of pair 0) pairs (pair_of t) (in_contains exact_pairs pairs (pair_of t) p.1))))
 
+-- The held parts are those that the mirror holds as its group has it.
 pub held_is : (m : MirrorState) (t : Part) → contains part_cmp (mirror_held m) t ≡ mirror_holds (mirror_in_group m) t
 held_is m t =
     contains-insert_keys (map (λ pair. part_of pair 0) m.passed) (keys m.store) t
@@ -87,6 +88,7 @@ not_held m t wanted =
 
 -- ---- what it takes
 
+-- What came for a mirror, seen as any holder, came for it as a mirror.
 pub for_mirror : (g : GroupKeys) (logs : Logs) (m : MirrorState) (x : Fetched) → AreLogs g logs
     → IsConsistentMirror g logs m
     → CameForHolder g logs (mirror_holdings m) x → CameForMirror g logs m x
@@ -159,6 +161,7 @@ takes_nothing xs m none =
     no_tries m.pattern xs m.attempts (λ k d l. (none k d l).attempts) in
     λ i. record m { store = stored i; passed = passed i; attempts = tried i }
 
+-- A consistent mirror that takes what came stays consistent.
 pub mirror_takes_consistently : (g : GroupKeys) (logs : Logs) (xs : List Fetched) (m : MirrorState) → AreLogs g logs
     → All (CameForHolder g logs (mirror_holdings m)) xs → IsConsistentMirror g logs m
     → IsConsistentMirror g logs (mirror_takes xs m)

@@ -15,6 +15,7 @@ abbrev pub read_as : Result (ℕ × List ℕ) SyncRefusal → Option SyncInteres
 read_as (Ok reported) = Some (record { sender = reported.0; vector = reported.1 })
 read_as (Err refusal) = None
 
+-- What was found for an Interest: the packet of a part, no packet, or that the octets are no Interest.
 abbrev pub found_as : Result (Option Part) PacketFault → Found
 found_as (Err fault) = Unread
 found_as (Ok None) = NoPacket

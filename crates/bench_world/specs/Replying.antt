@@ -4,6 +4,7 @@ use Rattle.bench_world.specs.declared.answering.Fed.{Fed}
 use Rattle.bench_world.specs.declared.answering.Fed.TheVariants.{Kept, Refused}
 use Rattle.bench_world.specs.EventValues.{Reported}
 
+-- The report of octets that came for a claim: they are kept, or refused for a reason.
 abbrev pub fed_reply : ℕ → ℕ → Fed → Reported
 fed_reply m f Kept = Reported.FeedKept m f
 fed_reply m f (Refused refusal) = Reported.FeedRefused m f refusal

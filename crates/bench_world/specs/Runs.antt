@@ -73,9 +73,11 @@ IsStep out e old result new =
 
 -- ---- lists of events
 
+-- The values of the program's events.
 abbrev pub event_values : List Event → List EventValue
 event_values events = map event_value events
 
+-- The events as the group has them.
 abbrev pub group_events : GroupKeys → List EventValue → List group.Event
 group_events g events = map (group_event g) events
 

@@ -23,6 +23,7 @@ octets_as g logs t octets =
     then if bytes_eq octets (unwrap_or (published_packet g logs t) []) then Its else Another
     else Nothing
 
+-- What a packet is for a claimed part: its packet, another one that passes, or nothing.
 abbrev pub judged_packet : GroupKeys → Logs → Part → Option (List ℕ) → Came
 judged_packet g logs t None = Nothing
 judged_packet g logs t (Some octets) = octets_as g logs t octets

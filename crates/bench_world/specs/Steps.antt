@@ -57,6 +57,7 @@ NamesClient n (EventValue.Status m client process) = client < n
 NamesClient n (EventValue.Delete m client name) = client < n
 NamesClient n _ = Unit {0}
 
+-- The error of an event that the group refuses.
 abbrev pub fault_of : Refusal → EventError
 fault_of Refusal.NoSuchPacket = fault.NoSuchPacket
 fault_of Refusal.FetcherBusy = fault.FetcherBusy
@@ -95,11 +96,13 @@ FaultNamesMember n (vector.BadVector at) = Unit {0}
 FaultNamesMember n (vector.NumberTooLarge member number) = member < n
 FaultNamesMember n vector.NoMemory = ⊥
 
+-- Where the refusal of a sync Interest names a member, this is one of so many. Memory didn't run out.
 abbrev pub SyncNamesMember : ℕ → SyncRefusal → Type 0
 SyncNamesMember n (sync.Vector fault) = FaultNamesMember n fault
 SyncNamesMember n sync.NoMemory = ⊥
 SyncNamesMember n _ = Unit {0}
 
+-- Where the refusal of octets that are heard names a member, this is one of so many. Memory didn't run out.
 abbrev pub HearNamesMember : ℕ → HearRefusal → Type 0
 HearNamesMember n (hear.Sync refusal) = SyncNamesMember n refusal
 HearNamesMember n (hear.OwnNumberAhead own reported) = Unit {0}

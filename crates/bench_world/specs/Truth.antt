@@ -19,6 +19,7 @@ stores a t = contains part_cmp (keys a.store) t
 abbrev pub TriedFew : HoldingsState → Type 0
 TriedFew h = (t : Part) → attempts_of (held_plan h) t + 16 < 2097152
 
+-- No member tried a part so often that a count's type ends soon.
 abbrev pub AllTriedFew : List MemberState → Type 0
 AllTriedFew members = (j : ℕ) → j < length members → TriedFew (member_holdings (state_at members j))
 

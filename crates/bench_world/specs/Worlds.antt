@@ -32,6 +32,7 @@ pub record GroupState : Type 0 where
   pub steps : ℕ
   pub mirrors : List MirrorState
 
+-- What is found under a number that no member has.
 abbrev pub nobody : MemberState
 nobody = record {
   number = 0;
@@ -45,6 +46,7 @@ nobody = record {
   insertions = no_insertions;
 }
 
+-- The member of this number, from 0 on.
 abbrev pub state_at : List MemberState → ℕ → MemberState
 state_at members j = slice_index_or members j nobody
 
@@ -61,6 +63,7 @@ pub record CountsStay (old new : MemberState) : Type 0 where
   pub machine : new.machine ≡ old.machine
   pub attempts : new.attempts ≡ old.attempts
 
+-- The draws of every member's machine, and the attempts of its parts, stay.
 abbrev pub AllCountsStay : List MemberState → List MemberState → Type 0
 AllCountsStay old new = (j : ℕ) → CountsStay (state_at old j) (state_at new j)
 
@@ -72,9 +75,11 @@ others_than j members = remove members j
 abbrev pub in_groups : List MemberState → List Member
 in_groups members = map in_group members
 
+-- The publications of these members, each member's in order.
 abbrev pub logs_around : List MemberState → Logs
 logs_around members = logs_of (in_groups members)
 
+-- A packet that was sent, as its group has it: its sender and its vector.
 abbrev pub sync_in : SentPacket → SyncInterest
 sync_in p = record { sender = p.sender; vector = p.vector }
 
@@ -120,6 +125,7 @@ pub record IsConsistentState (s : GroupState) : Type 0 where
 
 -- ---- draws
 
+-- What is found under a number that no sent packet has.
 abbrev pub no_packet : SentPacket
 no_packet = sent_packet 0 [] []
 
@@ -131,6 +137,7 @@ drawing draw = record { draw = draw; passes = λ _ _ _ _. true; serves = λ _ _ 
 abbrev pub begun_one : ℕ → (ℕ → ℕ → ℕ) → ℕ → MemberState
 begun_one n draw j = member_opening n j 0 (draw j 0)
 
+-- So many members that have nothing yet.
 abbrev pub begun_all : ℕ → (ℕ → ℕ → ℕ) → List MemberState
 begun_all n draw = map (begun_one n draw) (numbers_from 0 n)
 

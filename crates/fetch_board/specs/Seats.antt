@@ -46,18 +46,21 @@ abbrev pub greatest : ℕ → List (ℕ × ℕ) → ℕ
 greatest i [] = 0
 greatest i (x ∷ xs) = if x.0 == i then max x.1 (greatest i xs) else greatest i xs
 
+-- What the seat found of wanted and held items, after it looked at the word of this one.
 abbrev pub seen_after : ℕ → Word → List (ℕ × ℕ) → List (ℕ × ℕ)
 seen_after i (Wanted a) xs = (i, a) ∷ xs
 seen_after i (Held a) xs = (i, a) ∷ xs
 seen_after i (Done a) xs = xs
 seen_after i Spent xs = xs
 
+-- The items that the seat met claimed, finished or spent, after it looked at the word of this one.
 abbrev pub passed_after : ℕ → Word → List ℕ → List ℕ
 passed_after i (Wanted a) xs = xs
 passed_after i (Held a) xs = i ∷ xs
 passed_after i (Done a) xs = i ∷ xs
 passed_after i Spent xs = i ∷ xs
 
+-- The items that the seat has still to look after, after it looked at the word of this one.
 abbrev pub owed_after : ℕ → Word → List ℕ → List ℕ
 owed_after i (Wanted a) xs = xs
 owed_after i (Held a) xs = paid i xs
@@ -68,6 +71,7 @@ owed_after i Spent xs = paid i xs
 abbrev pub items_of : List (ℕ × ℕ) → List ℕ
 items_of xs = map (λ (x : ℕ × ℕ). x.0) xs
 
+-- The items of a list of items with attempts and values.
 abbrev pub items_of_done : {T : Type 0} → List (ℕ × ℕ × T) → List ℕ
 items_of_done {T} xs = map (λ (x : ℕ × ℕ × T). x.0) xs
 

@@ -9,6 +9,7 @@ use Rattle.fetch_board.specs.Words.{word_code, IsWithinTries, IsAtMost}
 use Rattle.fetch_board.specs.Seats.{BoardId, SeatData, seen_after, passed_after, owed_after}
 use Rattle.fetch_board.specs.Answers.{Once}
 
+-- What a seat keeps for the rule, and the places that it has out.
 abbrev pub Knows : Type 0 → Type 0
 Knows T = Me (Option T) (SeatKnowledge T)
 
@@ -36,6 +37,7 @@ module _ {T : Type 0} where
     pub places : m.0.placing ≡ []
     pub some_share : 0 < m.0.shares
 
+  -- The seat has looked at an item, and found this word.
   abbrev pub looked : ℕ → Word → SeatKnowledge T → SeatKnowledge T
   looked i w v = record v {
     learnt = Some (i, w);
@@ -44,6 +46,7 @@ module _ {T : Type 0} where
     owed = owed_after i w v.owed;
   }
 
+  -- The seat holds an item from now on, with the attempt that it may make.
   abbrev pub claimed : ℕ → ℕ → SeatKnowledge T → SeatKnowledge T
   claimed i a v = record v {
     held = (i, a) ∷ v.held;
@@ -52,6 +55,7 @@ module _ {T : Type 0} where
     owed = paid i v.owed;
   }
 
+  -- The seat has given an item back, and has still to look after it.
   abbrev pub returned : ℕ → SeatKnowledge T → SeatKnowledge T
   returned i v = record v { held = released i v.held; owed = i ∷ v.owed }
 
@@ -59,6 +63,7 @@ module _ {T : Type 0} where
   abbrev pub reserved : ℕ → ℕ → SeatKnowledge T → SeatKnowledge T
   reserved i a v = record v { held = released i v.held; placing = (i, a) ∷ v.placing }
 
+  -- The seat has given the place of an item back with a value in it, and the item is done.
   abbrev pub filed : ℕ → ℕ → T → SeatKnowledge T → SeatKnowledge T
   filed i a x v = record v { placing = released i v.placing; done = (i, a, x) ∷ v.done }
 
@@ -66,6 +71,7 @@ module _ {T : Type 0} where
   abbrev pub finished : ℕ → ℕ → T → SeatKnowledge T → SeatKnowledge T
   finished i a x v = record v { held = released i v.held; done = (i, a, x) ∷ v.done }
 
+  -- The seat has spent an item that it held.
   abbrev pub forgone : ℕ → SeatKnowledge T → SeatKnowledge T
   forgone i v = record v { held = released i v.held; spent = i ∷ v.spent }
 
@@ -77,6 +83,7 @@ module _ {T : Type 0} where
   abbrev pub newcomer : SeatKnowledge T → SeatKnowledge T
   newcomer v = founder v.tries 1
 
+  -- A seat with another one joined into it.
   abbrev pub combined : SeatKnowledge T → SeatKnowledge T → SeatKnowledge T
   combined v w =
       record {
@@ -98,6 +105,7 @@ module _ {T : Type 0} where
   Finds v i r w v' = (r ≡ word_code w) × IsWithinTries v.tries w × ((a : ℕ) → 0 < pairs i a v.seen → IsAtMost a w)
       × (v' ≡ looked i w v)
 
+  -- The seat looks at an item.
   abbrev pub looks : Step (Option T) → Knows T → ℕ → Knows T → Type 0
   looks st m r m' = (m'.1 ≡ m.1) × ((w : Word) × Finds m.0 st.word r w m'.0)
 
@@ -131,8 +139,10 @@ module _ {T : Type 0} where
       (a : ℕ) × (x : T) × (st.first ≡ 4 * a + 2) × (m.1 ≡ (st.word, Some x) ∷ rest m.1) × (m'.1 ≡ rest m.1)
       × (m'.0 ≡ filed st.word a x m.0)
 
+  -- The holder of an item spends it.
   abbrev pub spends : Step (Option T) → Knows T → ℕ → Knows T → Type 0
   spends st m r m' = (m'.1 ≡ m.1) × (m'.0 ≡ forgone st.word m.0)
 
+  -- The holder of an item gives it back.
   abbrev pub returns : Step (Option T) → Knows T → ℕ → Knows T → Type 0
   returns st m r m' = (m'.1 ≡ m.1) × (m'.0 ≡ returned st.word m.0)

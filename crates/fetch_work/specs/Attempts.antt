@@ -37,6 +37,7 @@ checked_reply want ring (Some octets) = if_passed (ring_verdict want ring octets
 abbrev pub brings : (WantedPart → ℕ → Option (List ℕ)) → List NamedKey → Job → ℕ → Option CheckedPart
 brings answer ring job before = checked_reply job.want ring (answer job.want (job.base + before + 1))
 
+-- What is found under a number that no job has.
 abbrev pub no_job : Job
 no_job =
     record {
@@ -50,6 +51,7 @@ no_job =
       base = 0;
     }
 
+-- The job of this number, from 0 on.
 abbrev pub job_at : List Job → ℕ → Job
 job_at jobs i = slice_index_or jobs i no_job
 
