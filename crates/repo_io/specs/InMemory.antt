@@ -37,6 +37,7 @@ is_listed fails calls = list_any (λ call. call == one_more calls) fails
 abbrev pub given : Supply → ℕ → ℕ
 given s room = min (min (length s.left) s.piece) room
 
+-- What is left after a call with so much room. A call that failed gave nothing.
 abbrev pub after_read : Supply → ℕ → Supply
 after_read s room =
     if is_listed s.fails s.calls then record s { calls = one_more s.calls; faults = one_more s.faults }
@@ -46,5 +47,6 @@ after_read s room =
 abbrev pub after_failed : Store → Store
 after_failed k = record k { calls = one_more k.calls; faults = one_more k.faults }
 
+-- What is there after a call that took the start of the piece.
 abbrev pub after_write : Store → List ℕ → Store
 after_write k piece = record k { out = k.out ++ take k.piece piece; calls = one_more k.calls }

@@ -16,6 +16,7 @@ lines (octet ∷ octets) = octet_before octet (octet == 10) (lines octets)
 
 -- ---- what a line is
 
+-- There is a line feed among the octets.
 abbrev pub has_feed : List ℕ → Bool
 has_feed octets = list_any (λ octet. octet == 10) octets
 

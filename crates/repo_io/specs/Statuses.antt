@@ -14,6 +14,7 @@ IsReported WriteFault = ⊥
 IsReported NoMemory = ⊥
 IsReported (Foreign line) = ⊤
 
+-- The exit status of a program whose run ended so.
 abbrev pub exit_code : Status → ℕ
 exit_code Done = 0
 exit_code Usage = 1

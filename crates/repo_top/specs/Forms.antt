@@ -33,6 +33,7 @@ reading_of (word ∷ []) =
     else None
 reading_of _ = None
 
+-- What is asked for, or else that a script of these measures is generated.
 abbrev pub either : Option Asked → Option GeneratorInputs → Option Asked
 either (Some asked) measures = Some asked
 either None measures = option_map Gen measures
@@ -41,18 +42,21 @@ either None measures = option_map Gen measures
 abbrev pub asked_of : List (List ℕ) → Option Asked
 asked_of words = either (reading_of words) (gen_of words)
 
+-- A script is run.
 abbrev pub IsRun : Option Asked → Type 0
 IsRun None = ⊥
 IsRun (Some Run) = ⊤
 IsRun (Some Inspect) = ⊥
 IsRun (Some (Gen measures)) = ⊥
 
+-- Octets are inspected.
 abbrev pub IsInspected : Option Asked → Type 0
 IsInspected None = ⊥
 IsInspected (Some Run) = ⊥
 IsInspected (Some Inspect) = ⊤
 IsInspected (Some (Gen measures)) = ⊥
 
+-- A script is generated.
 abbrev pub IsGenerated : Option Asked → Type 0
 IsGenerated None = ⊥
 IsGenerated (Some Run) = ⊥

@@ -46,9 +46,11 @@ unfoldable pub deliver_text : ℕ → ℕ → List ℕ
 deliver_text object member =
     codes "deliver " ++ decimal object ++ codes " m" ++ decimal member ++ codes "\n"
 
+-- The line in which a member fetches.
 unfoldable pub fetch_line : ℕ → List ℕ
 fetch_line member = codes "fetch m" ++ decimal member ++ codes " 4 3 200\n"
 
+-- A member's turn after an object: it hears of the object, and fetches.
 abbrev pub turn_text : ℕ → ℕ → List ℕ
 turn_text object member = deliver_text object member ++ fetch_line member
 
@@ -56,6 +58,7 @@ turn_text object member = deliver_text object member ++ fetch_line member
 abbrev pub turns_text : ℕ → ℕ → List ℕ
 turns_text members object = if object % 10 == 0 then texts (turn_text object) members else []
 
+-- The lines of one object: its publication, and the members' turns after every tenth.
 abbrev pub object_text : ℕ → ℕ → ℕ → List ℕ
 object_text members seed object =
     publish_line members object (drawn (generator_state seed object)) ++ turns_text members object
@@ -67,5 +70,6 @@ gen_text m =
     codes "group /g\n" ++ texts member_text m.members
     ++ texts (object_text m.members m.seed) m.objects ++ codes "settle 4\n" ++ codes "summary\n"
 
+-- The story of `gen`: it writes the script, and is done.
 abbrev pub gen_story : GeneratorInputs → Story
 gen_story m = plain_story (gen_text m) Done

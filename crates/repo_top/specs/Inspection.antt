@@ -25,6 +25,7 @@ abbrev pub sound_ending : Option TlvFault → Ending
 sound_ending None = Done
 sound_ending (Some fault) = Refused 1 (refusal_number BadPacket)
 
+-- The story of octets that give these lines.
 abbrev pub lines_story : Lines → Story
 lines_story lines = plain_story (printed_with_fault lines.text lines.fault) (sound_ending lines.fault)
 
@@ -33,6 +34,7 @@ abbrev pub octets_story : List ℕ → Story
 octets_story octets =
     if nat_lt 8800 (length octets) then refused Limit else lines_story (inspected octets)
 
+-- The story of an input whose digits gave these octets, or couldn't be decoded.
 abbrev pub decoded_story : Result (List ℕ) FromHexError → Story
 decoded_story (Ok octets) = octets_story octets
 decoded_story (Err e) = refused Syntax

@@ -35,6 +35,7 @@ lines_taken input (octet ∷ rest) = lines_so_far (taken input (octet ∷ rest))
 abbrev pub report_of : RunEnvironment → List (List ℕ) → List ℕ
 report_of env prefix = (story_from env nothing_reached prefix).text
 
+-- What is reported of an input up to and with the line of this number.
 abbrev pub report_through : RunEnvironment → ℕ → List ℕ → List ℕ
 report_through env line input = report_of env (take line (lines input))
 

@@ -20,6 +20,7 @@ pub record HasLine (count : ℕ) (held : List ℕ) : Type 0 where
   pub within : count ≤ length held
   pub line : IsWhole (take count held) ⊎ (IsTooLong held × (count ≡ length held))
 
+-- What is found at the start of what is held: a line of so many octets, or no whole line.
 abbrev pub IsNext : List ℕ → Next → Type 0
 IsNext held (Line count) = HasLine count held
 IsNext held Last = LineIsBegun held

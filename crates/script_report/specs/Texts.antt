@@ -28,27 +28,35 @@ abbrev pub withdraw_text : List ℕ → ℕ → ℕ → ℕ → List ℕ
 withdraw_text m seq withdrawn sync = line (codes "withdraw")
     (m ∷ decimal seq ∷ codes "of" ∷ decimal withdrawn ∷ codes "sync" ∷ decimal sync ∷ [])
 
+-- A member heard sync Interest `k`, and is Steady then.
 abbrev pub deliver_steady_text : ℕ → List ℕ → List ℕ
 deliver_steady_text k m = line (codes "deliver") (decimal k ∷ m ∷ codes "steady" ∷ [])
 
+-- A member heard sync Interest `k`, and is Suppressed then.
 abbrev pub deliver_suppressed_text : ℕ → List ℕ → List ℕ
 deliver_suppressed_text k m = line (codes "deliver") (decimal k ∷ m ∷ codes "suppressed" ∷ [])
 
+-- The octets of sync Interest `k`.
 abbrev pub sync_text : ℕ → List ℕ → List ℕ
 sync_text k octets = line (codes "sync") (decimal k ∷ encode_lower octets ∷ [])
 
+-- The time after it advanced, in milliseconds.
 abbrev pub advance_text : ℕ → List ℕ
 advance_text now = line (codes "advance") (codes "now" ∷ decimal now ∷ [])
 
+-- A member's timer wasn't due yet.
 abbrev pub fire_early_text : List ℕ → List ℕ
 fire_early_text m = line (codes "fire") (m ∷ codes "early" ∷ [])
 
+-- A member's timer was due, and it sent nothing: what it heard has all that it knows.
 abbrev pub fire_quiet_text : List ℕ → List ℕ
 fire_quiet_text m = line (codes "fire") (m ∷ codes "quiet" ∷ [])
 
+-- A member's timer was due, and it sent sync Interest `k`.
 abbrev pub fire_sent_text : List ℕ → ℕ → List ℕ
 fire_sent_text m k = line (codes "fire") (m ∷ codes "sent" ∷ decimal k ∷ [])
 
+-- A member started again.
 abbrev pub restart_text : List ℕ → List ℕ
 restart_text m = line (codes "restart") (m ∷ [])
 
@@ -59,12 +67,15 @@ abbrev pub part_text : List ℕ → List ℕ → ℕ → List ℕ → ℕ → �
 part_text verb m f label seq x = line verb
     (m ∷ decimal f ∷ codes "part" ∷ label ∷ decimal seq ∷ decimal x ∷ [])
 
+-- A fetcher of a member found no part to claim.
 abbrev pub claim_none_text : List ℕ → ℕ → List ℕ
 claim_none_text m f = line (codes "claim") (m ∷ decimal f ∷ codes "none" ∷ [])
 
+-- What was answered for a fetcher's claim was kept.
 abbrev pub answer_kept_text : List ℕ → ℕ → List ℕ
 answer_kept_text m f = line (codes "answer") (m ∷ decimal f ∷ codes "kept" ∷ [])
 
+-- Nothing that was answered for a fetcher's claim was kept.
 abbrev pub answer_none_text : List ℕ → ℕ → List ℕ
 answer_none_text m f = line (codes "answer") (m ∷ decimal f ∷ codes "none" ∷ [])
 
@@ -74,42 +85,54 @@ fetched_text verb label planned kept attempts = line verb
     (label ∷ codes "planned" ∷ decimal planned ∷ codes "kept" ∷ decimal kept
     ∷ codes "attempts" ∷ decimal attempts ∷ [])
 
+-- What a fetch brought to a member.
 abbrev pub fetch_text : List ℕ → ℕ → ℕ → ℕ → List ℕ
 fetch_text m planned kept attempts = fetched_text (codes "fetch") m planned kept attempts
 
+-- A settle: how many sync Interests were sent, and how many parts came to be held.
 abbrev pub settle_text : ℕ → ℕ → List ℕ
 settle_text syncs kept = line (codes "settle")
     (codes "syncs" ∷ decimal syncs ∷ codes "kept" ∷ decimal kept ∷ [])
 
+-- Octets from outside were kept for a fetcher's claim.
 abbrev pub feed_kept_text : List ℕ → ℕ → List ℕ
 feed_kept_text m f = line (codes "feed") (m ∷ decimal f ∷ codes "kept" ∷ [])
 
+-- Octets from outside were refused for a fetcher's claim, and why.
 abbrev pub feed_refused_text : List ℕ → ℕ → List ℕ → List ℕ
 feed_refused_text m f refusal = line (codes "feed") (m ∷ decimal f ∷ codes "refused" ∷ refusal ∷ [])
 
 -- ---- octets handed in and out
 
+-- The packet that a member holds of a part.
 abbrev pub dump_hex_text : List ℕ → List ℕ → List ℕ
 dump_hex_text m octets = line (codes "dump") (m ∷ encode_lower octets ∷ [])
 
+-- A member holds no packet of the part.
 abbrev pub dump_none_text : List ℕ → List ℕ
 dump_none_text m = line (codes "dump") (m ∷ codes "none" ∷ [])
 
+-- A member took octets as a sync Interest, and is Steady then.
 abbrev pub hear_steady_text : List ℕ → List ℕ
 hear_steady_text m = line (codes "hear") (m ∷ codes "steady" ∷ [])
 
+-- A member took octets as a sync Interest, and is Suppressed then.
 abbrev pub hear_suppressed_text : List ℕ → List ℕ
 hear_suppressed_text m = line (codes "hear") (m ∷ codes "suppressed" ∷ [])
 
+-- A member refused octets as a sync Interest, and why.
 abbrev pub hear_refused_text : List ℕ → List ℕ → List ℕ
 hear_refused_text m refusal = line (codes "hear") (m ∷ codes "refused" ∷ refusal ∷ [])
 
+-- The packet with which a member answers an Interest.
 abbrev pub ask_found_text : List ℕ → List ℕ → List ℕ
 ask_found_text m octets = line (codes "ask") (m ∷ codes "found" ∷ encode_lower octets ∷ [])
 
+-- A member holds no packet that answers the Interest.
 abbrev pub ask_none_text : List ℕ → List ℕ
 ask_none_text m = line (codes "ask") (m ∷ codes "none" ∷ [])
 
+-- The octets are no Interest, and why.
 abbrev pub ask_refused_text : List ℕ → List ℕ → List ℕ
 ask_refused_text m refusal = line (codes "ask") (m ∷ codes "refused" ∷ refusal ∷ [])
 
@@ -126,15 +149,19 @@ command_text verb m code process inserted deleted = line verb
     (m ∷ decimal code ∷ field (codes "process") process ++ field (codes "inserted") inserted
     ++ field (codes "packets") deleted)
 
+-- A block was taken, and others of its process are missing.
 abbrev pub block_300_text : List ℕ → List ℕ
 block_300_text m = line (codes "block") (m ∷ codes "300" ∷ [])
 
+-- A block came for no process or no index that there is.
 abbrev pub block_404_text : List ℕ → List ℕ
 block_404_text m = line (codes "block") (m ∷ codes "404" ∷ [])
 
+-- A block came for a process whose object is published.
 abbrev pub block_200_text : List ℕ → List ℕ
 block_200_text m = line (codes "block") (m ∷ codes "200" ∷ [])
 
+-- A block was the last of its process: the number of the publication, and that of its sync Interest.
 abbrev pub block_published_text : List ℕ → ℕ → ℕ → List ℕ
 block_published_text m seq sync = line (codes "block")
     (m ∷ codes "200" ∷ codes "published" ∷ decimal seq ∷ codes "sync" ∷ decimal sync ∷ [])
@@ -147,6 +174,7 @@ labelled_numbers [] numbers = []
 labelled_numbers (label ∷ labels) [] = []
 labelled_numbers (label ∷ labels) (n ∷ numbers) = (label ++ codes "=" ++ decimal n) ∷ labelled_numbers labels numbers
 
+-- The state vector of a member.
 abbrev pub vector_text : List ℕ → List (List ℕ) → List ℕ → List ℕ
 vector_text m labels numbers = line (codes "vector") (m ∷ labelled_numbers labels numbers)
 
@@ -156,17 +184,20 @@ entry_text label e = line (codes "entry")
     (label ∷ decimal e.seq ∷ uri e.name ∷ codes "segments" ∷ decimal e.segments
     ∷ codes "octets" ∷ decimal e.octets ∷ codes "sha256" ∷ encode_lower e.digest ∷ [])
 
+-- Entries, each under its publisher's label.
 unfoldable pub entries_text : List (List ℕ) → List Entry → List ℕ
 entries_text [] entries = []
 entries_text (label ∷ labels) [] = []
 entries_text (label ∷ labels) (e ∷ entries) = entry_text label e ++ entries_text labels entries
 
+-- The catalogue of a member: how many entries, and these.
 abbrev pub catalogue_text : List ℕ → ℕ → List (List ℕ) → List Entry → List ℕ
 catalogue_text m count labels entries =
     line (codes "catalogue") (m ∷ decimal count ∷ []) ++ entries_text labels entries
 
 -- ---- watchers and mirrors
 
+-- A watcher of a member, by its number.
 abbrev pub watch_text : List ℕ → ℕ → List ℕ
 watch_text m w = line (codes "watch") (m ∷ decimal w ∷ [])
 
@@ -175,12 +206,15 @@ abbrev pub told_text : List ℕ → ℕ → ℕ → List (List ℕ) → List Ent
 told_text m w count labels entries =
     line (codes "told") (m ∷ decimal w ∷ decimal count ∷ []) ++ entries_text labels entries
 
+-- A mirror heard sync Interest `k`.
 abbrev pub mdeliver_text : ℕ → List ℕ → List ℕ
 mdeliver_text k l = line (codes "mdeliver") (decimal k ∷ l ∷ [])
 
+-- What a fetch brought to a mirror.
 abbrev pub mfetch_text : List ℕ → ℕ → ℕ → ℕ → List ℕ
 mfetch_text l planned kept attempts = fetched_text (codes "mfetch") l planned kept attempts
 
+-- The catalogue of a mirror: how many entries, and these.
 abbrev pub mcatalogue_text : List ℕ → ℕ → List (List ℕ) → List Entry → List ℕ
 mcatalogue_text l count labels entries =
     line (codes "mcatalogue") (l ∷ decimal count ∷ []) ++ entries_text labels entries
@@ -193,6 +227,7 @@ totals_text label entries segments octets = line (codes "summary")
     (label ∷ codes "entries" ∷ decimal entries ∷ codes "segments" ∷ decimal segments
     ∷ codes "octets" ∷ decimal octets ∷ [])
 
+-- What each member holds, a line for each.
 unfoldable pub summary_text : List (List ℕ) → List ℕ → List ℕ → List ℕ → List ℕ
 summary_text [] entries segments octets = []
 summary_text (label ∷ labels) [] segments octets = []
@@ -201,6 +236,7 @@ summary_text (label ∷ labels) (e ∷ entries) (s ∷ segments) [] = []
 summary_text (label ∷ labels) (e ∷ entries) (s ∷ segments) (o ∷ octets) =
     totals_text label e s o ++ summary_text labels entries segments octets
 
+-- What was counted: sync Interests sent and delivered, attempts, and parts that came, with their octets.
 abbrev pub traffic_text : ℕ → ℕ → ℕ → ℕ → ℕ → List ℕ
 traffic_text syncs delivered attempts parts octets = line (codes "traffic")
     (codes "syncs" ∷ decimal syncs ∷ codes "delivered" ∷ decimal delivered
@@ -236,8 +272,10 @@ journal_feed_text f label seq x how =
 
 -- ---- the end
 
+-- The line of this number was refused: the number of the refusal, and its word.
 abbrev pub refused_text : ℕ → ℕ → List ℕ → List ℕ
 refused_text number refusal word = line (codes "refused") (decimal number ∷ decimal refusal ∷ word ∷ [])
 
+-- The line of this number brought octets that pass every check, and that nobody of the group made.
 abbrev pub foreign_text : ℕ → List ℕ
 foreign_text number = line (codes "foreign") (decimal number ∷ [])
