@@ -68,6 +68,7 @@ ends member f None ended = Lose member f ended
 abbrev pub end_calls : ℕ → ℕ → Option Loan → LiveReply → List Call
 end_calls member f lent ended = Pass member f ∷ ends member f lent ended ∷ []
 
+-- The gate was passed and the claim ended, and no other call made.
 abbrev pub EndsClaim : ℕ → ℕ → Option Loan → Progress → Progress → Type 0
 EndsClaim member f lent old new = (ended : LiveReply) × Makes (end_calls member f lent ended) old new
 
@@ -82,10 +83,12 @@ abbrev pub turn_calls : ℕ → ℕ → Turn → List Call
 turn_calls member f turn =
     Pass member f ∷ Claim member f turn.claimed ∷ fetches member f turn.claimed turn.lent turn.ended
 
+-- The calls of a fetcher in these turns, in order.
 abbrev pub fetcher_calls : ℕ → ℕ → List Turn → List Call
 fetcher_calls member f [] = []
 fetcher_calls member f (turn ∷ turns) = turn_calls member f turn ++ fetcher_calls member f turns
 
+-- One turn was taken, and no other call made.
 abbrev pub TakesTurn : ℕ → ℕ → Progress → Progress → Type 0
 TakesTurn member f old new = (turn : Turn) × Makes (turn_calls member f turn) old new
 
@@ -121,6 +124,7 @@ abbrev pub hears_some : ℕ → List Heard → List Call
 hears_some member heard =
     hears member heard ++ (if nat_lt (length heard) heard_at_once then Take None ∷ [] else [])
 
+-- What came was heard, as many as are heard at once, and no other call made.
 abbrev pub HearsSome : ℕ → Progress → Progress → Type 0
 HearsSome member old new =
     (heard : List Heard) × (length heard ≤ heard_at_once) × Makes (hears_some member heard) old new
@@ -136,6 +140,7 @@ round_calls members member round =
     (Pass member 0 ∷ Publish member (Some round.reported) ∷ tells members member round.reported)
     ++ hears_some member round.heard
 
+-- The calls of these publications, in order.
 abbrev pub rounds_calls : ℕ → ℕ → List Round → List Call
 rounds_calls members member [] = []
 rounds_calls members member (round ∷ later) = round_calls members member round ++ rounds_calls members member later

@@ -28,9 +28,11 @@ pub record MouthView (T : Type 0) : Type 0 where
   pub waiting : List (Sent T)
 
 module _ {T : Type 0} where
+  -- The port is one of the inbox.
   abbrev pub IsPortOf : InboxView → PortView T → Type 0
   IsPortOf inbox port = port.inbox ≡ inbox.inbox
 
+  -- The mouth is that of the inbox.
   abbrev pub IsMouthOf : InboxView → MouthView T → Type 0
   IsMouthOf inbox mouth = mouth.inbox ≡ inbox.inbox
 
@@ -47,6 +49,7 @@ module _ {T : Type 0} where
   abbrev pub fresh_mouth : TableId → ℕ → MouthView T
   fresh_mouth inbox ports = record { inbox = inbox; ports = ports; taken = []; waiting = [] }
 
+  -- A value, with the port that it was put into.
   abbrev pub sent : ℕ → T → Sent T
   sent port value = record { port = port; value = value }
 

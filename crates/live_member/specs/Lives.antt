@@ -18,6 +18,7 @@ pub record Living : Type 0 where
   pub journal : List LiveEntry
   pub coming : List NamedContents
 
+-- A member with its journal and the objects that it is still to publish.
 abbrev pub living : MemberState → List LiveEntry → List NamedContents → Living
 living state journal coming = record { state = state; journal = journal; coming = coming }
 

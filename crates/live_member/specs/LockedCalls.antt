@@ -15,6 +15,7 @@ use Rattle.live_member.specs.Meanings.{Meaning}
 use Rattle.live_member.specs.Replay.{after, reply_of}
 use Rattle.live_member.specs.Lives.{Living, IsLive}
 
+-- An entry of a journal: what happened, and what was replied.
 abbrev pub entry : LiveEvent → LiveReply → LiveEntry
 entry e r = record { event = e; reply = r }
 

@@ -46,6 +46,7 @@ whole_logs t = map as_posts t.lists
 abbrev pub object_limit : ℕ
 object_limit = 200
 
+-- How many parts the objects of all lists have at most.
 abbrev pub part_limit : ℕ
 part_limit = 4000
 

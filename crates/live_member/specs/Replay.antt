@@ -32,6 +32,7 @@ abbrev pub sync_read : {A : Type 0} → Result (ℕ × List ℕ) A → Option Sy
 sync_read (Ok reported) = Some (record { sender = reported.0; vector = reported.1 })
 sync_read (Err refusal) = None
 
+-- The two parts are the same.
 abbrev pub is_part : Part → Part → Bool
 is_part t u = (t.publisher == u.publisher) && ((t.seq == u.seq) && (t.part == u.part))
 
@@ -39,6 +40,7 @@ is_part t u = (t.publisher == u.publisher) && ((t.seq == u.seq) && (t.part == u.
 abbrev pub fed : Part → Logs → Part → Came
 fed t logs claimed = if is_part t claimed then Its else Nothing
 
+-- The event of the group that an entry of a journal stands for.
 abbrev pub event_of : Meaning → ℕ → Member → LiveEvent → Event
 event_of t j m event.Publish = Event.Publish j (next_object t j m)
 event_of t j m (event.Hear octets) = Event.Hear j (sync_read (group_verdict t.group octets))
@@ -56,6 +58,7 @@ is_refused t j m (event.Lose f) = is_none (claim_at (world_at t j m) j f)
 
 -- ---- what comes of it
 
+-- The reply with the mode of the machine.
 abbrev pub mode_reply : Mode → LiveReply
 mode_reply Steady = reply.Steady
 mode_reply Suppressed = reply.Suppressed
@@ -75,6 +78,7 @@ abbrev pub after : Meaning → ℕ → Member → LiveEvent → Member
 after t j m e =
     if is_refused t j m e then m else member (after_event (environment t) (world_at t j m) (event_of t j m e)) j
 
+-- The reply of the group to what an entry stands for.
 abbrev pub reply_of : Meaning → ℕ → Member → LiveEvent → LiveReply
 reply_of t j m e =
     if is_refused t j m e then reply.Refused

@@ -20,6 +20,7 @@ pub record Loan : Type 0 where
   pub part : Part
   pub octets : List ℕ
 
+-- A part with the octets that are lent for it.
 abbrev pub loan : Part → List ℕ → Loan
 loan part octets = record { part = part; octets = octets }
 

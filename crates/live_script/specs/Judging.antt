@@ -36,6 +36,7 @@ pub record Reached : Type 0 where
 abbrev pub nobody : GroupKeys
 nobody = record { name = []; members = no_nodes; clients = no_nodes }
 
+-- Before the first line.
 abbrev pub nothing_reached : Reached
 nothing_reached = record { lines = 0; octets = 0; declared = nothing_declared; keys = nobody; lists = [] }
 
@@ -86,6 +87,7 @@ is_few d lists =
     nat_le (sum_by length lists) object_limit && nat_le d.totals.contents live_contents
     && nat_le d.totals.parts part_limit
 
+-- The verdict on a `publish` line after which the members have these lists: it is taken within the limits.
 abbrev pub published : Reached → List ℕ → Declared → List (List NamedContents) → Verdict
 published r line d lists = if is_few d lists then taken r line d r.keys lists else refused refusal.TooLarge
 
@@ -115,6 +117,7 @@ taken_by verb.Publish r line d (Text m ∷ Named name ∷ Number size ∷ Octets
     published r line d (with_object (member_number m d.members) (cut_object name size content) r.lists)
 taken_by _ r line d values = unjudged
 
+-- The verdict on a line that the lines before it don't allow.
 abbrev pub check_refused : CheckFault → Verdict
 check_refused check_fault.NoGroup = refused refusal.NoGroup
 check_refused check_fault.Late = refused refusal.Late
@@ -124,6 +127,7 @@ check_refused check_fault.Limit = refused refusal.Limit
 check_refused check_fault.TooLarge = refused refusal.TooLarge
 check_refused check_fault.NoMemory = unjudged
 
+-- The verdict on a line, by whether the lines before it allow it.
 abbrev pub checked : Reached → List ℕ → Stated → Result Declared CheckFault → Verdict
 checked r line s (Ok d) = taken_by s.verb r line d s.values
 checked r line s (Err fault) = check_refused fault
@@ -133,6 +137,7 @@ unfoldable pub judged_line : Reached → List ℕ → Stated → Verdict
 judged_line r line s =
     if may_stand s.verb then checked r line s (after_line r.declared s) else refused refusal.NotLive
 
+-- The verdict on a line, by what it reads as. Blank lines and comments are taken and declare nothing.
 abbrev pub judged_read : Reached → List ℕ → Result (Option Stated) LineFault → Verdict
 judged_read r line (Ok (Some s)) = judged_line r line s
 judged_read r line (Ok None) = counted line r

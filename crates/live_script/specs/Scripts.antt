@@ -23,9 +23,11 @@ pub record TotalsView : Type 0 where
   pub contents : ℕ
   pub parts : ℕ
 
+-- What contracts see of the totals.
 abbrev pub totals_view : Totals → TotalsView
 totals_view t = record { objects = t.objects; contents = t.contents; parts = t.parts }
 
+-- The totals before the first publication.
 abbrev pub no_totals : TotalsView
 no_totals = record { objects = 0; contents = 0; parts = 0 }
 
@@ -37,6 +39,7 @@ with_one_more octets segments t = record {
   parts = t.parts + publication_parts segments;
 }
 
+-- The totals are within the limits of a live group.
 abbrev pub are_few : TotalsView → Bool
 are_few t = nat_le t.objects object_limit && nat_le t.contents live_contents && nat_le t.parts part_limit
 

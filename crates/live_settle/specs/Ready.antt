@@ -22,6 +22,7 @@ use Rattle.live_member.specs.LockedCalls.{entry}
 abbrev pub at : List Living → ℕ → Living
 at ls p = slice_index_or ls p (living (member_opening 0 0 0 0) [] [])
 
+-- Each member is live, with at most 1,000,000 entries in its journal.
 abbrev pub AreLive : Meaning → List Living → Type 0
 AreLive t ls = (p : ℕ) → p < length ls → IsLive t 1000000 (at ls p)
 
@@ -69,6 +70,7 @@ pub record IsReady (t : Meaning) (l : Living) : Type 0 where
   pub coming : l.coming ≡ []
   pub claims : l.state.claims ≡ no_claims
 
+-- All members are in their places, and each is ready for a settle.
 pub record AreReady (t : Meaning) (ls : List Living) : Type 0 where
   pub placed : ArePlaced t ls
   pub each : (p : ℕ) → p < length ls → IsReady t (at ls p)
@@ -91,6 +93,7 @@ pub record IsGathering (t : Meaning) (l : Living) : Type 0 where
   pub ready : IsReady t l
   pub knows : KnowsAll (whole_logs t) l.state.known
 
+-- All members know of all lists.
 abbrev pub AreGathering : Meaning → List Living → Type 0
 AreGathering t ls = (p : ℕ) → p < length ls → IsGathering t (at ls p)
 
@@ -137,5 +140,6 @@ abbrev pub EntersTurn : Living → Living → Bool → Type 0
 EntersTurn old new true = ClaimsAndTakes old new
 EntersTurn old new false = new.journal ≡ old.journal ++ entry (event.Claim 1) reply.NoPart ∷ []
 
+-- The catalogue of every member is the join of all lists.
 abbrev pub AreJoined : Meaning → List Living → Type 0
 AreJoined t ls = (p : ℕ) → p < length ls → IsJoined t (at ls p)

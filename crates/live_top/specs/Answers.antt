@@ -53,6 +53,7 @@ pub record ReportsOfRun (draw : ℕ → ℕ → ℕ) (r : Reached) (text : List 
   pub ran : AreRans (meaning_at draw r) rans
   pub is : text ≡ live_text (labels_at r) rans
 
+-- The texts that a run may write over an input with this outcome.
 abbrev pub MayWrite : (ℕ → ℕ → ℕ) → Outcome → List ℕ → Type 0
 MayWrite draw (Refused line why) text = text ≡ refusal_text line why
 MayWrite draw (Taken r) text = ReportsOfRun draw r text
@@ -119,6 +120,7 @@ pub record RunsTo (draw : ℕ → ℕ → ℕ) (r : Reached) (old new : Option (
   pub ran : AreRans (meaning_at draw r) rans
   pub text : GainsText old new (live_text (labels_at r) rans)
 
+-- What a run of a group leaves: its journals where it is done, and none where it ended before.
 abbrev pub Runs : (ℕ → ℕ → ℕ) → Reached → (old new : Option (List ℕ)) → Option (Vec Ran Global) → Status → Type 0
 Runs draw r old new (Some rans) status.Done = RunsTo draw r old new rans.items
 Runs draw r old new None status.WriteFault = WritesPrefix draw (Taken r) old new ⊤

@@ -39,6 +39,7 @@ line_of_entry labels (event.Lose f) (reply.Lost t) = part_line labels (codes "lo
 line_of_entry labels (event.Lose f) reply.Refused = journal_fetcher_text (codes "lose") f (codes "refused")
 line_of_entry labels _ _ = []
 
+-- The line of an entry of a journal.
 abbrev pub entry_line : List (List ℕ) → LiveEntry → List ℕ
 entry_line labels e = line_of_entry labels e.event e.reply
 

@@ -13,6 +13,7 @@ pub data Outcome : Type 0 where
   Taken : Reached → Outcome
   Unjudged : Outcome
 
+-- The outcome of a line with this verdict, and of the lines after it.
 abbrev pub outcome_after : (Reached → Outcome) → ℕ → Verdict → Outcome
 outcome_after others line (refused why) = Refused line why
 outcome_after others line (takes next) = others next
@@ -23,6 +24,7 @@ unfoldable pub outcome_from : Reached → List (List ℕ) → Outcome
 outcome_from r [] = Taken r
 outcome_from r (line ∷ others) = outcome_after (λ next. outcome_from next others) (r.lines + 1) (judged r line)
 
+-- The outcome of an input.
 abbrev pub outcome_of : List ℕ → Outcome
 outcome_of input = outcome_from nothing_reached (lines input)
 
