@@ -18,6 +18,7 @@ pub record Checked : Type 0 where
   pub expected : List ℕ
   pub differing : ℕ
 
+-- Before the first line.
 abbrev pub nothing_checked : Checked
 nothing_checked = record { number = 0; line = []; report = []; expected = []; differing = 0 }
 
@@ -58,6 +59,7 @@ checked_outcome c = record {
   status = if differing_lines c == 0 then Done else Differs;
 }
 
+-- The form of a check.
 abbrev pub check_form : FormOf Checked
 check_form = record {
   note = with_note;

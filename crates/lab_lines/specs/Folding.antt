@@ -26,6 +26,7 @@ pub record Lined : Type 0 where
   pub report : List ℕ
   pub after : Option State
 
+-- A line of the script with its number, its report and the state after it.
 abbrev pub lined : ℕ → List ℕ → List ℕ → Option State → Lined
 lined number line report after = record { number = number; line = line; report = report; after = after }
 
@@ -63,6 +64,7 @@ pub record Passed : Type 0 where
   pub octets : ℕ
   pub reached : Reached
 
+-- Before the first line.
 abbrev pub nothing_passed : Passed
 nothing_passed = record { lines = 0; octets = 0; reached = nothing_reached }
 

@@ -22,6 +22,7 @@ pub record Finding : Type 0 where
   pub column : ℕ
   pub expected : List ℕ
 
+-- A refusal, the column of the wrong word, from 1 on, and what was expected there.
 abbrev pub finding : Refusal → ℕ → List ℕ → Finding
 finding why column expected = record { why = why; column = column; expected = expected }
 
@@ -36,17 +37,20 @@ finding_text number f = begin_text number f.why f.column ++ (f.expected ++ codes
 
 -- ---- a line by itself
 
+-- The refusal of a line that can't be read.
 abbrev pub line_refusal : LineFault → Refusal
 line_refusal line_fault.Syntax = refusal.Syntax
 line_refusal line_fault.Limit = refusal.Limit
 line_refusal line_fault.NoMemory = refusal.Limit
 
+-- What is wrong with a line that can't be read.
 abbrev pub line_finding : LineFault → List ℕ → Finding
 line_finding fault line = finding (line_refusal fault) (wrong_column (wrong_of fault line) (body_of line))
     (wrong_text fault (wrong_of fault line) (body_of line))
 
 -- ---- a line after those before it
 
+-- The refusal of a line that the lines before it don't allow.
 abbrev pub check_refusal : CheckFault → Refusal
 check_refusal check_fault.NoGroup = refusal.NoGroup
 check_refusal check_fault.Late = refusal.Late
@@ -73,10 +77,12 @@ abbrev pub from_checked : Option ℕ → List ℕ → List ℕ
 from_checked None body = from_verb body
 from_checked (Some place) body = from_place place body
 
+-- What is wrong with a line that is refused for the first word of the rest.
 abbrev pub finding_at : CheckFault → List ℕ → List ℕ → Finding
 finding_at fault body rest =
     finding (check_refusal fault) (column_of body rest) (check_text fault (first_word rest))
 
+-- What is wrong with a line that the lines before it don't allow.
 abbrev pub check_finding : CheckFault → Declared → Stated → List ℕ → Finding
 check_finding fault d s body = finding_at fault body (from_checked (checked_place fault d s) body)
 
@@ -90,12 +96,15 @@ most_lines = 1000000
 abbrev pub most_octets : ℕ
 most_octets = 300000000
 
+-- The text that says how many lines and octets there may be.
 abbrev pub limits_text : List ℕ → ℕ → ℕ → List ℕ
 limits_text subject lines octets =
     subject ++ codes " has at most " ++ decimal lines ++ codes " lines and " ++ decimal octets ++ codes " octets"
 
+-- The script has too many lines or octets.
 abbrev pub script_finding : Finding
 script_finding = finding refusal.Limit 1 (limits_text (codes "a script") script_lines script_octets)
 
+-- The input has too many lines or octets.
 abbrev pub input_finding : Finding
 input_finding = finding refusal.Limit 1 (limits_text (codes "an input") most_lines most_octets)

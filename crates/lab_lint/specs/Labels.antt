@@ -9,12 +9,15 @@ use Rattle.script_lang.specs.Checking.{Declared, Sort, command, declaration, eve
 use Rattle.script_lang.specs.Checking.{party_place}
 use Rattle.script_lang.specs.Checking.{declares, sort_of}
 
+-- The label is a declared member's.
 abbrev pub is_member : Declared → List ℕ → Bool
 is_member d label = is_some (party_place label d.members)
 
+-- The label is a declared client's.
 abbrev pub is_client : Declared → List ℕ → Bool
 is_client d label = is_some (party_place label d.clients)
 
+-- The label is a declared mirror's.
 abbrev pub is_mirror : Declared → List ℕ → Bool
 is_mirror d label = is_some (mirror_place label d.mirrors)
 
@@ -38,9 +41,11 @@ unknown_from sort d later place (Number n ∷ values) = unknown_from sort d late
 unknown_from sort d later place (Named name ∷ values) = unknown_from sort d later (place + 1) values
 unknown_from sort d later place (Octets octets ∷ values) = unknown_from sort d later (place + 1) values
 
+-- The place of the first label of a line that is unknown.
 abbrev pub unknown_place : Declared → Stated → Option ℕ
 unknown_place d s = unknown_from (sort_of s.verb) d false 0 s.values
 
+-- The label is declared for a member, a client or a mirror.
 abbrev pub is_declared : Declared → List ℕ → Bool
 is_declared d label = is_member d label || is_client d label || is_mirror d label
 
@@ -50,6 +55,7 @@ abbrev pub double_in : Declared → List Value → Option ℕ
 double_in d (Text label ∷ values) = if is_declared d label then Some 0 else Some 1
 double_in d values = None
 
+-- The place of what a line declares a second time.
 abbrev pub double_place : Declared → Stated → Option ℕ
 double_place d s = if declares s.verb then double_in d s.values else None
 

@@ -27,6 +27,7 @@ pub record Passed : Type 0 where
   pub script : ℕ
   pub declared : Declared
 
+-- Before the first line.
 abbrev pub nothing_passed : Passed
 nothing_passed =
     record { lines = 0; octets = 0; number = 0; taken = 0; script = 0; declared = nothing_declared }
@@ -69,15 +70,18 @@ pub data Judged : Type 0 where
   line_refused : Finding → Judged
   line_taken : Declared → Judged
 
+-- A line that can be read is judged by what the lines before it declared.
 abbrev pub checked : Declared → Stated → List ℕ → Result Declared CheckFault → Judged
 checked d s body (Ok after) = line_taken after
 checked d s body (Err fault) = line_refused (check_finding fault d s body)
 
+-- A line is judged by what it reads as.
 abbrev pub read : Declared → List ℕ → Result (Option Stated) LineFault → Judged
 read d line (Ok None) = line_taken d
 read d line (Ok (Some s)) = checked d s (body_of line) (after_line d s)
 read d line (Err fault) = line_refused (line_finding fault line)
 
+-- A line is judged within the limits of a script.
 abbrev pub judged : Passed → List ℕ → Judged
 judged p line = if is_within_script p line then read p.declared line (line_of line) else line_refused script_finding
 
@@ -89,12 +93,15 @@ pub record Linted : Type 0 where
   pub number : ℕ
   pub taken : ℕ
 
+-- A text, with how many lines of the script there are and how many weren't refused.
 abbrev pub linted : List ℕ → ℕ → ℕ → Linted
 linted text number taken = record { text = text; number = number; taken = taken }
 
+-- The same with a text before it.
 abbrev pub with_text : List ℕ → Linted → Linted
 with_text text l = linted (text ++ l.text) l.number l.taken
 
+-- What is written of a line that is judged so, and of the lines after it.
 abbrev pub linted_line : (Passed → Linted) → Passed → List ℕ → Judged → Linted
 linted_line others p line (line_refused f) = with_text (finding_text (p.number + 1) f) (others (after_refused p line))
 linted_line others p line (line_taken d) = others (after_taken p line d)
@@ -103,6 +110,7 @@ linted_line others p line (line_taken d) = others (after_taken p line d)
 abbrev pub beyond : Passed → Linted
 beyond p = linted (finding_text (p.number + 1) input_finding) (p.number + 1) p.taken
 
+-- What is written of these lines, after those that were read so far.
 unfoldable pub lint_from : Passed → List (List ℕ) → Linted
 lint_from p [] = linted [] p.number p.taken
 lint_from p (line ∷ others) =
@@ -113,6 +121,7 @@ lint_from p (line ∷ others) =
 
 -- ---- the outcome
 
+-- The last line: how many of the script's lines were refused.
 abbrev pub sum_text : ℕ → ℕ → List ℕ
 sum_text refused number =
     if refused == 0 then codes "clean " ++ decimal number ++ codes "\n"
@@ -122,6 +131,7 @@ sum_text refused number =
 abbrev pub end_of : ℕ → LabStatus
 end_of refused = if refused == 0 then Done else Refused
 
+-- The text with its last line, and the status.
 abbrev pub outcome_of : Linted → Outcome
 outcome_of l = record {
   text = l.text ++ sum_text (l.number - l.taken) l.number;

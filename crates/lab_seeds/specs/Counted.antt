@@ -20,6 +20,7 @@ figures_of w = record {
   listed = listed_entries w;
 }
 
+-- Each number is 0.
 abbrev pub no_figures : Figures
 no_figures = record { syncs = 0; delivered = 0; attempts = 0; parts = 0; octets = 0; listed = 0 }
 

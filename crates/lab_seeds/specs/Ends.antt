@@ -12,11 +12,13 @@ end_text seed (Done f) = done_text seed f
 end_text seed (Refused line why) = refused_text seed line (refusal_number why) (refusal_word why)
 end_text seed (Foreign line) = foreign_text seed line
 
+-- All lines of the script were taken under the seed.
 abbrev pub end_is_done : SeedEnd → Bool
 end_is_done (Done f) = true
 end_is_done (Refused line why) = false
 end_is_done (Foreign line) = false
 
+-- What was counted under the seed, if all lines were taken.
 abbrev pub end_figures : SeedEnd → List Figures
 end_figures (Done f) = f ∷ []
 end_figures (Refused line why) = []

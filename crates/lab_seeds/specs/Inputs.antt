@@ -11,9 +11,11 @@ use Rattle.lab_seeds.specs.declared.input.Totals.{Totals}
 abbrev pub input_lines : ℕ
 input_lines = 1000000
 
+-- How many octets an input may have, its notes among them.
 abbrev pub input_octets : ℕ
 input_octets = 300000000
 
+-- The totals before the first line.
 abbrev pub no_totals : Totals
 no_totals = record { lines = 0; octets = 0; script_lines = 0; script_octets = 0 }
 
@@ -45,6 +47,7 @@ pub record ScriptLines : Type 0 where
   pub lines : List (List ℕ)
   pub cut : Bool
 
+-- The lines of a script, cut off before a line that doesn't fit, or whole.
 abbrev pub script_lines_are : List (List ℕ) → Bool → ScriptLines
 script_lines_are lines cut = record { lines = lines; cut = cut }
 

@@ -4,10 +4,12 @@ use Rattle.std.specs.List.{count_by, filter, fold}
 use Rattle.lab_seeds.specs.declared.figures.Figures.{Figures}
 use Rattle.lab_seeds.specs.declared.ranks.Ranks.{Ranks}
 
+-- The least of the numbers, and 0 where there are none.
 abbrev pub least : List ℕ → ℕ
 least [] = 0
 least (n ∷ ns) = fold min n ns
 
+-- The greatest of the numbers, and 0 where there are none.
 abbrev pub greatest : List ℕ → ℕ
 greatest [] = 0
 greatest (n ∷ ns) = fold max n ns

@@ -27,6 +27,7 @@ use Rattle.lab_seeds.specs.Texts.{done_text, foreign_text, ranks_text, refused_t
 
 -- ---- one seed
 
+-- All refusals of a script.
 abbrev pub refusals : List Refusal
 refusals =
     Syntax ∷ UnknownLabel ∷ Duplicate ∷ Limit ∷ NoSuchPacket ∷ FetcherBusy ∷ FetcherIdle ∷ NumbersSpent ∷ NoGroup
@@ -42,11 +43,13 @@ ending_text seed ending.Done world = done_text seed (figures_at world)
 ending_text seed (ending.Refused line number) world = refused_text seed line number (word_of number)
 ending_text seed (ending.Foreign line) world = foreign_text seed line
 
+-- The line that is written of a seed whose story this is.
 abbrev pub seed_text : ℕ → Story → List ℕ
 seed_text seed s = ending_text seed s.ending s.world
 
 -- ---- all seeds
 
+-- All lines of the script were taken.
 abbrev pub is_done : Ending → Bool
 is_done ending.Done = true
 is_done (ending.Refused line number) = false

@@ -11,6 +11,7 @@ pub record Difference : Type 0 where
   pub expected : List (List ℕ)
   pub came : List (List ℕ)
 
+-- The lines that were expected, and those that came.
 abbrev pub difference : List (List ℕ) → List (List ℕ) → Difference
 difference expected came = record { expected = expected; came = came }
 
@@ -22,6 +23,7 @@ after_common_prefix (line ∷ expected) (other ∷ came) =
     if bytes_eq line other then after_common_prefix expected came
     else difference (line ∷ expected) (other ∷ came)
 
+-- Both lists of lines from the last to the first.
 abbrev pub reversed : Difference → Difference
 reversed d = difference (reverse d.expected) (reverse d.came)
 
@@ -33,6 +35,7 @@ before_common_suffix d = reversed (after_common_prefix (reverse d.expected) (rev
 abbrev pub differing : List (List ℕ) → List (List ℕ) → Difference
 differing expected came = before_common_suffix (after_common_prefix expected came)
 
+-- There are no lines.
 abbrev pub is_empty_list : List (List ℕ) → Bool
 is_empty_list [] = true
 is_empty_list (line ∷ others) = false

@@ -12,6 +12,7 @@ without_feed line = if ends_with 10 line then without_last_octet line else line
 abbrev pub is_one_line : List ℕ → Bool
 is_one_line line = not (has_feed (without_feed line))
 
+-- Each is one line at most.
 abbrev pub are_one_line_each : List (List ℕ) → Bool
 are_one_line_each lines = list_all is_one_line lines
 
@@ -23,5 +24,6 @@ line_texts octets = map without_feed (lines octets)
 abbrev pub marked_line : List ℕ → List ℕ → List ℕ
 marked_line mark text = mark ++ (text ++ 10 ∷ [])
 
+-- Each text after a mark, on a line of its own.
 abbrev pub marked_lines : List ℕ → List (List ℕ) → List ℕ
 marked_lines mark texts = flat_map (marked_line mark) texts

@@ -22,6 +22,7 @@ is_report_note line = is_marked 62 (after_spaces line)
 abbrev pub is_state_note : List ℕ → Bool
 is_state_note line = is_marked 61 (after_spaces line)
 
+-- A line is a note: a report or a state.
 abbrev pub is_note : List ℕ → Bool
 is_note line = is_report_note line || is_state_note line
 

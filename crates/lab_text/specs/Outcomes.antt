@@ -5,6 +5,7 @@ use Rattle.lab_text.specs.declared.status.LabStatus.{LabStatus}
 use Rattle.lab_text.specs.declared.status.LabStatus.TheVariants.{Done, Usage, Refused, ReadFault, WriteFault, NoMemory}
 use Rattle.lab_text.specs.declared.status.LabStatus.TheVariants.{Foreign, Differs}
 
+-- The exit status of the lab.
 abbrev pub exit_code : LabStatus → ℕ
 exit_code Done = 0
 exit_code Usage = 1

@@ -27,6 +27,7 @@ IsWithin (Check seed) = ⊤
 IsWithin Lint = ⊤
 IsWithin (Seeds s) = is_span s ≡ true
 
+-- Seeds and workers, where these are numbers within the limits.
 abbrev pub span_from : Option ℕ → Option ℕ → Option ℕ → Option Span
 span_from (Some first) (Some last) (Some workers) =
     let s : Span = record { first = first; last = last; workers = workers } in if is_span s then Some s else None

@@ -22,6 +22,7 @@ form_outcome (Check seed) input = check_of (given_of seed) input
 form_outcome Lint input = lint_of input
 form_outcome (Seeds s) input = seeds_of s.first s.last input
 
+-- The outcome of words that ask for nothing that there is: the usage text.
 abbrev pub usage_outcome : Outcome
 usage_outcome = record { text = usage_text; status = Usage }
 
