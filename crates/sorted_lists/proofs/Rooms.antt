@@ -1,9 +1,9 @@
 -- The room that blocks take, when one of them changes, is split or goes.
-use Rattle.std.proofs.Common.{◌≡◌, ◌≤◌, ◌<◌, ◌+◌, ◌-◌, ◌*◌, ℕ, zero, suc, max, arith, length, set, get_or, inl, inr}
+use Rattle.std.proofs.Common.{◌≡◌, ◌≤◌, ◌<◌, ◌+◌, ◌-◌, ◌*◌, ℕ, zero, suc, max, arith, length, set, get_or, take, inl, inr}
 use Rattle.std.proofs.Common.{List, [], ◌∷◌, refl, Vec, length-set}
 use Rattle.std.specs.List.{insert, remove}
 use Rattle.std.proofs.lemmas.List.Edits.{length-insert, length-remove}
-use Rattle.sorted_lists.specs.BlockMap.{over, room, half, full, IsKept, AreBlocks}
+use Rattle.sorted_lists.specs.BlockMap.{over, above_half, room, half, full, IsKept, AreBlocks}
 use Rattle.sorted_lists.proofs.Blocks.{filled_blocks}
 
 module _ {K V A : Type 0} where
@@ -63,10 +63,28 @@ module _ {K V A : Type 0} where
         over_remove (c ∷ d ∷ bs) i (omega arith),
       )
 
-  pub over_bound : (bs : List (Vec (K × V) A)) → AreBlocks bs → over bs ≤ half * length bs + half
-  over_bound [] f = omega arith
-  over_bound (b ∷ []) f = omega (arith, f.0.0)
-  over_bound (b ∷ c ∷ bs) f = omega (arith, f.0.0, over_bound (c ∷ bs) (filled_blocks (c ∷ bs) f.1))
+  -- what is over is hardly more than what is above half a block each
+  pub over_above : (bs : List (Vec (K × V) A)) → over bs ≤ above_half bs + half
+  over_above [] = omega arith
+  over_above (b ∷ []) = omega arith
+  over_above (b ∷ c ∷ bs) = omega (arith, over_above (c ∷ bs))
+
+  -- one block more of those that are counted
+  pub above_more : (bs : List (Vec (K × V) A)) (i : ℕ) (d : Vec (K × V) A) → i < length bs
+      → above_half (take (suc i) bs) ≡ above_half (take i bs) + (length (get_or bs i d).items - half)
+  above_more [] i d l = absurd (omega arith)
+  above_more (b ∷ bs) zero d l = omega arith
+  above_more (b ∷ bs) (suc i) d l = omega (arith, above_more bs i d (omega arith))
+
+  pub above_within : (bs : List (Vec (K × V) A)) (i : ℕ) → i < length bs
+      → above_half (take (suc i) bs) ≤ above_half bs
+  above_within [] i l = absurd (omega arith)
+  above_within (b ∷ bs) zero l = omega arith
+  above_within (b ∷ bs) (suc i) l = omega (arith, above_within bs i (omega arith))
+
+  pub above_bound : (bs : List (Vec (K × V) A)) → AreBlocks bs → above_half bs ≤ half * length bs
+  above_bound [] f = omega arith
+  above_bound (b ∷ bs) f = omega (arith, f.0.0, above_bound bs (filled_blocks bs f.1))
 
   pub room_is : (bs : List (Vec (K × V) A)) (n : ℕ) → 0 < length bs → room bs n ≡ max n (half * n - over bs)
   room_is [] n l = absurd (omega arith)

@@ -34,6 +34,11 @@ module _ {K V A : Type 0} where
   over (b ∷ []) = length b.items - 1
   over (b ∷ c ∷ bs) = (length b.items - half) + over (c ∷ bs)
 
+  -- how much is in them above half a block each
+  abbrev pub above_half : List (Vec (K × V) A) → ℕ
+  above_half [] = 0
+  above_half (b ∷ bs) = (length b.items - half) + above_half bs
+
   -- for how many more entries there is room in these blocks with so many empty ones to split them: none where there is
   -- no block. An entry takes one empty block at most, and when half a block of entries came beyond what was over, at
   -- most one was taken for them

@@ -1,7 +1,7 @@
 // Maps in blocks, in order of their keys, with room that is made beforehand.
-ghost use Rattle.std.specs.Prelude.{◌≡◌, ◌+◌, ◌<◌, ◌≤◌, [], length, vec_len, OnOk};
+ghost use Rattle.std.specs.Prelude.{◌≡◌, ◌+◌, ◌*◌, ◌<◌, ◌≤◌, [], length, vec_len, OnOk};
 ghost use Rattle.sorted_lists.specs.SortedList.{with_value, without_key, last_up_to, first_from};
-ghost use Rattle.sorted_lists.specs.BlockMap.{IsMap, IsPlace, IsKept, entries, spare};
+ghost use Rattle.sorted_lists.specs.BlockMap.{IsMap, IsPlace, IsKept, above_half, entries, half, spare};
 
 use crate::block;
 use std::alloc::{AllocError, Global};
@@ -35,8 +35,8 @@ impl<K: Ord + Copy, V: Copy> BlockMap<K, V> {
         }
     }
 
-    // Makes room for so many more entries. Each entry takes one empty block at most. Beyond that each block may need
-    // one split, and then one of them at every `HALF` further entries.
+    // Makes room for so many more entries. Each entry takes one empty block at most. Where many come, the blocks are
+    // split for each `HALF` entries that stand above half a block, and then at every `HALF` further entries.
     pub fn reserve(&mut self, n: usize) -> Result<(), AllocError>
         requires { IsMap K.cmp self.old }
         ensures entries { entries self.new ≡ entries self.old }
@@ -45,7 +45,10 @@ impl<K: Ord + Copy, V: Copy> BlockMap<K, V> {
         ensures room { OnOk result (n ≤ spare self.new) }
     {
         self.begin()?;
-        let wanted = n.min(self.blocks.len() + n / HALF + 2);
+        if n <= self.spare.len() {
+            return Ok(());
+        }
+        let wanted = n.min(self.above_half() / HALF + n / HALF + 3);
         self.add_spare(wanted)?;
         Ok(())
     }
@@ -88,6 +91,19 @@ impl<K: Ord + Copy, V: Copy> BlockMap<K, V> {
             self.spare.push(block)?;
         }
         Ok(())
+    }
+
+    // How many entries stand in blocks above half a block each.
+    fn above_half(&self) -> usize
+        requires { IsMap K.cmp self.now }
+        ensures number { result ≡ above_half self.now.blocks.items }
+        ensures few { result ≤ half * vec_len self.now.blocks }
+    {
+        let mut n = 0;
+        for block in &self.blocks {
+            n += block.len().saturating_sub(HALF);
+        }
+        n
     }
 
     // How many entries there are.

@@ -1,5 +1,6 @@
 use Rattle.std.proofs.Common.{arith, length, ap}
-use Rattle.sorted_lists.proofs.Rooms.{room_is, over_bound}
+use Rattle.sorted_lists.specs.BlockMap.{above_half}
+use Rattle.sorted_lists.proofs.Rooms.{room_is, over_above}
 use Rattle.sorted_lists.proofs.block_map.BlockMap.reserve.Goals as goal
 
 pub returns-clause-room : goal.returns-clause-room
@@ -12,10 +13,9 @@ returns-clause-room g c =
     omega (
       arith,
       is,
-      over_bound new.blocks.items c.in_ok-add_spare.ensures.map.sizes,
+      over_above new.blocks.items,
       c.in_ok-add_spare.ensures.room,
       c.min-wanted.ensures,
-      same,
-      begun.blocks.ok.0,
-      c.len.ensures,
+      ap above_half c.in_ok-add_spare.ensures.blocks,
+      c.above_half.ensures.number,
     )
