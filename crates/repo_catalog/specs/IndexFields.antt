@@ -6,10 +6,11 @@ use Rattle.repo_catalog.specs.NameKeys.{KeyList, key_cmp}
 
 -- Its keys are those of a map.
 abbrev pub index_of : Inside → KeyList
-index_of i = record { keys = keys i.map.entries; waiting = i.waiting.items; spare = i.spare }
+index_of i = record { keys = keys i.map.entries; waiting = i.waiting.items; spare = i.spare; room = i.room }
 
--- The map's keys are in order, and each publication that waits or is to come has room there and among those that wait.
+-- The map's keys are in order and it has the room that is said, and each publication that is to come has room among
+-- those that wait.
 pub record IsIndex (i : Inside) : Type 0 where
   pub in_order : Rises key_cmp (keys i.map.entries)
-  pub room : i.spare + length i.waiting.items ≤ i.map.spare
+  pub room : i.room ≤ i.map.spare
   pub room_to_wait : i.spare + length i.waiting.items ≤ vec_capacity i.waiting

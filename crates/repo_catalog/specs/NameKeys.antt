@@ -20,11 +20,13 @@ Key = ℕ × Pair
 abbrev pub key_cmp : Key → Key → Ordering
 key_cmp a b = ordering_then (nat_cmp a.0 b.0) (pair_cmp a.1 b.1)
 
--- What an index has, which publications wait for their keys, and how many more there is room for.
+-- What an index has, which publications wait for their keys, how many more may wait, and how many more keys there is
+-- room for.
 pub record KeyList : Type 0 where
   pub keys : List Key
   pub waiting : List Pair
   pub spare : ℕ
+  pub room : ℕ
 
 -- The fingerprint of the SHA-256 of a name's octets: its first eight octets, as a number.
 unfoldable pub hash_of : List Component → ℕ

@@ -91,15 +91,16 @@ impl Catalogue {
         Ok(self.add_reserved(entry))
     }
 
-    /// Makes room for `n` entries, unless there is room for so many already.
+    /// Makes room for `n` entries, unless there is room for so many already, and from the first removal on for finding
+    /// all by their names, so that a removal needs no walk over those that were added before.
     pub fn reserve(&mut self, n: usize) -> Result<(), AllocError>
         ensures ok { OnOk result (self.new ≡ record self.old { spare = max self.old.spare n }) }
         ensures err { OnErr result (self.new ≡ self.old) }
     {
+        self.names.reserve(n)?;
         if self.spare < n {
             self.entries.reserve(n)?;
             self.aside.reserve(self.entries.capacity())?;
-            self.names.reserve(n)?;
             self.spare = n;
         }
         Ok(())
@@ -200,7 +201,7 @@ impl Catalogue {
 
     /// Removes the entries of many publications, which are in order, in one pass. Where they are few, only what stands
     /// after each is moved, and nothing else is read; after the first entry nothing moves. It takes no memory. The
-    /// names of entries that were added since the last removal are hashed.
+    /// names of entries that were added since the last removal are hashed, where room was made since the first.
     pub fn remove_all(&mut self, publications: &[(u32, u16)])
         requires { Rises pair_cmp publications.now }
         ensures { self.new ≡ record self.old { entries = without_all publications.now self.old.entries } }
@@ -297,7 +298,7 @@ impl Catalogue {
         let _ = &self.entries;
     }
 
-    // Puts the names of all entries into the index.
+    // Puts the names of all entries into the index, where there is room for them.
     fn order_names(&mut self)
         ensures { self.new ≡ self.old }
     {

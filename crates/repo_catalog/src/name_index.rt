@@ -18,17 +18,21 @@ use std::marker::Model;
 // The hash of an object's name, then the publication. A number has 32 bits here, so that there is always one after it.
 pub(crate) type Key = (u64, (u32, u32));
 
-// Keys in order, and publications that wait for theirs. What is added waits, and no name is hashed, until an entry is
-// removed, since names serve deletion alone. There is room for more.
+// Keys in order, and publications that wait for theirs. What is added waits, no name is hashed, and there is no room for
+// keys until an entry is removed, since names serve deletion alone. There is room for more to wait.
 #[derive(Debug, Drop)]
 pub(crate) struct NameIndex {
     map: SortedMap<Key, ()>,
     waiting: Vec<(u32, u16)>,
-    // There is room for so many more in both.
+    // There is room for so many more that wait.
     spare: usize,
+    // There is room for so many more keys.
+    room: usize,
+    // An entry was removed, so that room is made for the keys of all that wait.
+    orders: bool,
 }
 
-// An index is seen as the lists of its keys and of the publications that wait, beside the number of those that there is
+// An index is seen as the lists of its keys and of the publications that wait, beside the number of each that there is
 // room for.
 impl Model for NameIndex {
     ghost use Rattle.repo_catalog.specs.NameKeys.{KeyList};
@@ -51,10 +55,12 @@ impl NameIndex {
             map: SortedMap::new(alloc),
             waiting: Vec::new(alloc),
             spare: 0,
+            room: 0,
+            orders: false,
         }
     }
 
-    // Makes room for so many more publications.
+    // Makes room for so many more publications to wait, and for the keys of all if an entry was removed.
     pub(crate) fn reserve(&mut self, n: usize) -> Result<(), AllocError>
         ensures keys { self.new.keys ≡ self.old.keys }
         ensures waiting { self.new.waiting ≡ self.old.waiting }
@@ -62,12 +68,28 @@ impl NameIndex {
         ensures room { OnOk result (n ≤ self.new.spare) }
     {
         if self.spare < n {
-            let Some(all) = self.waiting.len().checked_add(n) else {
-                return Err(AllocError);
-            };
-            self.map.reserve(all)?;
             self.waiting.reserve(n)?;
             self.spare = n;
+        }
+        if self.orders {
+            self.reserve_keys()?;
+        }
+        Ok(())
+    }
+
+    // Makes room for the keys of all that wait, and of those that there is room for.
+    fn reserve_keys(&mut self) -> Result<(), AllocError>
+        ensures keys { self.new.keys ≡ self.old.keys }
+        ensures waiting { self.new.waiting ≡ self.old.waiting }
+        ensures spare { self.new.spare ≡ self.old.spare }
+        ensures room { OnOk result (length self.new.waiting + self.new.spare ≤ self.new.room) }
+    {
+        let Some(all) = self.waiting.len().checked_add(self.spare) else {
+            return Err(AllocError);
+        };
+        if self.room < all {
+            self.map.reserve(all)?;
+            self.room = all;
         }
         Ok(())
     }
@@ -83,15 +105,20 @@ impl NameIndex {
         self.waiting.push(publication).unwrap();
     }
 
-    // Puts the keys of all that wait in their places. It takes no memory.
+    // Puts the keys of all that wait in their places, where there is room for all. It takes no memory.
     pub(crate) fn order(&mut self, entries: &[Entry])
         requires in_order { IsCatalogue entries.now }
         requires indexed { IsIndexOf entries.now self.old.keys self.old.waiting }
         ensures indexed { IsIndexOf entries.now self.new.keys self.new.waiting }
-        ensures none_waits { self.new.waiting ≡ [] }
+        ensures none_waits { length self.old.waiting ≤ self.old.room → self.new.waiting ≡ [] }
         ensures room { self.old.spare ≤ self.new.spare }
     {
-        put_in_place(&mut self.map, &mut self.waiting, entries);
+        self.orders = true;
+        let count = self.waiting.len();
+        if count <= self.room {
+            self.room -= count;
+            put_in_place(&mut self.map, &mut self.waiting, entries);
+        }
     }
 
     // The publications that wait.

@@ -36,6 +36,8 @@ impl Holdings {
             return Err(AllocError);
         };
         self.plan.reserve(room)?;
+        // Entries are to be found by their names from the first deletion on.
+        self.catalogue.reserve(0)?;
         hide_all(
             &mut self.plan,
             &mut self.store,
