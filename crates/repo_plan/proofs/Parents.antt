@@ -17,7 +17,8 @@ without_index : (shape : Shape) → shape.index ≡ 0 → (x : ℕ) → parent_n
 without_index shape e x = ap (listed_by shape x) (or_left (shape.index == 0) _ (eq-eqb shape.index 0 e))
 
 -- a segment after index packets is listed by the one of its place
-by_place : (shape : Shape) (i : ℕ) → 1 ≤ shape.index → parent_number shape (shape.index + 1 + i) ≡ 1 + i / most_listed
+pub by_place : (shape : Shape) (i : ℕ) → 1 ≤ shape.index
+    → parent_number shape (shape.index + 1 + i) ≡ 1 + i / most_listed
 by_place shape i some = ap (listed_by shape (shape.index + 1 + i)) (following (shape.index == 0) refl) ∙ place where
   following : (b : Bool) → (shape.index == 0) ≡ b → (b || nat_le (shape.index + 1 + i) shape.index) ≡ false
   following true e = absurd (omega (arith, eqb-true shape.index 0 e))

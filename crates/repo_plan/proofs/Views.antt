@@ -1,9 +1,10 @@
 -- What a plan's fields say, and what they say after a change.
-use Rattle.std.proofs.Common.{◌≡◌, ◌⊎◌, inl, inr, ℕ, ◌+◌, ◌≤◌, Bool, true, false, not, ◌&&◌, ◌||◌, cond, List, []}
+use Rattle.std.proofs.Common.{◌≡◌, ◌⊎◌, inl, inr, ℕ, ◌+◌, ◌≤◌, ◌<◌, ◌^◌, length, Bool, true, false, not, ◌&&◌, ◌||◌}
+use Rattle.std.proofs.Common.{cond, List, []}
 use Rattle.std.proofs.Common.{◌∷◌, map, Option, Some, None, refl, sym, ap, ◌∙◌, subst, arith}
 use Rattle.std.proofs.lemmas.Bool.{true≢false, and_parts, or_left, or_right, or_cases, false_from_ne_true, leb-true}
 use Rattle.std.proofs.lemmas.Bool.{le-leb}
-use Rattle.std.specs.Prelude.{nat_le, is_some, IfSome, ◌==◌}
+use Rattle.std.specs.Prelude.{nat_le, is_some, IfSome, ◌==◌, slice_index}
 use Rattle.std.specs.List.{filter, list_all}
 use Rattle.std.specs.Ordering.{nat_cmp, eq_by_cmp, is_eq}
 use Rattle.std.specs.declared.cmp.Ordering.{Ordering}
@@ -26,6 +27,7 @@ use Rattle.sorted_lists.proofs.Sets.{contains-insert_key, contains-filter, value
 use Rattle.sorted_lists.proofs.SameSets.{same_sets}
 use Rattle.repo_plan.proofs.Known.{from_numbers, counted}
 use Rattle.repo_plan.proofs.Whole.{no_shape}
+use Rattle.repo_plan.proofs.Kept.{wanted_same}
 use Rattle.repo_plan.proofs.Changes.{with_part, sound_as, sound_part, keeps_part}
 use Rattle.repo_plan.proofs.Done.{done_same, other_shape}
 use Rattle.repo_plan.proofs.Held.{number_of, same_part, tells, held_has, held_rise, hidden_has, hidden_rise}
@@ -411,8 +413,9 @@ module _ (p : Inside) (i : IsPlan p) where
 -- fields that say the same, with more room
 pub roomier : (p q : Inside) → IsPlan p → q.known ≡ p.known → q.done.runs ≡ p.done.runs
     → q.held.runs ≡ p.held.runs → shapes_of q ≡ shapes_of p → q.claims ≡ p.claims
-    → in_order part_cmp q.attempts.entries ≡ in_order part_cmp p.attempts.entries → IsRoomy q → IsPlan q
-roomier p q i known done held shapes claims attempts room =
+    → in_order part_cmp q.attempts.entries ≡ in_order part_cmp p.attempts.entries → q.held_count ≡ p.held_count
+    → q.wanted_count ≡ p.wanted_count → IsRoomy q → IsPlan q
+roomier p q i known done held shapes claims attempts held_count wanted_count room =
     let parts : (holdings q).held ≡ (holdings p).held = λ j. held_parts (done j) (held j) (shapes j) in
     let hidden : (holdings q).hidden ≡ (holdings p).hidden = λ j. hidden_pairs (done j) (shapes j) in
     record {
@@ -421,6 +424,15 @@ roomier p q i known done held shapes claims attempts room =
           (sym hidden) (sym attempts) i.sound;
       done = subst (IsRuns nat_cmp) (sym done) i.done;
       room = room;
+      counted = record {
+        held = held_count ∙ i.counted.held ∙ ap length (sym parts);
+        wanted =
+            wanted_count
+            ∙ i.counted.wanted
+            ∙ ap length
+            (wanted_same (holdings p) (ap (λ v. v.items) (sym known)) (sym parts) (sym shapes) (sym hidden));
+        numbers = λ n. subst (λ v. slice_index v.items n < 2 ^ 16) (sym known) (i.counted.numbers n);
+      };
       all_done = λ pair.
           ap (λ (zs : List (Run ℕ)). has pair_cmp zs pair) done ∙ i.all_done pair
           ∙ sym

@@ -5,6 +5,7 @@ ghost use Rattle.repo_plan.specs.Parts.{IsShape, pair_of};
 ghost use Rattle.repo_plan.specs.Sound.{PlanIsSound};
 
 mod claims;
+mod counts;
 mod leaps;
 mod reserved;
 mod wanted;
@@ -36,6 +37,9 @@ pub struct Plan {
     shapes: SortedMap<(u32, u16), Shape>,
     claims: [Option<Part>; 16],
     attempts: HashMap<Part, u32>,
+    // How many parts are held, and how many are wanted.
+    held_count: u64,
+    wanted_count: u64,
     // There is room for so many more in each of the four.
     spare: usize,
 }
@@ -50,6 +54,8 @@ impl Drop for Plan {
             shapes: _,
             claims: _,
             attempts: _,
+            held_count: _,
+            wanted_count: _,
             spare: _,
         } = self;
     }
@@ -79,6 +85,8 @@ impl Plan {
             shapes: SortedMap::new(alloc),
             claims: [None; 16],
             attempts: HashMap::new(alloc),
+            held_count: 0,
+            wanted_count: 0,
             spare: 0,
         })
     }
@@ -88,8 +96,11 @@ impl Plan {
         requires { publisher < length self.old.known }
         ensures { self.new ≡ raises publisher seq self.old }
     {
-        let last = &mut self.known[publisher as usize];
-        *last = seq.max(*last);
+        let known = self.known[publisher as usize];
+        let last = seq.max(known);
+        let undone = self.undone_in(publisher, known, last);
+        self.known[publisher as usize] = last;
+        self.wanted_count += u64::from(undone);
     }
 
     /// The part is held from now on, and no more wanted. `shape` is what a record says of its publication.

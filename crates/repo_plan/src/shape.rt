@@ -1,6 +1,7 @@
-ghost use Rattle.std.specs.Prelude.{ℕ, ◌≡◌, ◌≤◌, ◌<◌};
+ghost use Rattle.std.specs.Prelude.{ℕ, ◌≡◌, ◌+◌, ◌≤◌, ◌<◌, ◌==◌, IfSome};
 ghost use Rattle.repo_plan.specs.Parts.{IsShape, most_segments, shape_of_segments};
 ghost use Rattle.repo_plan.specs.Parts.{parts_after, parent_number, parts_reported};
+ghost use Rattle.repo_plan.specs.Counts.{how_many};
 
 /// What a record says of its publication's parts. Part 0 is the record, the parts from 1 on are the index packets, if
 /// there are any, and those after them are the segments.
@@ -59,6 +60,49 @@ impl Shape {
         ensures same { (x : ℕ) → part ≤ x → x < result → parent_number self x ≡ parent_number self part }
     {
         u32::from(self.index) + 1 + u32::from(self.parent(part)) * u32::from(MOST_LISTED)
+    }
+
+    // The number after the last part that is listed with this one. The record counts as listed by itself.
+    pub(crate) fn end_of_list(self, part: u16) -> u32
+        requires { part ≤ parts_after self }
+        ensures following { part < result }
+        ensures within { result ≤ parts_after self + 1 }
+        ensures same { (x : ℕ) → part ≤ x → x < result → parent_number self x ≡ parent_number self part }
+    {
+        if self.parent(part) > 0 {
+            self.after_listed_with(part).min(self.parts_after() + 1)
+        } else if self.index > 0 {
+            u32::from(self.index) + 1
+        } else {
+            u32::from(self.segments) + 1
+        }
+    }
+
+    // How many parts the one of this number lists.
+    fn lists(self, part: u16) -> u16
+        requires { IsShape self }
+        ensures { result ≡ how_many (λ x. parent_number self x == part) 1 (parts_after self) }
+    {
+        if part > self.index {
+            0
+        } else if part > 0 {
+            (self.segments - (part - 1) * MOST_LISTED).min(MOST_LISTED)
+        } else if self.index > 0 {
+            self.index
+        } else {
+            self.segments
+        }
+    }
+}
+
+// How many parts the one of this number lists, of a publication whose record says this, or is not held.
+pub(crate) fn listed_by(shape: Option<Shape>, part: u16) -> u16
+    requires { IfSome shape IsShape }
+    ensures { IfSome shape (λ n. result ≡ how_many (λ x. parent_number n x == part) 1 (parts_after n)) }
+{
+    match shape {
+        Some(shape) => shape.lists(part),
+        None => 0,
     }
 }
 

@@ -104,7 +104,7 @@ impl Plan {
     }
 
     // Whether the publication's number is known.
-    fn is_known(&self, publisher: u32, seq: u16) -> bool
+    pub(super) fn is_known(&self, publisher: u32, seq: u16) -> bool
         ensures { result ≡ knows self.now (publisher, seq) }
     {
         match self.known.get(publisher as usize) {

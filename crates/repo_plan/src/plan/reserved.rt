@@ -6,7 +6,7 @@ ghost use Rattle.repo_plan.specs.Parts.{IsShape, pair_of};
 use super::Plan;
 use super::whole::{note_held, note_shape};
 use crate::part::Part;
-use crate::shape::{Shape, reported_by};
+use crate::shape::{Shape, listed_by, reported_by};
 use sorted_lists::table;
 use std::alloc::AllocError;
 
@@ -60,13 +60,15 @@ impl Plan {
         }
         let publication = (part.publisher, part.seq);
         note_shape(&mut self.shapes, publication, shape);
-        let reported = reported_by(self.shapes.get(publication));
+        let shape = self.shapes.get(publication);
         note_held(
             &mut self.done,
             &mut self.held,
             (publication, part.part),
-            reported,
+            reported_by(shape),
         );
+        self.held_count += 1;
+        self.wanted_count = self.wanted_count - 1 + u64::from(listed_by(shape, part.part));
         true
     }
 
@@ -77,7 +79,11 @@ impl Plan {
         ensures { self.new ≡ uses_room (hides_too (publisher, seq) self.old) }
     {
         let publication = (publisher, seq);
+        let held = self.held_in(publisher, seq);
+        let wanted = self.wanted_in(publisher, seq);
         self.spare -= 1;
+        self.held_count -= u64::from(held);
+        self.wanted_count -= u64::from(wanted);
         self.held.remove_all(publication);
         self.shapes.remove(publication);
         self.done.insert(publication);

@@ -1,0 +1,8 @@
+-- How many numbers of a range pass a test.
+use Rattle.std.specs.Prelude.{ℕ, Bool, length}
+use Rattle.std.specs.List.{filter}
+use Rattle.sorted_lists.specs.Range.{numbers_from}
+
+-- of so many numbers from one on
+abbrev pub how_many : (ℕ → Bool) → ℕ → ℕ → ℕ
+how_many test first n = length (filter test (numbers_from first n))
