@@ -8,6 +8,7 @@ ghost use Rattle.repo_holdings.specs.Gaining.{HaveRoom};
 ghost use Rattle.repo_holdings.specs.HoldingsState.{nothing_held, held_plan, knows_too};
 
 mod claiming;
+mod counts;
 mod gaining;
 mod hiding;
 mod publishing;

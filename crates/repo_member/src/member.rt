@@ -9,6 +9,7 @@ ghost use Rattle.repo_member.specs.MemberState.{member_restarts};
 
 mod block;
 mod command;
+mod counts;
 mod fetching;
 mod outcome;
 mod publishing;
@@ -118,6 +119,13 @@ impl Member {
         ensures { result ≡ mode_of self.now.machine.heard }
     {
         self.machine.mode()
+    }
+
+    /// The time from which on the member's timer may fire.
+    pub fn deadline(&self) -> u64
+        ensures { result ≡ self.now.machine.deadline }
+    {
+        self.machine.deadline()
     }
 
     /// How many draws were used, which is the number of the next one.

@@ -10,6 +10,7 @@ ghost use Rattle.repo_mirror.specs.MirrorState.{mirror_opening};
 ghost use Rattle.repo_mirror.specs.MirrorOutcomes.{planned_jobs, planned_jobs_that};
 ghost use Rattle.repo_mirror.specs.WantedAlone.{WantsThose};
 
+mod counts;
 mod outcome;
 
 use crate::learning::learn;

@@ -25,6 +25,12 @@ fn wants(rt: &(impl Abort + AllocGlobal), plan: &Plan, parts: &[Part]) {
     same(rt, wanted.as_slice(), parts, "wanted");
 }
 
+// Sees how many parts are wanted and how many are held.
+fn counts(rt: &impl Abort, plan: &Plan, wanted: u64, held: u64) {
+    same(rt, plan.wanted_count(), wanted, "wanted");
+    same(rt, plan.held_count(), held, "held");
+}
+
 #[test]
 fn parts_of_one_publication(rt: HostRuntime) {
     let mut plan = Plan::new(rt.alloc(), 2).expect(&rt, "memory");
@@ -60,6 +66,7 @@ fn hold_record(rt: &impl Abort, plan: &mut Plan, wanted: Part, segments: u16)
 
 // What is asked of a plan that holds the record of the first publication alone.
 fn claim_segments(rt: &(impl Abort + AllocGlobal), plan: &mut Plan) {
+    counts(rt, plan, 2, 1);
     same(rt, plan.claim(1), Ok(Some(part(1, 1))), "claim");
     same(rt, plan.claim(2), Ok(Some(part(1, 2))), "claim");
     same(rt, plan.release(2), Ok(part(1, 2)), "release");
@@ -70,6 +77,7 @@ fn claim_segments(rt: &(impl Abort + AllocGlobal), plan: &mut Plan) {
     plan.end_claims();
     plan.hide(0, 1).expect(rt, "memory");
     wants(rt, plan, &[]);
+    counts(rt, plan, 0, 0);
 }
 
 #[test]
@@ -153,6 +161,8 @@ fn segments_after_index_packets(rt: HostRuntime) {
     hold_claimed(&rt, &mut plan, 2);
     same(&rt, plan.claim(3), Ok(Some(part(1, 203))), "claim");
     wants(&rt, &plan, &[]);
+    // The second index packet lists the last segment alone.
+    counts(&rt, &plan, 2, 2);
 }
 
 // A fetcher claims the record, which is then held.
