@@ -1,12 +1,8 @@
 -- How many parts a plan holds and wants: those of one publication, and that they are few enough.
 use Rattle.std.proofs.Common.{◌≡◌, inl, inr, ℕ, suc, zero, ◌+◌, ◌-◌, ◌*◌, ◌/◌, ◌≤◌, ◌<◌, ◌^◌, max, Bool, true, false}
-use Rattle.std.proofs.Common.{not}
-use Rattle.std.proofs.Common.{◌&&◌, cond, List, [], ◌∷◌, length, get_or, refl, sym, ap, ◌∙◌}
-use Rattle.std.proofs.Common.{subst}
-use Rattle.std.proofs.Common.{arith, Option, Some, None, length-append}
-use Rattle.std.proofs.lemmas.Bool.{true≢false, and_parts, and_from, or_cases}
-use Rattle.std.proofs.lemmas.Bool.{or_parts, false_from_ne_true}
-use Rattle.std.proofs.lemmas.Bool.{cases_eq}
+use Rattle.std.proofs.Common.{not, ◌&&◌, cond, List, [], ◌∷◌, length, get_or, refl, sym, ap, ◌∙◌, subst, arith, Option}
+use Rattle.std.proofs.Common.{Some, None, length-append}
+use Rattle.std.proofs.lemmas.Bool.{true≢false, and_parts, and_from, or_cases, or_parts, false_from_ne_true, cases_eq}
 use Rattle.std.proofs.lemmas.List.{length-map, get_or-set_same, get_or-set_other}
 use Rattle.std.proofs.lemmas.List.Filters.{length-filter_both}
 use Rattle.std.specs.Cmp.{both_ways}
@@ -18,21 +14,20 @@ use Rattle.sorted_lists.specs.SortedList.{Rises, contains}
 use Rattle.sorted_lists.specs.Range.{numbers_from}
 use Rattle.sorted_lists.proofs.Ranges.{length-numbers}
 use Rattle.sorted_lists.proofs.SameSets.{same_sets}
-use Rattle.sorted_lists.proofs.Sets.{In, in_contains, contains_in, contains-filter, rises_filter}
-use Rattle.sorted_lists.proofs.Sets.{eq_same, eq_itself}
+use Rattle.sorted_lists.proofs.Sets.{In, in_contains, contains_in, contains-filter, rises_filter, eq_same, eq_itself}
 use Rattle.repo_plan.specs.Counts.{how_many}
 use Rattle.repo_plan.specs.Parts.{Pair, Shape, IsShape, part_cmp, pair_cmp, pair_of, part_of, parts_after}
 use Rattle.repo_plan.specs.Parts.{parts_reported, parent_number}
 use Rattle.repo_plan.specs.Plan.{PlanState, knows, holds, hides, shape_of, can_be_asked, is_asked, is_wanted, is_in}
 use Rattle.repo_plan.specs.Plan.{is_done, is_complete, pairs_of, pairs_from, parts_known, known_parts, wanted, raises}
 use Rattle.repo_plan.specs.Plan.{opening}
-use Rattle.repo_plan.proofs.Recounted.{held_one_more, one_before, more_listed, more_known}
+use Rattle.repo_plan.proofs.Recounted.{more_known}
+use Rattle.repo_plan.proofs.HeldMore.{held_one_more, one_before, more_listed}
 use Rattle.repo_plan.specs.Sound.{PlanIsSound, CanBeHeld}
 use Rattle.repo_plan.proofs.Orders.{exact_parts, exact_pairs}
 use Rattle.repo_plan.proofs.Counts.{made_of, nothing, every, parted, same_many}
-use Rattle.repo_plan.proofs.Known.{from_parts_of, in_parts_of, counted, asked_known}
-use Rattle.repo_plan.proofs.Known.{wanted_is_asked, and_whole, contains-wanted, wanted_rises, known_parts_rise}
-use Rattle.repo_plan.proofs.Known.{rises_numbers, flat_append}
+use Rattle.repo_plan.proofs.Known.{from_parts_of, in_parts_of, counted, asked_known, wanted_is_asked, and_whole}
+use Rattle.repo_plan.proofs.Known.{contains-wanted, wanted_rises, known_parts_rise, rises_numbers, flat_append}
 use Rattle.repo_plan.proofs.Whole.{each_all, each_held}
 use Rattle.repo_plan.proofs.Views.{complete_is, gap_open}
 use Rattle.repo_plan.specs.declared.plan.Plan.TheInside.{Inside}
