@@ -30,6 +30,11 @@ abbrev pub sent_vector : List SentPacket → ℕ → Option (List ℕ)
 sent_vector packets k =
     if k == 0 then None else option_map (λ (p : SentPacket). p.vector) (slice_get packets (k - 1))
 
+-- Who sent it.
+abbrev pub sent_sender : List SentPacket → ℕ → Option ℕ
+sent_sender packets k =
+    if k == 0 then None else option_map (λ (p : SentPacket). p.sender) (slice_get packets (k - 1))
+
 -- The sender sent a packet that reports this vector.
 abbrev pub was_sent : ℕ → List ℕ → List SentPacket → Bool
 was_sent sender vector packets =

@@ -1,5 +1,5 @@
 ghost use Rattle.std.specs.Prelude.{◌≡◌, ◌+◌, ◌-◌, ◌<◌, [], ◌∷◌, ◌++◌, length, max, IfOk, OnOk, OnErr, option_map};
-ghost use Rattle.bench_net.specs.SentList.{sent_octets, sent_packet, sent_vector, was_sent};
+ghost use Rattle.bench_net.specs.SentList.{sent_octets, sent_packet, sent_sender, sent_vector, was_sent};
 
 use indexmap::IndexSet;
 use std::alloc::{AllocError, Global};
@@ -143,6 +143,15 @@ impl Sent {
         let after = k.checked_sub(1)?;
         let packet = self.packets.get(after as usize)?;
         Some(self.vectors.as_slice()[packet.vector].as_slice())
+    }
+
+    /// Who sent the packet of that number.
+    pub fn sender(&self, k: u32) -> Option<u32>
+        ensures { result ≡ sent_sender self.now.packets k }
+    {
+        let after = k.checked_sub(1)?;
+        let packet = self.packets.get(after as usize)?;
+        Some(packet.sender)
     }
 
     /// Whether the sender sent a packet that reports this vector.

@@ -15,6 +15,7 @@ pub mod ConsistentOthers
 pub mod AllGathering
 pub mod Learnt
 pub mod GroupFetches
+mod SentOctets
 mod States
 mod MirrorFetches
 mod MirrorCounts

@@ -1,4 +1,5 @@
 pub mod Worlds
+pub mod Showing
 pub mod Kept
 pub mod Truth
 pub mod Sizes

@@ -14,6 +14,7 @@ mod publishing;
 mod reading;
 mod serving;
 mod settling;
+mod showing;
 mod syncing;
 
 use crate::issued::IssuedCommands;
