@@ -35,7 +35,8 @@ use Rattle.group_model.specs.Steps.{after_deliver, after_publish}
 use Rattle.group_model.specs.Refusals.{EventIsTaken, EventsAreTaken}
 use Rattle.group_model.specs.Sound.{IsSoundGroup}
 use Rattle.group_model.specs.Reached.{InSoundGroups}
-use Rattle.group_model.specs.Machines.{only_at, hears_of, happens_when_read, happens_in_block, happens_to, happens_over, first_machine}
+use Rattle.group_model.specs.Machines.{only_at, hears_of, happens_when_read, happens_in_block}
+use Rattle.group_model.specs.Machines.{happens_to, happens_over, first_machine}
 use Rattle.group_model.specs.Machines.{MachinesFollowTable, MachinesBegin, ReachedMachinesFollowTable}
 use Rattle.group_model.proofs.Settles.{member_settled}
 use Rattle.group_model.proofs.Worlds.{sound_after}
@@ -291,7 +292,8 @@ machines_follow_table out w s es n j first h l e =
       timer =
           let last : World = after_events out w es in
           ap (fires_kept last.time (member last j).known) same
-          ∙ fires_same n last.time (member last j).known (Suppression.after_sync_events (happens_over out w j es) first);
+          ∙ fires_same n last.time (member last j).known
+          (Suppression.after_sync_events (happens_over out w j es) first);
     }
 
 pub machines_begin : MachinesBegin

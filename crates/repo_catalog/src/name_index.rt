@@ -18,7 +18,7 @@ use std::marker::Model;
 // The hash of an object's name, then the publication. A number has 32 bits here, so that there is always one after it.
 pub(crate) type Key = (u64, (u32, u32));
 
-// Keys in order, and publications that wait for theirs. What is added waits, no name is hashed, and there is no room for
+// Keys in order, and publications that wait for theirs. What is added waits. No name is hashed and there is no room for
 // keys until an entry is removed, since names serve deletion alone. There is room for more to wait.
 #[derive(Debug, Drop)]
 pub(crate) struct NameIndex {

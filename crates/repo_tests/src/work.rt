@@ -318,7 +318,8 @@ const OF_ZEROS: [u8; 32] = [
     0xa6, 0xc1, 0x55, 0x27, 0xac, 0x09, 0xf6, 0xf1, 0x19, 0xca, 0xfd, 0xe6, 0x0c, 0x7c, 0x4a, 0x39,
 ];
 
-// "ab" and "c" under number 1, four times these octets under each of the 40 numbers after it, and nothing under the last.
+// "ab" and "c" under number 1, four times these octets under each of the 40 numbers after it, and nothing under the
+// last.
 fn contents<'a>(rt: &(impl Abort + AllocGlobal), octets: &'a [u8]) -> Vec<Whole<'a>> {
     let mut whole = Vec::new(rt.alloc());
     for seq in 1..43_u16 {

@@ -1,6 +1,6 @@
 -- The room that blocks take, when one of them changes, is split or goes.
-use Rattle.std.proofs.Common.{◌≡◌, ◌≤◌, ◌<◌, ◌+◌, ◌-◌, ◌*◌, ℕ, zero, suc, max, arith, length, set, get_or, take, inl, inr}
-use Rattle.std.proofs.Common.{List, [], ◌∷◌, refl, Vec, length-set}
+use Rattle.std.proofs.Common.{◌≡◌, ◌≤◌, ◌<◌, ◌+◌, ◌-◌, ◌*◌, ℕ, zero, suc, max, arith, length, set, get_or, take}
+use Rattle.std.proofs.Common.{inl, inr, List, [], ◌∷◌, refl, Vec, length-set}
 use Rattle.std.specs.List.{insert, remove}
 use Rattle.std.proofs.lemmas.List.Edits.{length-insert, length-remove}
 use Rattle.sorted_lists.specs.BlockMap.{over, above_half, room, half, full, IsKept, AreBlocks}

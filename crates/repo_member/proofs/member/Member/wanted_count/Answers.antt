@@ -5,4 +5,5 @@ use Rattle.repo_member.proofs.member.Member.wanted_count.Goals as goal
 
 pub returns : goal.returns
 returns c =
-    c.wanted_count.ensures ∙ reading (λ p. length (wanted p)) c.self.inside c.args.self.now c.self.invariant c.self.view_is
+    c.wanted_count.ensures
+    ∙ reading (λ p. length (wanted p)) c.self.inside c.args.self.now c.self.invariant c.self.view_is
