@@ -213,22 +213,37 @@ impl Member {
         })
     }
 
-    // The answer, with the packet that says it.
+    // An answer with the packet that says it.
     fn answered(&self, g: &Group, octets: &[u8], answer: Answer) -> Result<Answered, AllocError>
         requires group { IsOfGroup g.now self.now }
         ensures answer { IfOk result (λ answered. answered.answer ≡ answer) }
         ensures reply { IfOk result (λ answered. option_map (λ r. r.items) answered.reply
             ≡ reply_to_octets g.now self.now.number answer octets.now) }
     {
-        let reply = match InterestView::read(octets) {
-            Ok(interest) => self.reply(g, &interest.name, &answer)?,
-            Err(_) => None,
-        };
+        let reply = self.reply(g, octets, &answer)?;
         Ok(Answered { answer, reply })
     }
 
+    /// The packet that says an answer to octets; `None` where these are no Interest, or one whose name has more than
+    /// 1,000 octets of value.
+    pub fn reply(
+        &self,
+        g: &Group,
+        octets: &[u8],
+        answer: &Answer,
+    ) -> Result<Option<Vec<u8>>, AllocError>
+        requires group { IsOfGroup g.now self.now }
+        ensures { IfOk result (λ reply. option_map (λ r. r.items) reply
+            ≡ reply_to_octets g.now self.now.number answer.now octets.now) }
+    {
+        match InterestView::read(octets) {
+            Ok(interest) => self.reply_named(g, &interest.name, answer),
+            Err(_) => Ok(None),
+        }
+    }
+
     // Data of this name that says the answer, unless the name is too long.
-    fn reply(
+    fn reply_named(
         &self,
         g: &Group,
         name: &NameView<'_>,

@@ -8,7 +8,7 @@ use Rattle.repo_object.proofs.PacketSizes.{key_name-size}
 use Rattle.repo_member.specs.MemberState.{MemberState}
 use Rattle.repo_member.specs.Groups.{IsPlainNodeName}
 use Rattle.repo_member.proofs.ReplyLemmas.{reply-size}
-use Rattle.repo_member.proofs.member.Member.reply.Goals as goal
+use Rattle.repo_member.proofs.member.Member.reply_named.Goals as goal
 
 pub map_err-requires : goal.map_err-requires
 map_err-requires c =
