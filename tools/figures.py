@@ -242,13 +242,22 @@ def costs_table(given):
         yield costs.measure(name, given.program, max(min(most, (until - measured.spent()) / 4), 1))
 
 
-@table("what", "printed")
+@table("what, over all runs", "measured")
 def live(given):
     ran = subprocess.run([sys.executable, TOP / "tools/stress_live.py", "--program", given.live, "--runs", "100",
                           "--members", "16", "--objects", "200"], capture_output=True, text=True)
     print(ran.stderr, end="", file=sys.stderr)
-    for line in ran.stdout.splitlines():
-        yield "`stress_live.py --runs 100 --members 16 --objects 200`", line
+    runs, least, middle, most = re.search(
+        r"(\d+) runs ended as they must; seconds: least (\S+), middle (\S+), most (\S+)", ran.stdout).groups()
+    entries, sent, unheard, idle, refused = re.search(
+        r"(\d+) entries replay; of (\d+) news (\d+) were not heard; (\d+) claims found no part, and (\d+) entries",
+        ran.stdout).groups()
+    yield "runs that ended as they must, of 100", runs
+    yield "elapsed time of a run: least, middle, most", f"{least} s, {middle} s, {most} s"
+    for what, n in [("entries of journals, which all replay", entries), ("sync Interests for inboxes of others", sent),
+                    ("of these, not heard before the settle", unheard), ("claims that found no part", idle),
+                    ("entries that were refused", refused)]:
+        yield what, f"{int(n):,}"
 
 
 for given_name, name in (("scripts", "scripts_table"), ("costs", "costs_table")):
@@ -265,6 +274,11 @@ def made(name, given):
         yield costs.row(cells)
 
 
+# What a document says in the place of a table, and after one that has some of its rows alone.
+NOT_MADE = "This table was not made on this program.\n"
+SOME_MADE = "\nOf the kinds that `--list` names only settles were measured on this program.\n"
+
+
 def write(name, lines):
     """Puts a table into the documents, in the place of the one that stands under the comment that names it."""
     mark = f"<!-- python3 tools/figures.py {name} -->\n"
@@ -272,7 +286,7 @@ def write(name, lines):
         text = page.read_text()
         if mark in text:
             before, _, after = text.partition(mark)
-            after = re.sub(r"\A(\|[^\n]*\n)*", "", after)
+            after = re.sub(r"\A(\|[^\n]*\n)*", "", after.removeprefix(NOT_MADE)).removeprefix(SOME_MADE)
             page.write_text(before + mark + "".join(f"{line}\n" for line in lines) + after)
             return
     sys.exit(f"no document has a place for {name}")
