@@ -12,6 +12,7 @@ ghost use Rattle.repo_mirror.specs.WantedAlone.{WantsThose};
 
 mod counts;
 mod outcome;
+mod parts;
 
 use crate::learning::learn;
 use ndn_name::Name;
