@@ -1,17 +1,17 @@
 -- What all members have gathered, one after another.
-use Rattle.std.proofs.Common.{◌≡◌, inl, inr, ℕ, suc, zero, ◌+◌, ◌≤◌, ◌<◌, Bool, ◌||◌, List, [], ◌∷◌, map}
+use Rattle.std.proofs.Common.{◌≡◌, ◌⊎◌, inl, inr, ℕ, suc, zero, ◌+◌, ◌≤◌, ◌<◌, Bool, true, ◌||◌, List, [], ◌∷◌, map}
 use Rattle.std.proofs.Common.{length, get_or, set, take, refl, sym, ap, ◌∙◌, subst, arith}
 use Rattle.std.specs.Prelude.{sum_by}
-use Rattle.std.proofs.lemmas.Bool.{cases_eq}
+use Rattle.std.proofs.lemmas.Bool.{cases_eq, or_right}
 use Rattle.std.proofs.lemmas.List.{ext_get_or, get_or-map, get_or-set_other, length-map, length-set, take_all}
 use Rattle.std.proofs.lemmas.List.Sums.{sum_by_more, sum_by-cons}
 use Rattle.repo_plan.specs.declared.part.Part.{Part}
-use Rattle.sorted_lists.specs.SortedList.{keys, Rises}
-use Rattle.repo_plan.specs.Parts.{part_cmp}
+use Rattle.sorted_lists.specs.SortedList.{keys, contains, Rises}
+use Rattle.repo_plan.specs.Parts.{pair_cmp, part_cmp, pair_of}
 use Rattle.repo_plan.proofs.Orders.{exact_parts}
 use Rattle.sorted_lists.proofs.Sets.{rises_filter, or_swap}
 use Rattle.group_model.specs.Publications.{all_parts}
-use Rattle.group_model.specs.Member.{Member, member_holds, insert_keys}
+use Rattle.group_model.specs.Member.{Member, member_holds, member_hides, insert_keys}
 use Rattle.group_model.specs.World.{World, no_member, member, logs, someone_holds}
 use Rattle.group_model.specs.Settles.{learnt_member, IsGathering}
 use Rattle.group_model.specs.Sound.{IsSoundGroup, IsSoundMember}
@@ -23,6 +23,8 @@ use Rattle.repo_member.specs.Groups.{GroupKeys}
 use Rattle.repo_member.specs.MemberState.{MemberState, member_holdings}
 use Rattle.repo_member.specs.InGroup.{in_group, AreLogs}
 use Rattle.repo_member.specs.ConsistentMembers.{IsConsistentMember}
+use Rattle.bench_world.specs.declared.touched.Touched.{Touched}
+use Rattle.bench_world.specs.Touching.{LacksOnlyTouched, NoneLacks}
 use Rattle.bench_world.specs.Lending.{lends}
 use Rattle.bench_world.specs.Truth.{stores, TriedFew, AllTriedFew}
 use Rattle.bench_world.specs.MemberWords.{member_words}
@@ -110,6 +112,24 @@ module _ (g : GroupKeys) (w : World) (group : IsSoundGroup w) (are : AreLogs g (
     done = λ i l. absurd (omega (arith, l));
     still = λ i l. refl;
   }
+
+  -- Who hasn't gathered yet lacks nothing but parts of what was touched.
+  pub lacks_at : (n : Touched) → NoneLacks n (in_groups begun) → (j : ℕ) (mid : List MemberState)
+      → GatheredSoFar g w begun j mid → j < length mid
+      → LacksOnlyTouched member_words n (others_than j mid) (state_at mid j)
+  lacks_at n lacks j mid so_far inside t lent off known =
+      let groups : length (in_groups begun) ≡ length begun = length-map begun in_group in
+      let held : someone_holds (in_groups begun) t ≡ true =
+      same_someones t
+      ∙ sym (so_far.all.someones t)
+      ∙ someone_at mid j t inside
+      ∙ or_right (stores (state_at mid j) t) (someone_holds (in_groups (others_than j mid)) t)
+      (sym (lends_held (others_than j mid) t) ∙ lent) in
+      let there : j < length begun = omega (arith, inside, so_far.all.len) in
+      subst (λ (a : MemberState). (stores a t ≡ true) ⊎ (contains pair_cmp a.hidden (pair_of t) ≡ true))
+      (sym (so_far.still j (omega arith)))
+      (subst (λ (x : Member). (member_holds x t ≡ true) ⊎ (member_hides x (pair_of t) ≡ true)) (member_of begun j there)
+      (lacks j (omega (arith, there, groups)) t held off))
 
   -- Each has come a part of the way.
   pub partly_all : (mid : List MemberState) → AreGathering g w begun mid → ArePartlySettled w (in_groups mid)

@@ -39,6 +39,8 @@ use Rattle.repo_member.specs.ConsistentMembers.{IsConsistentMember}
 use Rattle.repo_member.proofs.PublicLaws.{block_states_alike, inserts_consistent}
 use Rattle.bench_world.specs.Blocks.{after_blocked, blocked_reported}
 use Rattle.bench_world.specs.EventValues.{Reported, block_reported}
+use Rattle.bench_world.specs.declared.touched.Touched.{Touched}
+use Rattle.bench_world.specs.Touching.{touches, NotesAny, blocked_pair}
 use Rattle.bench_world.specs.Worlds.{GroupState, IsConsistentState, IsConsistentSync, nobody, state_at, in_groups}
 use Rattle.bench_world.specs.Worlds.{logs_around}
 use Rattle.bench_world.specs.Worlds.{MembersAreNumbered, AreConsistentMembers, sync_in, world_of, drawing}
@@ -209,6 +211,22 @@ module _ (s : GroupState) (is : IsConsistentState s) (m : ℕ) (there : m < leng
             go (Waiting p) blocked.Waiting t = refl
             go (Whole p) (blocked.Published one) t = λ i. Reported.BlockPublished m (seq_so one.seq t.0 i) (sync_so i)
             go _ _ t = absurd t
+
+      -- What it published is noted.
+      pub noted_so : (n later : Touched) → NotesAny n (blocked_pair m x) later
+          → (p : Process) → block_at (world_of s) m process index content ≡ Whole p
+          → touches later (m, length (member (world_of s) m).log + 1) ≡ true
+      noted_so n later notes p whole = go comes_to x tells notes (sym state_is ∙ whole) where
+        go : (c : BlockState) (y : Blocked) → ReportsBlock s.keys old b c y → NotesAny n (blocked_pair m y) later
+            → c ≡ Whole p → touches later (m, length (member (world_of s) m).log + 1) ≡ true
+        go (Whole q) (blocked.Published one) t noted e =
+            let l = log_is s is m there old old_is in
+            let seq : length (member (world_of s) m).log + 1 ≡ one.seq = omega (arith, t.0, l) in
+            ap (λ (k : ℕ). touches later (m, k)) seq ∙ noted.there
+        go Unknown y t noted e = absurd cc
+        go Already y t noted e = absurd cc
+        go (Waiting q) y t noted e = absurd cc
+        go _ _ t noted e = absurd t
 
       module _ (few : s.steps < 100000) (objects : CompletesAnObject comes_to) (sent reserved : List SentPacket)
           (vector : List ℕ)

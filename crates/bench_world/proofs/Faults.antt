@@ -1,10 +1,9 @@
 -- Why a step was not made.
-use Rattle.std.proofs.Common.{◌≡◌, Option, Some, None, ap}
+use Rattle.std.proofs.Common.{Option, Some, None, ap}
 use Rattle.group_model.specs.Refusals.{Refusal}
 use Rattle.bench_world.specs.declared.event.EventError.{EventError}
 use Rattle.bench_world.specs.declared.event.EventError.TheVariants as fault
-use Rattle.bench_world.specs.declared.event.StepFault.{StepFault}
-use Rattle.bench_world.specs.Steps.{IsFaultOf, step_fault, IsStepFaultOf, fault_of}
+use Rattle.bench_world.specs.Steps.{IsFaultOf, step_fault, IsStepFaultOf}
 
 -- A refusal of an event is one of the step that it is.
 pub step_faults : (why : Option Refusal) (f : EventError) → IsFaultOf why f → IsStepFaultOf why (step_fault f)

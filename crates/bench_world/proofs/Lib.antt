@@ -2,8 +2,9 @@ mod Bounded
 mod EitherAnswer
 mod PacketSizes
 pub mod SetSums
+mod Touching
 pub mod NextParts
-mod Lenders
+mod LentParts
 pub mod Attempts
 pub mod PhaseOutcomes
 pub mod OneByOne
@@ -17,6 +18,11 @@ pub mod Learnt
 pub mod GroupFetches
 mod SentOctets
 mod States
+mod Lacking
+mod Spreading
+mod MirrorsAtRest
+mod MirrorsLacking
+mod NobodyLacking
 mod MirrorFetches
 mod MirrorCounts
 mod MirrorAsks

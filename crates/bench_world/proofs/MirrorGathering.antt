@@ -1,21 +1,31 @@
 -- A mirror that is taken out of all, learns and gathers, and is put back.
-use Rattle.std.proofs.Common.{◌≡◌, ◌+◌, ℕ, List, length, get_or, set, refl, sym, ap, ◌∙◌, subst}
+use Rattle.std.proofs.Common.{◌≡◌, ◌⊎◌, ◌+◌, ℕ, true, false, List, length, get_or, set, refl, sym, ap, ◌∙◌, subst}
 use Rattle.std.specs.List.{remove, insert}
 use Rattle.std.proofs.lemmas.List.{get_or_default}
+use Rattle.sorted_lists.specs.SortedList.{contains}
+use Rattle.repo_plan.specs.declared.part.Part.{Part}
+use Rattle.repo_plan.specs.Parts.{pair_cmp, part_cmp, pair_of}
+use Rattle.repo_plan.specs.Plan.{knows}
+use Rattle.group_model.specs.World.{someone_holds}
 use Rattle.group_model.specs.Steps.{settled_vector}
 use Rattle.repo_member.specs.Groups.{GroupKeys}
 use Rattle.repo_member.specs.MemberState.{MemberState}
-use Rattle.repo_mirror.specs.MirrorState.{MirrorState, mirror_holdings}
+use Rattle.repo_mirror.specs.MirrorState.{MirrorState, mirror_holdings, fetch_plan}
 use Rattle.repo_mirror.specs.ConsistentMirrors.{IsConsistentMirror}
+use Rattle.bench_world.specs.declared.touched.Touched.{Touched}
 use Rattle.bench_world.specs.Conditions.{CanGatherFor}
+use Rattle.bench_world.specs.Lending.{lends}
 use Rattle.bench_world.specs.Gathering.{one_each, Counts, GainsParts, NothingLeft}
 use Rattle.bench_world.specs.MirrorSettles.{HasSettled, IsPartlySettledMirror, held_by}
 use Rattle.bench_world.specs.MirrorSteps.{no_mirror, mirror_at, mirror_learns}
-use Rattle.bench_world.specs.MirrorWords.{state_words}
+use Rattle.bench_world.specs.MirrorWords.{mirror_held, state_words}
+use Rattle.bench_world.specs.Touching.{touches}
+use Rattle.bench_world.specs.Unsettled.{MirrorLacksNone}
 use Rattle.bench_world.specs.Truth.{TriedFew}
-use Rattle.bench_world.specs.Worlds.{logs_around, only_members}
+use Rattle.bench_world.specs.Worlds.{in_groups, logs_around, only_members}
 use Rattle.bench_world.proofs.MirrorSettling.{settled_consistently, learnt_consistently, partly_gathered, has_settled}
 use Rattle.bench_world.proofs.MirrorSettling.{has_gained}
+use Rattle.bench_world.proofs.MirrorsLacking.{learnt_has}
 use Rattle.bench_world.proofs.TakenOut.{put_at, put_changed}
 
 -- The mirror of a number that had learnt has gathered, the others are as they were, and where nothing was left, it has
@@ -30,8 +40,9 @@ pub record HasGatheredAt (g : GroupKeys) (lenders : List MemberState) (ms new : 
   pub held : (n : ℕ) → Counts state_words one_each n learnt left
       → n + held_by (mirror_at ms i) ≡ held_by (mirror_at new i)
 
-module _ (g : GroupKeys) (workers i : ℕ) (lenders : List MemberState) (reported : List ℕ) (ms : List MirrorState)
-    (can : CanGatherFor g workers i lenders reported ms) (old : MirrorState) (old_is : old ≡ get_or ms i old) where
+module _ (g : GroupKeys) (workers i : ℕ) (lenders : List MemberState) (touched : Touched) (reported : List ℕ)
+    (ms : List MirrorState) (can : CanGatherFor g workers i lenders touched reported ms) (old : MirrorState)
+    (old_is : old ≡ get_or ms i old) where
   old_at : old ≡ mirror_at ms i
   old_at = old_is ∙ get_or_default ms i old no_mirror can.there
 
@@ -58,6 +69,13 @@ module _ (g : GroupKeys) (workers i : ℕ) (lenders : List MemberState) (reporte
 
     pub few_learnt : TriedFew (mirror_holdings learnt)
     few_learnt = subst (λ (m : MirrorState). TriedFew (mirror_holdings m)) (sym learnt_at) can.tried
+
+    pub lacks_touched : (t : Part) → lends lenders t ≡ true → touches touched (pair_of t) ≡ false
+        → knows (fetch_plan learnt) (pair_of t) ≡ true
+        → (contains part_cmp (mirror_held learnt) t ≡ true) ⊎ (contains pair_cmp learnt.passed (pair_of t) ≡ true)
+    lacks_touched =
+        learnt_has touched lenders reported old learnt learnt_is
+        (subst (MirrorLacksNone touched (someone_holds (in_groups lenders))) (sym old_at) can.lacks)
 
     pub gathered : (mid new : List MirrorState) (left : MirrorState) → mid ≡ remove ms i → new ≡ insert mid i left
         → GainsParts state_words g (logs_around lenders) lenders learnt left

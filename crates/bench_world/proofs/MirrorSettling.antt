@@ -7,7 +7,9 @@ use Rattle.std.proofs.lemmas.List.{get_or-set_other, length-set}
 use Rattle.std.proofs.lemmas.List.Sums.{sum_by-set}
 use Rattle.svs_vector.specs.Vectors.{join}
 use Rattle.svs_vector.proofs.JoinLemmas.{join-at}
+use Rattle.sorted_lists.specs.SortedList.{contains}
 use Rattle.repo_plan.specs.declared.part.Part.{Part}
+use Rattle.repo_plan.specs.Parts.{pair_cmp}
 use Rattle.repo_plan.specs.Plan.{is_wanted, is_unclaimed, is_claimed}
 use Rattle.repo_watch.specs.declared.pattern.Pattern.{Pattern}
 use Rattle.group_model.specs.Publications.{Logs}
@@ -50,6 +52,7 @@ gains_of {X} {f} g logs others a b gains = record {
   consistent = gains.consistent;
   kept = gains.kept;
   came = gains.came;
+  hidden = gains.hidden;
 }
 
 module _ (w : World) where
@@ -61,6 +64,7 @@ module _ (w : World) where
     known_more = λ p. omega arith;
     known_less = λ p. let at = join-at m.known (settled_vector w) p in omega (arith, at);
     kept = λ t h. h;
+    passed = λ pair h. h;
     only = λ t h none. absurd (true≢false (sym h ∙ none));
   }
 
@@ -167,6 +171,8 @@ module _ (g : GroupKeys) (w : World) (are : AreLogs g (logs w)) (group : IsSound
                 ap (λ (v : List ℕ). get_or v p 0) known_is in
                 omega (arith, e);
             kept = kept;
+            passed = λ pair h.
+                gains.hidden pair (ap (λ (m : MirrorState). contains pair_cmp m.passed pair) a_is ∙ h);
             only = gains_those.only;
           }
 

@@ -10,11 +10,14 @@ use Rattle.group_model.specs.Laws.{NothingHidden}
 use Rattle.repo_member.specs.MemberState.{MemberState}
 use Rattle.repo_mirror.specs.MirrorState.{MirrorState}
 use Rattle.repo_mirror.specs.ConsistentMirrors.{IsConsistentMirror}
+use Rattle.bench_world.specs.declared.touched.Touched.{Touched}
 use Rattle.bench_world.specs.Conditions.{CanGatherForAll}
 use Rattle.bench_world.specs.MirrorSteps.{no_mirror, mirror_at}
 use Rattle.bench_world.specs.MirrorSettles.{HasSettled, HaveSettled, ListsItsJoin}
 use Rattle.bench_world.specs.MirrorSettles.{IsPartlySettledMirror, ArePartlySettledMirrors}
-use Rattle.bench_world.specs.Worlds.{GroupState, IsConsistentState, MirrorTriedFew, logs_around, only_members, world_of}
+use Rattle.bench_world.specs.Unsettled.{MirrorsLackNone}
+use Rattle.bench_world.specs.Worlds.{GroupState, IsConsistentState, MirrorTriedFew, in_groups, logs_around}
+use Rattle.bench_world.specs.Worlds.{only_members, world_of}
 use Rattle.bench_world.proofs.FetchesAndSettles.{sound_only}
 use Rattle.bench_world.proofs.KnownByAll.{knowns}
 use Rattle.bench_world.proofs.Learnt.{all_is_settled}
@@ -41,10 +44,11 @@ module _ (s : GroupState) (is : IsConsistentState s) where
       (omega (arith, len, few))
 
   module _ (lent : List MemberState) (lent_is : lent ≡ s.members) where
-    pub can_gather : (n : ℕ) → (1 ≤ n) × (n ≤ 16) → (known : List ℕ) → known ≡ join_all (knowns lent)
-        → CanGatherForAll s.keys n lent known s.mirrors
-    can_gather n workers known known_is =
-        subst (λ (ms : List MemberState). CanGatherForAll s.keys n ms known s.mirrors) (sym lent_is)
+    pub can_gather : (touched : Touched) → MirrorsLackNone touched (in_groups s.members) s.mirrors → (n : ℕ)
+        → (1 ≤ n) × (n ≤ 16) → (known : List ℕ) → known ≡ join_all (knowns lent)
+        → CanGatherForAll s.keys n lent touched known s.mirrors
+    can_gather touched lacks n workers known known_is =
+        subst (λ (ms : List MemberState). CanGatherForAll s.keys n ms touched known s.mirrors) (sym lent_is)
         (record {
           workers = workers;
           few = is.mirrors_few;
@@ -57,6 +61,7 @@ module _ (s : GroupState) (is : IsConsistentState s) where
               ∙ all_is_settled s.keys (only_members s.members) is.are (sound_only s is) s.members refl is.members;
           consistent = λ i l. is.mirrors i no_mirror l;
           tried = λ i l. mirror_tried s is i l (mirror_at s.mirrors i) (get_or_default s.mirrors i no_mirror _ l);
+          lacks = lacks;
         })
 
     module _ (ms : List MirrorState) where
@@ -88,6 +93,7 @@ module _ (s : GroupState) (is : IsConsistentState s) where
             known_more = one.known_more;
             known_less = one.known_less;
             kept = one.kept;
+            passed = one.passed;
             only = one.only;
           }
 

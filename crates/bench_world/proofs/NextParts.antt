@@ -8,7 +8,7 @@ use Rattle.std.specs.declared.cmp.Ordering.{Ordering}
 use Rattle.std.specs.declared.cmp.Ordering.TheVariants.{Less, Equal, Greater}
 use Rattle.std.proofs.lemmas.Bool.{true≢false, cases_Bool}
 use Rattle.repo_plan.specs.declared.part.Part.{Part}
-use Rattle.sorted_lists.specs.SortedList.{contains, Rises}
+use Rattle.sorted_lists.specs.SortedList.{Rises}
 use Rattle.repo_plan.specs.Parts.{part_cmp}
 use Rattle.repo_plan.specs.Plan.{is_unclaimed, unclaimed, is_after}
 use Rattle.repo_plan.proofs.Orders.{exact_parts}
@@ -72,7 +72,7 @@ module _ (h : HoldingsState) (after : Option Part) where
       in_filter (is_after after) (unclaimed (held_plan h)) t
       (in_contains exact_parts (unclaimed (held_plan h)) t (contains-unclaimed (held_plan h) t ∙ u)) later
 
-  from_later : (t : Part) → In t later_parts → (is_unclaimed (held_plan h) t ≡ true) × (is_after after t ≡ true)
+  pub from_later : (t : Part) → In t later_parts → (is_unclaimed (held_plan h) t ≡ true) × (is_after after t ≡ true)
   from_later t i =
       let r = from_filter (is_after after) (unclaimed (held_plan h)) t i in
       (sym (contains-unclaimed (held_plan h) t) ∙ contains_in exact_parts (unclaimed (held_plan h)) t r.0, r.1)

@@ -1,13 +1,13 @@
 -- What phases and rounds make of who gathers.
-use Rattle.std.proofs.Common.{◌≡◌, inl, inr, ℕ, ◌+◌, ◌*◌, ◌≤◌, ◌<◌, true, false, ◌||◌, List, length, Option, Some, None}
-use Rattle.std.proofs.Common.{refl, sym, ap, ◌∙◌, subst, arith}
-use Rattle.std.specs.Prelude.{is_some, unwrap_or, filter, sum_by, slice_index_or, IfSome}
+use Rattle.std.proofs.Common.{◌≡◌, inl, inr, ℕ, ◌+◌, ◌*◌, ◌≤◌, ◌<◌, true, false, ◌||◌, ◌&&◌, List, length, Option, Some}
+use Rattle.std.proofs.Common.{None, refl, sym, ap, ◌∙◌, subst, arith}
+use Rattle.std.specs.Prelude.{is_some, unwrap_or, filter, sum_by, slice_index, slice_index_or, nat_le, IfSome}
 use Rattle.std.specs.List.{All}
 use Rattle.std.proofs.lemmas.Bool.{true≢false, and_parts, or_cases, or_right}
 use Rattle.std.proofs.lemmas.List.Sums.{sum_by-le}
 use Rattle.repo_plan.specs.declared.part.Part.{Part}
 use Rattle.sorted_lists.specs.SortedList.{contains, Rises}
-use Rattle.repo_plan.specs.Parts.{part_cmp}
+use Rattle.repo_plan.specs.Parts.{part_cmp, pair_of}
 use Rattle.repo_plan.specs.Plan.{is_wanted, is_unclaimed, is_after, attempts_of}
 use Rattle.repo_plan.proofs.Orders.{exact_parts}
 use Rattle.sorted_lists.specs.SortedList.{value_of}
@@ -24,6 +24,8 @@ use Rattle.repo_member.specs.Groups.{GroupKeys}
 use Rattle.repo_member.specs.MemberState.{MemberState}
 use Rattle.repo_member.specs.InGroup.{AreLogs, published_packet}
 use Rattle.repo_member.proofs.PublicLaws.{holders_want_published}
+use Rattle.bench_world.specs.declared.touched.Touched.{Touched}
+use Rattle.bench_world.specs.Touching.{LacksOnlyTouched}
 use Rattle.bench_world.specs.Worlds.{AreConsistentMembers}
 use Rattle.bench_world.specs.Sizes.{size_of}
 use Rattle.bench_world.specs.Truth.{TriedFew}
@@ -80,6 +82,17 @@ module _ {H : Type 0} (words : HolderWords H) (holders : AreHolders words) where
       ap (λ (ns : List (Part × ℕ)). unwrap_or (value_of part_cmp ns t) 0) tried in
       omega (arith, h, e)
 
+  -- It still lacks nothing but parts of what was touched.
+  pub lacks_still : (n : Touched) (g : GroupKeys) (logs : Logs) (others : List MemberState) (a b : H)
+      → GainsParts words g logs others a b → LacksOnlyTouched words n others a → LacksOnlyTouched words n others b
+  lacks_still n g logs others a b gains lacks t lent off known =
+      elim (lacks t lent off
+      (ap (λ (ns : List ℕ). nat_le 1 t.seq && nat_le t.seq (slice_index ns t.publisher))
+      (holders.known a ∙ ap (λ (x : H). (words.holdings x).known) (sym gains.rest) ∙ sym (holders.known b)) ∙ known)) [
+        | inl holds ↦ inl (gains.kept t holds)
+        | inr hides ↦ inr (gains.hidden (pair_of t) hides)
+      ]
+
   module _ (g : GroupKeys) (logs : Logs) (others : List MemberState) (are : AreLogs g logs)
       (all : AreConsistentMembers g logs others) where
     -- ---- a phase
@@ -131,6 +144,7 @@ module _ {H : Type 0} (words : HolderWords H) (holders : AreHolders words) where
                   inr (from_filter (lends others) ts t (in_contains exact_parts (filter (lends others) ts) t new)).1
               | inr was ↦ inl was
             ];
+        hidden = holders.hidden_stays (lent_all others ts) a;
       }
 
       not_held : (t : Part) → In t (filter (lends others) ts) → has words a t ≡ false
@@ -161,7 +175,13 @@ module _ {H : Type 0} (words : HolderWords H) (holders : AreHolders words) where
     -- ---- rounds
 
     pub gains_none : (a : H) → words.is_true g logs a → GainsParts words g logs others a a
-    gains_none a consistent = record { rest = refl; consistent = consistent; kept = λ t h. h; came = λ t h. inl h }
+    gains_none a consistent = record {
+      rest = refl;
+      consistent = consistent;
+      kept = λ t h. h;
+      came = λ t h. inl h;
+      hidden = λ pair h. h;
+    }
 
     pub gains_both : (a b c : H) → GainsParts words g logs others a b → GainsParts words g logs others b c
         → GainsParts words g logs others a c
@@ -170,6 +190,7 @@ module _ {H : Type 0} (words : HolderWords H) (holders : AreHolders words) where
       consistent = k.consistent;
       kept = λ t s. k.kept t (h.kept t s);
       came = λ t s. elim (k.came t s) [ inl was ↦ h.came t was | inr new ↦ inr new ];
+      hidden = λ pair s. k.hidden pair (h.hidden pair s);
     }
 
     pub counts_both : (weight : Part → ℕ) (n m : ℕ) (a b c : H) → Counts words weight n a b

@@ -5,7 +5,7 @@ use Rattle.repo_plan.specs.Calls.{IsFetcher}
 use Rattle.repo_plan.specs.Plan.{claim_of}
 use Rattle.repo_object.specs.Wants.{WantedPart}
 use Rattle.group_model.specs.Publications.{Logs}
-use Rattle.group_model.specs.World.{World}
+use Rattle.group_model.specs.World.{World, someone_holds}
 use Rattle.group_model.specs.World as group
 use Rattle.group_model.specs.Sound.{IsSoundGroup, IsPublishedPart}
 use Rattle.group_model.specs.Settles.{learnt_member}
@@ -16,10 +16,15 @@ use Rattle.repo_member.specs.InGroup.{AreLogs}
 use Rattle.repo_member.specs.ConsistentMembers.{IsConsistentMember, published_want}
 use Rattle.repo_mirror.specs.MirrorState.{MirrorState, mirror_holdings}
 use Rattle.repo_mirror.specs.ConsistentMirrors.{IsConsistentMirror}
+use Rattle.bench_world.specs.declared.touched.Touched.{Touched}
 use Rattle.bench_world.specs.Holders.{HolderWords}
+use Rattle.bench_world.specs.MemberWords.{member_words}
+use Rattle.bench_world.specs.Touching.{LacksOnlyTouched, NoneLacks}
+use Rattle.bench_world.specs.Unsettled.{MirrorLacksNone, MirrorsLackNone}
 use Rattle.bench_world.specs.MirrorSteps.{mirror_at}
 use Rattle.bench_world.specs.Truth.{AreFewLogs, TriedFew, AllTriedFew}
-use Rattle.bench_world.specs.Worlds.{in_groups, logs_around, only_members, AreConsistentMembers, MembersAreNumbered}
+use Rattle.bench_world.specs.Worlds.{state_at, in_groups, others_than, logs_around, only_members}
+use Rattle.bench_world.specs.Worlds.{AreConsistentMembers, MembersAreNumbered}
 
 -- ---- a fetcher's claim
 
@@ -64,15 +69,15 @@ pub record CanAnswerAt (g : GroupKeys) (ls : Logs) (f m q : ℕ) (ms : List Memb
 
 module _ {H : Type 0} (words : HolderWords H) where
   -- It gathers in a settle, in which the network loses nothing.
-  pub record CanGather (g : GroupKeys) (ls : Logs) (n : ℕ) (lenders : List MemberState) (lost : Option ℕ) (s : H) : Type
-      0
-    where
-      pub workers : (1 ≤ n) × (n ≤ 16)
-      pub logs : AreFewLogs g ls
-      pub others : AreConsistentMembers g ls lenders
-      pub loss : lost ≡ None
-      pub consistent : words.is_true g ls s
-      pub tried : TriedFew (words.holdings s)
+  pub record CanGather (g : GroupKeys) (ls : Logs) (n : ℕ) (touched : Touched) (lenders : List MemberState)
+      (lost : Option ℕ) (s : H) : Type 0 where
+    pub workers : (1 ≤ n) × (n ≤ 16)
+    pub logs : AreFewLogs g ls
+    pub others : AreConsistentMembers g ls lenders
+    pub loss : lost ≡ None
+    pub consistent : words.is_true g ls s
+    pub tried : TriedFew (words.holdings s)
+    pub lacks : LacksOnlyTouched words touched lenders s
 
   -- It fetches, so often at most.
   pub record CanFetch (g : GroupKeys) (ls : Logs) (n most : ℕ) (lenders : List MemberState) (s : H) : Type 0 where
@@ -98,9 +103,8 @@ pub record CanFetchFor (g : GroupKeys) (n most i : ℕ) (lenders : List MemberSt
   pub tried : TriedFew (mirror_holdings (mirror_at ms i))
 
 -- It has learnt nothing yet of a settle, in which members lend what they store. They know this vector together.
-pub record CanGatherFor (g : GroupKeys) (n i : ℕ) (lenders : List MemberState) (reported : List ℕ)
-    (ms : List MirrorState)
-    : Type 0 where
+pub record CanGatherFor (g : GroupKeys) (n i : ℕ) (lenders : List MemberState) (touched : Touched)
+    (reported : List ℕ) (ms : List MirrorState) : Type 0 where
   pub workers : (1 ≤ n) × (n ≤ 16)
   pub there : i < length ms
   pub few : i < 4
@@ -110,11 +114,11 @@ pub record CanGatherFor (g : GroupKeys) (n i : ℕ) (lenders : List MemberState)
   pub known : reported ≡ settled_vector (only_members lenders)
   pub consistent : IsConsistentMirror g (logs_around lenders) (mirror_at ms i)
   pub tried : TriedFew (mirror_holdings (mirror_at ms i))
+  pub lacks : MirrorLacksNone touched (someone_holds (in_groups lenders)) (mirror_at ms i)
 
 -- The same of all mirrors.
-pub record CanGatherForAll (g : GroupKeys) (n : ℕ) (lenders : List MemberState) (reported : List ℕ)
-    (ms : List MirrorState)
-    : Type 0 where
+pub record CanGatherForAll (g : GroupKeys) (n : ℕ) (lenders : List MemberState) (touched : Touched)
+    (reported : List ℕ) (ms : List MirrorState) : Type 0 where
   pub workers : (1 ≤ n) × (n ≤ 16)
   pub few : length ms ≤ 4
   pub logs : AreFewLogs g (logs_around lenders)
@@ -123,6 +127,7 @@ pub record CanGatherForAll (g : GroupKeys) (n : ℕ) (lenders : List MemberState
   pub known : reported ≡ settled_vector (only_members lenders)
   pub consistent : (i : ℕ) → i < length ms → IsConsistentMirror g (logs_around lenders) (mirror_at ms i)
   pub tried : (i : ℕ) → i < length ms → TriedFew (mirror_holdings (mirror_at ms i))
+  pub lacks : MirrorsLackNone touched (in_groups lenders) ms
 
 -- ---- all members
 
@@ -133,12 +138,14 @@ pub record CanTell (g : GroupKeys) (ls : Logs) (ms : List MemberState) : Type 0 
   pub consistent : AreConsistentMembers g ls ms
 
 -- The member of this number gathers.
-pub record CanGatherAt (g : GroupKeys) (ls : Logs) (n j : ℕ) (ms : List MemberState) : Type 0 where
+pub record CanGatherAt (g : GroupKeys) (ls : Logs) (n j : ℕ) (touched : Touched) (ms : List MemberState) : Type
+    0 where
   pub workers : (1 ≤ n) × (n ≤ 16)
   pub there : j < length ms
   pub logs : AreFewLogs g ls
   pub members : AreConsistentMembers g ls ms
   pub tried : AllTriedFew ms
+  pub lacks : LacksOnlyTouched member_words touched (others_than j ms) (state_at ms j)
 
 -- The members are those of this group, and the one of this number fetches.
 pub record CanFetchAt (g : GroupKeys) (w : World) (n most j : ℕ) (ms : List MemberState) : Type 0 where
@@ -152,7 +159,8 @@ pub record CanFetchAt (g : GroupKeys) (w : World) (n most j : ℕ) (ms : List Me
   pub tried : AllTriedFew ms
 
 -- They have learnt what all know, and gather.
-pub record CanGatherAll (g : GroupKeys) (w : World) (n : ℕ) (ms : List MemberState) : Type 0 where
+pub record CanGatherAll (g : GroupKeys) (w : World) (n : ℕ) (touched : Touched) (ms : List MemberState) : Type
+    0 where
   pub workers : (1 ≤ n) × (n ≤ 16)
   pub logs : AreFewLogs g (group.logs w)
   pub sound : IsSoundGroup w
@@ -160,9 +168,10 @@ pub record CanGatherAll (g : GroupKeys) (w : World) (n : ℕ) (ms : List MemberS
   pub consistent : AreConsistentMembers g (group.logs w) ms
   pub numbers : MembersAreNumbered ms
   pub tried : AllTriedFew ms
+  pub lacks : NoneLacks touched (in_groups ms)
 
 -- They are those of this group, and settle.
-pub record CanSettle (g : GroupKeys) (w : World) (n : ℕ) (ms : List MemberState) : Type 0 where
+pub record CanSettle (g : GroupKeys) (w : World) (n : ℕ) (touched : Touched) (ms : List MemberState) : Type 0 where
   pub workers : (1 ≤ n) × (n ≤ 16)
   pub logs : AreFewLogs g (group.logs w)
   pub begun : in_groups ms ≡ w.members
@@ -170,3 +179,4 @@ pub record CanSettle (g : GroupKeys) (w : World) (n : ℕ) (ms : List MemberStat
   pub consistent : AreConsistentMembers g (group.logs w) ms
   pub sound : IsSoundGroup w
   pub tried : AllTriedFew ms
+  pub lacks : NoneLacks touched (in_groups ms)

@@ -2,8 +2,8 @@
 use Rattle.std.specs.Prelude.{ℕ, ◌≡◌, ◌⊎◌, ◌+◌, true, false, List, [], map, filter, take, Option, Some, None, sum_by}
 use Rattle.repo_plan.specs.declared.part.Part.{Part}
 use Rattle.sorted_lists.specs.SortedList.{contains}
-use Rattle.repo_plan.specs.Parts.{part_cmp}
-use Rattle.repo_plan.specs.Plan.{unclaimed, is_unclaimed, is_after}
+use Rattle.repo_plan.specs.Parts.{Pair, part_cmp}
+use Rattle.repo_plan.specs.Plan.{hides, unclaimed, is_unclaimed, is_after}
 use Rattle.repo_holdings.specs.HoldingsState.{HoldingsState, held_plan}
 use Rattle.repo_holdings.specs.Taking.{Fetched}
 use Rattle.group_model.specs.Publications.{Logs}
@@ -44,6 +44,8 @@ module _ {H : Type 0} (words : HolderWords H) where
     pub consistent : words.is_true g logs new
     pub kept : (t : Part) → has words old t ≡ true → has words new t ≡ true
     pub came : (t : Part) → has words new t ≡ true → (has words old t ≡ true) ⊎ (lends others t ≡ true)
+    pub hidden : (pair : Pair) → hides (held_plan (words.holdings old)) pair ≡ true
+        → hides (held_plan (words.holdings new)) pair ≡ true
 
   -- So many parts came, with so many octets, where each part counts as `weight` says.
   abbrev pub held_sum : (Part → ℕ) → H → ℕ

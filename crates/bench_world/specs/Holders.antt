@@ -3,8 +3,8 @@
 use Rattle.std.specs.Prelude.{◌≡◌, ℕ, Bool, true, false, ◌||◌, List, map, filter, take, Option, Some, None, IfSome}
 use Rattle.std.specs.List.{All}
 use Rattle.repo_plan.specs.declared.part.Part.{Part}
-use Rattle.repo_plan.specs.Parts.{part_cmp}
-use Rattle.repo_plan.specs.Plan.{is_wanted, is_unclaimed, unclaimed, is_after}
+use Rattle.repo_plan.specs.Parts.{Pair, part_cmp}
+use Rattle.repo_plan.specs.Plan.{hides, is_wanted, is_unclaimed, unclaimed, is_after}
 use Rattle.sorted_lists.specs.SortedList.{Rises, contains}
 use Rattle.repo_holdings.specs.HoldingsState.{HoldingsState, held_plan}
 use Rattle.repo_holdings.specs.Taking.{Fetched}
@@ -30,11 +30,15 @@ pub record HolderWords (H : Type 0) : Type 1 where
 abbrev pub has : {H : Type 0} → HolderWords H → H → Part → Bool
 has words s t = contains part_cmp (words.held s) t
 
--- The jobs of the least parts that are wanted and unclaimed, after a place, and that others lend, at most so many.
-abbrev pub lent_jobs : GroupKeys → List MemberState → HoldingsState → Option Part → ℕ → List Job
-lent_jobs g others h after most =
+-- The jobs of the least parts that are wanted and unclaimed, after a place, and that pass a test, at most so many.
+abbrev pub jobs_that : (Part → Bool) → GroupKeys → HoldingsState → Option Part → ℕ → List Job
+jobs_that test g h after most =
     map (job_at g.members.names g.name h)
-    (take most (filter (lends others) (filter (is_after after) (unclaimed (held_plan h)))))
+    (take most (filter test (filter (is_after after) (unclaimed (held_plan h)))))
+
+-- Those that others lend.
+abbrev pub lent_jobs : GroupKeys → List MemberState → HoldingsState → Option Part → ℕ → List Job
+lent_jobs g others h after most = jobs_that (lends others) g h after most
 
 -- A part that it wants and that no fetcher claims was asked for, and nothing came, or its packet.
 pub record CameForHolder (g : GroupKeys) (logs : Logs) (h : HoldingsState) (x : Fetched) : Type 0 where
@@ -47,7 +51,8 @@ pub record CameToNothing (x : Fetched) : Type 0 where
   pub attempts : x.attempts ≡ 0
 
 -- What holds of each holder of a kind: what it holds is in order, was published, and isn't wanted; where packets of
--- wanted parts come, it holds those parts too; and nothing else of it changes where no attempt is counted.
+-- wanted parts come, it holds those parts too; nothing else of it changes where no attempt is counted; and what it
+-- hides stays hidden.
 pub record AreHolders {H : Type 0} (words : HolderWords H) : Type 0 where
   pub holder : (g : GroupKeys) (logs : Logs) (s : H) → words.is_true g logs s
       → IsConsistentHolder g logs (words.holdings s)
@@ -65,3 +70,6 @@ pub record AreHolders {H : Type 0} (words : HolderWords H) : Type 0 where
   pub rest_stays : (xs : List Fetched) (s : H) → All (λ x. x.attempts ≡ 0) xs
       → words.rest (words.takes xs s) ≡ words.rest s
   pub attempts : (s : H) → (words.holdings s).attempts ≡ (words.holdings (words.rest s)).attempts
+  pub known : (s : H) → (words.holdings s).known ≡ (words.holdings (words.rest s)).known
+  pub hidden_stays : (xs : List Fetched) (s : H) (pair : Pair) → hides (held_plan (words.holdings s)) pair ≡ true
+      → hides (held_plan (words.holdings (words.takes xs s))) pair ≡ true

@@ -1,6 +1,7 @@
 -- How a world is kept.
 use Rattle.bench_world.specs.declared.world.World.TheInside.{Inside}
-use Rattle.bench_world.specs.Worlds.{GroupState, IsConsistentState}
+use Rattle.bench_world.specs.Unsettled.{NobodyLacks}
+use Rattle.bench_world.specs.Worlds.{GroupState, IsConsistentState, in_groups}
 
 -- What contracts see of a world.
 abbrev pub world_state : Inside → GroupState
@@ -15,6 +16,8 @@ world_state w = record {
   mirrors = w.mirrors.items;
 }
 
--- The group that is kept is a consistent one.
-abbrev pub IsWorld : Inside → Type 0
-IsWorld w = IsConsistentState (world_state w)
+-- The world is sound, and neither a member nor a mirror lacks what someone holds of a publication that wasn't touched
+-- since all of them settled.
+pub record IsWorld (w : Inside) : Type 0 where
+  pub consistent : IsConsistentState (world_state w)
+  pub nobody_lacks : NobodyLacks w.unsettled (in_groups w.members.items) w.mirrors.items

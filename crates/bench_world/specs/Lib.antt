@@ -7,6 +7,8 @@ pub mod Serving
 pub mod Lending
 pub mod Holders
 pub mod MemberWords
+pub mod Touching
+pub mod Unsettled
 pub mod MembersHold
 pub mod MirrorWords
 pub mod MirrorsHold

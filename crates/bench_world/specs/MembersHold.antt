@@ -2,7 +2,7 @@
 use Rattle.std.proofs.Common.{◌≡◌, ℕ, suc, List, [], ◌∷◌, Option, Some, None, refl, ap, ◌∙◌, arith}
 use Rattle.std.specs.Prelude.{IfSome, slice_index_or}
 use Rattle.std.specs.List.{All}
-use Rattle.repo_plan.specs.Parts.{part_cmp, pair_of}
+use Rattle.repo_plan.specs.Parts.{pair_cmp, part_cmp, pair_of}
 use Rattle.repo_plan.proofs.Kept.{wanted_parts}
 use Rattle.sorted_lists.specs.SortedList.{keys, contains}
 use Rattle.repo_holdings.specs.Taking.{Fetched, with_fetched, with_tries}
@@ -71,4 +71,7 @@ members_hold = record {
   takes_nothing = takes_nothing;
   rest_stays = rest_stays;
   attempts = λ a. refl;
+  known = λ a. refl;
+  hidden_stays = λ xs a pair h.
+      ap (λ (b : MemberState). contains pair_cmp b.hidden pair) (members_take_all xs a) ∙ h;
 }

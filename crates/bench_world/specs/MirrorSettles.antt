@@ -1,7 +1,9 @@
 -- What a settle makes of mirrors, and what it leaves where memory was wanting.
 use Rattle.std.specs.Prelude.{ℕ, ◌≡◌, ◌≤◌, ◌<◌, true, false, List, length, filter, slice_index, sum_by}
 use Rattle.svs_vector.specs.Vectors.{join}
+use Rattle.sorted_lists.specs.SortedList.{contains}
 use Rattle.repo_plan.specs.declared.part.Part.{Part}
+use Rattle.repo_plan.specs.Parts.{Pair, pair_cmp}
 use Rattle.repo_holdings.specs.Listed.{member_catalogue}
 use Rattle.group_model.specs.Publications.{join_of}
 use Rattle.group_model.specs.World.{World, logs}
@@ -40,14 +42,15 @@ held_by_all mirrors = sum_by held_by mirrors
 abbrev pub ListsItsJoin : World → MirrorState → Type 0
 ListsItsJoin w m = member_catalogue m.store ≡ filter (is_entry_accepted m.pattern) (join_of (logs w))
 
--- A mirror has come a part of the way: each place of its vector lies between the old and the settled one, and it holds
--- its old parts and only parts that it would have held.
+-- A mirror has come a part of the way: each place of its vector lies between the old and the settled one, it holds its
+-- old parts and only parts that it would have held, and what it had passed over it has still passed over.
 pub record IsPartlySettledMirror (w : World) (old new : MirrorState) : Type 0 where
   pub pattern : new.pattern ≡ old.pattern
   pub attempts : new.attempts ≡ old.attempts
   pub known_more : (p : ℕ) → slice_index old.known p ≤ slice_index new.known p
   pub known_less : (p : ℕ) → slice_index new.known p ≤ slice_index (join old.known (settled_vector w)) p
   pub kept : (t : Part) → mirror_holds (mirror_in_group old) t ≡ true → mirror_holds (mirror_in_group new) t ≡ true
+  pub passed : (pair : Pair) → contains pair_cmp old.passed pair ≡ true → contains pair_cmp new.passed pair ≡ true
   pub only : (t : Part) → mirror_holds (mirror_in_group new) t ≡ true → mirror_holds (mirror_in_group old) t ≡ false
       → ComeInTurn old.pattern (logs w) w.members (path_to (logs w) (learns_all w (mirror_in_group old)) t)
       (learns_all w (mirror_in_group old))

@@ -4,15 +4,16 @@ use Rattle.std.proofs.Common.{Option, Some, None, refl, sym, ap, ◌∙◌, subs
 use Rattle.std.specs.Prelude.{IfSome, slice_index_or, filter, not, option_map, unwrap_or}
 use Rattle.std.specs.Cmp.{both_ways}
 use Rattle.std.specs.List.{All}
+use Rattle.std.specs.Ordering.{eq_by_cmp}
 use Rattle.std.proofs.Math.Bool.{or_comm, and-false}
-use Rattle.std.proofs.lemmas.Bool.{and_parts, and_from, or_cases, eqb-true, eq-eqb}
+use Rattle.std.proofs.lemmas.Bool.{and_parts, and_from, or_cases, or_right, eqb-true, eq-eqb}
 use Rattle.repo_plan.specs.declared.part.Part.{Part}
 use Rattle.repo_plan.specs.Parts.{Pair, pair_cmp, part_cmp, pair_of, part_of}
 use Rattle.repo_plan.specs.Plan.{is_wanted}
 use Rattle.repo_plan.proofs.Kept.{wanted_parts}
 use Rattle.repo_plan.proofs.Orders.{exact_parts, exact_pairs}
-use Rattle.sorted_lists.specs.SortedList.{keys, contains, insert_keys}
-use Rattle.sorted_lists.proofs.Sets.{In, contains_in, in_contains, in_map, from_map}
+use Rattle.sorted_lists.specs.SortedList.{keys, contains, insert_key, insert_keys}
+use Rattle.sorted_lists.proofs.Sets.{In, contains_in, in_contains, in_map, from_map, contains-insert_key}
 use Rattle.repo_holdings.specs.Hiding.{with_hidden}
 use Rattle.repo_holdings.specs.Taking.{Fetched, with_fetched, with_all_fetched, with_tries, with_all_tries}
 use Rattle.group_model.specs.Publications.{Logs}
@@ -25,7 +26,8 @@ use Rattle.repo_member.specs.Groups.{GroupKeys}
 use Rattle.repo_member.specs.InGroup.{AreLogs, CameConsistently, published_packet, that_came}
 use Rattle.repo_member.proofs.PublicLaws.{holders_want_published}
 use Rattle.repo_mirror.specs.MirrorState.{MirrorState, mirror_holdings, fetch_plan}
-use Rattle.repo_mirror.specs.Passing.{is_packet_kept, is_fetched_kept, that_are_kept, not_kept, mirror_takes}
+use Rattle.repo_mirror.specs.Passing.{is_packet_kept, is_fetched_kept, that_are_kept, not_kept, passed_over}
+use Rattle.repo_mirror.specs.Passing.{mirror_takes}
 use Rattle.repo_mirror.specs.ConsistentMirrors.{mirror_in_group, IsConsistentMirror, CameForMirror}
 use Rattle.repo_mirror.proofs.PublicLaws.{mirror_is_holder, mirrors_take_consistent}
 use Rattle.bench_world.specs.declared.holder.Filtering.{Filtering}
@@ -169,6 +171,15 @@ mirror_takes_consistently g logs xs m are come consistent =
     (mirrors_take_consistent g logs m xs are consistent
     (λ k d l. for_mirror g logs m (slice_index_or xs k d) are consistent (come k d l))).stays
 
+-- What was passed over stays so where more is.
+pub stays_passed : (pairs passed : List Pair) (q : Pair) → contains pair_cmp passed q ≡ true
+    → contains pair_cmp (with_hidden pairs passed) q ≡ true
+stays_passed [] passed q h = h
+stays_passed (pair ∷ pairs) passed q h =
+    stays_passed pairs (insert_key pair_cmp pair passed) q
+    (contains-insert_key exact_pairs pair passed q
+    ∙ or_right (eq_by_cmp pair_cmp q pair) (contains pair_cmp passed q) h)
+
 -- So they are holders.
 pub mirrors_hold : {X : Type 0} {f : _} → AreHolders (mirror_words {X = X} {f = f})
 mirrors_hold {X} {f} = record {
@@ -190,4 +201,7 @@ mirrors_hold {X} {f} = record {
       let t : Filtering X f = record s { mirror = record (mirror_rest s.mirror) { attempts = ns } } in t)
       (no_tries s.mirror.pattern xs s.mirror.attempts none);
   attempts = λ s. refl;
+  known = λ s. refl;
+  hidden_stays = λ xs s pair h.
+      stays_passed (passed_over s.mirror.pattern xs) s.mirror.passed pair h;
 }

@@ -6,13 +6,18 @@ ghost use Rattle.bench_world.specs.Sizes.{size_of};
 ghost use Rattle.bench_world.specs.Conditions.{CanGather};
 ghost use Rattle.bench_world.specs.Gathering.{next_lent, lent_all, one_each, Counts, IsPlaceIn, GainsParts};
 ghost use Rattle.bench_world.specs.Gathering.{NothingLeft};
+ghost use Rattle.bench_world.specs.Holders.{lent_jobs};
+ghost use Rattle.bench_world.specs.Touching.{LacksOnlyTouched};
 ghost use Rattle.bench_world.specs.Worlds.{logs_around};
 
 use crate::holder::Holder;
+use crate::lenders::Lenders;
 use crate::lending::MemberLink;
+use crate::touched::Touched;
 use bench_net::Net;
 use fetch_work::phase;
-use repo_member::{FetchCounts, Group};
+use repo_member::{FetchCounts, Group, Member};
+use repo_object::Job;
 use repo_plan::Part;
 use std::alloc::{AllocError, Global};
 use std::thread::Threads;
@@ -26,6 +31,28 @@ const NOTHING: FetchCounts = FetchCounts {
     octets: 0,
 };
 
+// The jobs of a phase. What the others lend of publications that weren't touched the holder has, so that they aren't
+// searched.
+fn jobs_of_touched<H: Holder>(
+    alloc: Global,
+    g: &Group,
+    others: &[Member],
+    touched: &Touched,
+    holder: &H,
+    after: Option<Part>,
+) -> Result<Vec<Job>, AllocError>
+    requires group { length g.now.members.names ≡ length (H.words.holdings holder.now).known }
+    requires lacks { LacksOnlyTouched H.words touched.now others.now holder.now }
+    ensures { IfOk result
+        (λ jobs. jobs.items ≡ lent_jobs g.now others.now (H.words.holdings holder.now) after 4096) }
+{
+    let lenders = [Lenders {
+        members: others,
+        touched,
+    }];
+    holder.held_jobs(alloc, g, &lenders, after, PHASE_LIMIT)
+}
+
 // One phase, of parts after a place that the others lend: the last part that was asked for, if one was, and what came.
 fn gather_phase<N: Net + Sync, R: Threads + Sync, H: Holder>(
     rt: &R,
@@ -33,11 +60,12 @@ fn gather_phase<N: Net + Sync, R: Threads + Sync, H: Holder>(
     g: &Group,
     link: &MemberLink<'_, N>,
     workers: u32,
+    touched: &Touched,
     holder: &mut H,
     after: Option<Part>,
 ) -> Result<(Option<Part>, FetchCounts), AllocError>
     ghost logs: { Logs }
-    requires { CanGather H.words g.now logs workers link.now.others.now link.now.loss holder.old }
+    requires { CanGather H.words g.now logs workers touched.now link.now.others.now link.now.loss holder.old }
     ensures new { OnOk result (holder.new ≡ H.words.takes (lent_all link.now.others.now
         (next_lent link.now.others.now after (H.words.holdings holder.old))) holder.old) }
     ensures place { IfOk result (λ r.
@@ -48,7 +76,7 @@ fn gather_phase<N: Net + Sync, R: Threads + Sync, H: Holder>(
         (next_lent link.now.others.now after (H.words.holdings holder.old))) }
     ensures err { OnErr result (holder.new ≡ holder.old) }
 {
-    let jobs = holder.held_jobs(alloc, g, link.others, after, PHASE_LIMIT)?;
+    let jobs = jobs_of_touched(alloc, g, link.others, touched, holder, after)?;
     let Some(last) = jobs.last() else {
         return Ok((None, NOTHING));
     };
@@ -67,10 +95,11 @@ fn gather_round<N: Net + Sync, R: Threads + Sync, H: Holder>(
     g: &Group,
     link: &MemberLink<'_, N>,
     workers: u32,
+    touched: &Touched,
     holder: &mut H,
 ) -> Result<FetchCounts, AllocError>
     ghost logs: { Logs }
-    requires { CanGather H.words g.now logs workers link.now.others.now link.now.loss holder.old }
+    requires { CanGather H.words g.now logs workers touched.now link.now.others.now link.now.loss holder.old }
     ensures gains { GainsParts H.words g.now logs link.now.others.now holder.old holder.new }
     ensures parts { IfOk result (λ kept. Counts H.words one_each kept.parts holder.old holder.new) }
     ensures octets { IfOk result (λ kept. Counts H.words (size_of g.now logs) kept.octets holder.old holder.new) }
@@ -79,7 +108,7 @@ fn gather_round<N: Net + Sync, R: Threads + Sync, H: Holder>(
     let mut kept = NOTHING;
     let mut after = None;
     'phases: loop {
-        let (place, came) = gather_phase(rt, alloc, g, link, workers, holder, after)?;
+        let (place, came) = gather_phase(rt, alloc, g, link, workers, touched, holder, after)?;
         kept.parts += came.parts;
         kept.octets += came.octets;
         let Some(last) = place else {
@@ -96,10 +125,11 @@ pub(crate) fn gather<N: Net + Sync, R: Threads + Sync, H: Holder>(
     g: &Group,
     link: &MemberLink<'_, N>,
     workers: u32,
+    touched: &Touched,
     holder: &mut H,
 ) -> Result<FetchCounts, AllocError>
     ghost logs: { Logs }
-    requires { CanGather H.words g.now logs workers link.now.others.now link.now.loss holder.old }
+    requires { CanGather H.words g.now logs workers touched.now link.now.others.now link.now.loss holder.old }
     ensures gains { GainsParts H.words g.now logs link.now.others.now holder.old holder.new }
     ensures parts { IfOk result (λ kept. Counts H.words one_each kept.parts holder.old holder.new) }
     ensures octets { IfOk result (λ kept. Counts H.words (size_of g.now logs) kept.octets holder.old holder.new) }
@@ -107,7 +137,7 @@ pub(crate) fn gather<N: Net + Sync, R: Threads + Sync, H: Holder>(
 {
     let mut kept = NOTHING;
     'rounds: loop {
-        let came = gather_round(rt, alloc, g, link, workers, holder)?;
+        let came = gather_round(rt, alloc, g, link, workers, touched, holder)?;
         kept.parts += came.parts;
         kept.octets += came.octets;
         if came.parts == 0 {
@@ -123,15 +153,16 @@ pub(crate) fn gather_of_all<N: Net + Sync, R: Threads + Sync, H: Holder>(
     g: &Group,
     link: &MemberLink<'_, N>,
     workers: u32,
+    touched: &Touched,
     holder: &mut H,
 ) -> Result<u32, AllocError>
     requires { CanGather H.words
-        g.now (logs_around link.now.others.now) workers link.now.others.now link.now.loss holder.old }
+        g.now (logs_around link.now.others.now) workers touched.now link.now.others.now link.now.loss holder.old }
     ensures gains { GainsParts H.words
         g.now (logs_around link.now.others.now) link.now.others.now holder.old holder.new }
     ensures parts { IfOk result (λ parts. Counts H.words one_each parts holder.old holder.new) }
     ensures left { OnOk result (NothingLeft H.words link.now.others.now holder.new) }
 {
-    let kept = gather(rt, alloc, g, link, workers, holder)?;
+    let kept = gather(rt, alloc, g, link, workers, touched, holder)?;
     Ok(kept.parts)
 }

@@ -2,11 +2,14 @@
 ghost use Rattle.std.specs.Prelude.{◌≡◌, ◌≤◌, length, map, is_some, count_by, IfOk, OnOk, OnErr};
 ghost use Rattle.std.specs.List.{All, sum_by};
 ghost use Rattle.std.specs.Thread.{IsSync};
+ghost use Rattle.repo_plan.specs.Leaps.{some_holds};
 ghost use Rattle.repo_holdings.specs.Contents.{IsDigestIn};
 ghost use Rattle.repo_holdings.specs.Taking.{PartsDiffer, with_what_came};
 ghost use Rattle.repo_member.specs.Outcomes.{IsOutcomeOf, jobs_of, job_limit, outcome_of, octets_in};
-ghost use Rattle.bench_world.specs.Holders.{HolderWords, AreHolders, lent_jobs};
+ghost use Rattle.bench_world.specs.Holders.{HolderWords, AreHolders, jobs_that};
+ghost use Rattle.bench_world.specs.Touching.{lend_touched};
 
+use crate::lenders::Lenders;
 use fetch_work::{digest_workers, digests};
 use repo_holdings::ContentsDigest;
 use repo_member::{FetchCounts, Group, Member};
@@ -33,18 +36,19 @@ pub(crate) trait Holder {
         requires { length g.now.members.names ≡ length (words.holdings self.now).known }
         ensures { IfOk result (λ jobs. jobs.items ≡ jobs_of g.now (words.holdings self.now) after most) };
 
-    /// Such jobs of those parts that one of the others stores.
+    /// Such jobs of those parts that these lend.
     fn held_jobs(
         &self,
         alloc: Global,
         g: &Group,
-        others: &[Member],
+        lenders: &[Lenders<'_>],
         after: Option<Part>,
         most: usize,
     ) -> Result<Vec<Job>, AllocError>
         requires { length g.now.members.names ≡ length (words.holdings self.now).known }
-        ensures { IfOk result
-            (λ jobs. jobs.items ≡ lent_jobs g.now others.now (words.holdings self.now) after most) };
+        ensures { IfOk result (λ jobs. jobs.items
+            ≡ jobs_that (some_holds (λ l. lend_touched l.members.now l.touched.now) lenders.now) g.now
+            (words.holdings self.now) after most) };
 
     /// Takes what came of jobs that it planned: for each job its packet, if one came, and how often it was tried. Where
     /// there are several workers and many octets came, they make the digests over the contents of what becomes whole.
@@ -93,11 +97,11 @@ impl Holder for Member {
         &self,
         alloc: Global,
         g: &Group,
-        others: &[Member],
+        lenders: &[Lenders<'_>],
         after: Option<Part>,
         most: usize,
     ) -> Result<Vec<Job>, AllocError> {
-        self.plan_held(alloc, g, others, after, most)
+        self.plan_held(alloc, g, lenders, after, most)
     }
 
     fn take<R: Threads + Sync>(
@@ -167,13 +171,13 @@ impl<'f> Holder for Filtering<'f> {
         &self,
         alloc: Global,
         g: &Group,
-        others: &[Member],
+        lenders: &[Lenders<'_>],
         after: Option<Part>,
         most: usize,
     ) -> Result<Vec<Job>, AllocError> {
         g.is_sound();
         self.mirror
-            .plan_held(alloc, g.roster(), g.name(), others, after, most)
+            .plan_held(alloc, g.roster(), g.name(), lenders, after, most)
     }
 
     fn take<R: Threads + Sync>(

@@ -14,6 +14,7 @@ mod hearing;
 mod holder;
 mod issued;
 mod laws;
+mod lenders;
 mod lending;
 mod member_fetching;
 mod member_gathering;
@@ -24,6 +25,8 @@ mod others;
 mod settling;
 mod step;
 mod sync_exchange;
+mod touched;
+mod unsettled;
 mod world;
 
 pub use event::{Event, EventError, Happened, StepFault};

@@ -14,6 +14,7 @@ ghost use Rattle.bench_world.specs.Worlds.{AllCountsStay, AreConsistentMembers, 
 use crate::gather::gather;
 use crate::lending::MemberLink;
 use crate::others::put_back;
+use crate::touched::Touched;
 use bench_net::Net;
 use repo_member::{FetchCounts, Group, Member};
 use std::alloc::{AllocError, Global};
@@ -26,11 +27,12 @@ fn gather_at<N: Net + Sync, R: Threads + Sync>(
     g: &Group,
     net: &N,
     workers: u32,
+    touched: &Touched,
     members: &mut Vec<Member>,
     j: u32,
 ) -> Result<FetchCounts, AllocError>
     ghost logs: { Logs }
-    requires { CanGatherAt g.now logs workers j members.old.items }
+    requires { CanGatherAt g.now logs workers j touched.now members.old.items }
     ensures others { members.new.items ≡ slice_set members.old.items j (state_at members.new.items j) }
     ensures gains { GainsParts member_words g.now logs (others_than j members.old.items)
         (state_at members.old.items j) (state_at members.new.items j) }
@@ -48,7 +50,7 @@ fn gather_at<N: Net + Sync, R: Threads + Sync>(
         asker: j,
         loss: None,
     };
-    let kept = gather(rt, alloc, g, &link, workers, &mut member);
+    let kept = gather(rt, alloc, g, &link, workers, touched, &mut member);
     put_back(members, j, member);
     kept
 }
@@ -60,10 +62,11 @@ pub(crate) fn gather_all<N: Net + Sync, R: Threads + Sync>(
     g: &Group,
     net: &N,
     workers: u32,
+    touched: &Touched,
     members: &mut Vec<Member>,
 ) -> Result<(u64, u64), AllocError>
     ghost begun: { World }
-    requires { CanGatherAll g.now begun workers members.old.items }
+    requires { CanGatherAll g.now begun workers touched.now members.old.items }
     ensures parts { IfOk result (λ r. r.0 ≡ settle_gains begun) }
     ensures octets { IfOk result (λ r. r.1 ≡ gain_sum (size_of g.now (logs begun)) begun begun.members) }
     ensures members { OnOk result (in_groups members.new.items ≡ map (settled_member begun) begun.members) }
@@ -77,7 +80,7 @@ pub(crate) fn gather_all<N: Net + Sync, R: Threads + Sync>(
     let mut parts = 0;
     let mut octets = 0;
     for j in 0..count {
-        let came = gather_at(rt, alloc, g, net, workers, members, j)?;
+        let came = gather_at(rt, alloc, g, net, workers, touched, members, j)?;
         parts += u64::from(came.parts);
         octets += came.octets;
     }

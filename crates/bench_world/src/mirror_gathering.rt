@@ -11,6 +11,7 @@ use crate::gather::gather_of_all;
 use crate::holder::Filtering;
 use crate::lending::MemberLink;
 use crate::others::put_back;
+use crate::touched::Touched;
 use bench_net::OpenNet;
 use repo_member::{Group, Member};
 use repo_mirror::Mirror;
@@ -26,12 +27,13 @@ fn gather_for<R: Threads + Sync>(
     g: &Group,
     workers: u32,
     members: &[Member],
+    touched: &Touched,
     known: &Vector,
     mirrors: &mut Vec<Mirror>,
     filter: &Filter,
     i: u32,
 ) -> Result<u32, AllocError>
-    requires { CanGatherFor g.now workers i members.now known.now mirrors.old.items }
+    requires { CanGatherFor g.now workers i members.now touched.now known.now mirrors.old.items }
     ensures others { mirrors.new.items ≡ slice_set mirrors.old.items i (mirror_at mirrors.new.items i) }
     ensures consistent { IsConsistentMirror g.now (logs_around members.now) (mirror_at mirrors.new.items i) }
     ensures settled { OnOk result
@@ -52,7 +54,7 @@ fn gather_for<R: Threads + Sync>(
         asker: 16 + i,
         loss: None,
     };
-    let came = gather_of_all(rt, alloc, g, &link, workers, &mut asking);
+    let came = gather_of_all(rt, alloc, g, &link, workers, touched, &mut asking);
     let Filtering { mirror, .. } = asking;
     put_back(mirrors, i, mirror);
     came
@@ -65,11 +67,12 @@ pub(crate) fn gather_for_all<R: Threads + Sync>(
     g: &Group,
     workers: u32,
     members: &[Member],
+    touched: &Touched,
     known: &Vector,
     mirrors: &mut Vec<Mirror>,
     filter: &Filter,
 ) -> Result<u64, AllocError>
-    requires { CanGatherForAll g.now workers members.now known.now mirrors.old.items }
+    requires { CanGatherForAll g.now workers members.now touched.now known.now mirrors.old.items }
     ensures len { length mirrors.new.items ≡ length mirrors.old.items }
     ensures consistent { (i : ℕ) → i < length mirrors.new.items
         → IsConsistentMirror g.now (logs_around members.now) (mirror_at mirrors.new.items i) }
@@ -80,7 +83,9 @@ pub(crate) fn gather_for_all<R: Threads + Sync>(
     let count = mirrors.len() as u32;
     let mut parts = 0;
     for i in 0..count {
-        let came = gather_for(rt, alloc, g, workers, members, known, mirrors, filter, i)?;
+        let came = gather_for(
+            rt, alloc, g, workers, members, touched, known, mirrors, filter, i,
+        )?;
         parts += u64::from(came);
     }
     Ok(parts)

@@ -11,6 +11,7 @@ ghost use Rattle.bench_world.specs.Settling.{reported_of, gain_sum, ArePartlySet
 
 use crate::member_gathering::gather_all;
 use crate::sync_exchange::{MemberSync, all_known, learn_all, tell_all};
+use crate::touched::Touched;
 use bench_net::{Draws, Net, Sent};
 use repo_member::{Group, Member};
 use std::alloc::{AllocError, Global};
@@ -25,10 +26,11 @@ pub(crate) fn settle_members<N: Net + Sync, R: Threads + Sync>(
     g: &Group,
     net: &N,
     workers: u32,
+    touched: &Touched,
     members: &mut Vec<Member>,
 ) -> Result<(Vec<MemberSync>, u64, u64), AllocError>
     ghost begun: { World }
-    requires { CanSettle g.now begun workers members.old.items }
+    requires { CanSettle g.now begun workers touched.now members.old.items }
     ensures reported { IfOk result (λ r. map reported_of r.0.items ≡ map (tells g.now) members.old.items) }
     ensures parts { IfOk result (λ r. r.1 ≡ settle_gains begun) }
     ensures octets { IfOk result (λ r. r.2 ≡ gain_sum (size_of g.now (logs begun)) begun begun.members) }
@@ -43,7 +45,7 @@ pub(crate) fn settle_members<N: Net + Sync, R: Threads + Sync>(
     let reported = tell_all(alloc, g, members.as_slice())?;
     let known = all_known(alloc, members.as_slice())?;
     learn_all(&known, members);
-    let (parts, octets) = gather_all(rt, alloc, g, net, workers, members)?;
+    let (parts, octets) = gather_all(rt, alloc, g, net, workers, touched, members)?;
     Ok((reported, parts, octets))
 }
 

@@ -18,6 +18,7 @@ mod showing;
 mod syncing;
 
 use crate::issued::IssuedCommands;
+use crate::unsettled::Unsettled;
 use bench_net::{Draws, Sent, Tally};
 pub use mirrors::MirrorFault;
 use repo_member::{Group, Member};
@@ -41,6 +42,7 @@ pub struct World {
     octets: u64,
     steps: u32,
     mirrors: Vec<Mirror>,
+    unsettled: Unsettled,
 }
 
 // A world is dropped by one call, which is proved once, and not field by field wherever one is left.
@@ -59,6 +61,7 @@ impl Drop for World {
             octets: _,
             steps: _,
             mirrors: _,
+            unsettled: _,
         } = self;
     }
 }
@@ -101,6 +104,7 @@ impl World {
             octets: 0,
             steps: 0,
             mirrors: Vec::new(alloc),
+            unsettled: Unsettled::all(alloc),
         })
     }
 

@@ -40,6 +40,7 @@ impl World {
             }
             Err(PublishRefusal::NoMemory) => return Err(EventError::NoMemory),
         };
+        self.unsettled.note_blocked(m, &blocked);
         let happened = send_blocked(&mut self.sent, m, vector, blocked);
         self.steps += 1;
         Ok(happened)

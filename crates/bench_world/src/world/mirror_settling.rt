@@ -8,6 +8,7 @@ ghost use Rattle.bench_world.specs.Worlds.{world_of};
 use super::World;
 use crate::mirror_gathering::gather_for_all;
 use crate::sync_exchange::all_known;
+use crate::touched::Touched;
 use repo_watch::Filter;
 use std::alloc::AllocError;
 use std::thread::Threads;
@@ -42,10 +43,12 @@ impl World {
             &self.group,
             workers,
             self.members.as_slice(),
+            &self.unsettled.mirrors,
             &known,
             &mut self.mirrors,
             filter,
         )?;
+        self.unsettled.mirrors = Touched::none(self.alloc);
         Ok(parts)
     }
 }

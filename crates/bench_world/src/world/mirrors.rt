@@ -16,6 +16,7 @@ use super::World;
 use crate::event::{EventError, StepFault};
 use crate::mirror_fetching::fetch_for;
 use crate::numbers::vector_of;
+use crate::touched::Touched;
 use bench_net::Net;
 use repo_catalog::Catalogue;
 use repo_mirror::Mirror;
@@ -69,6 +70,7 @@ impl World {
         let number = self.mirrors.len() as u32;
         let mirror = Mirror::new(self.alloc, self.members.len(), pattern)?;
         put_last(&mut self.mirrors, mirror)?;
+        self.unsettled.mirrors = Touched::all(self.alloc);
         Ok(number)
     }
 

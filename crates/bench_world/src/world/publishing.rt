@@ -89,6 +89,7 @@ impl World {
         let draw = draws.draw(m, member.next_draw());
         let published = member.publish(&self.group, name, contents, self.time, draw)?;
         vector[m as usize] = published.seq;
+        self.unsettled.note(m, published.seq);
         let k = self.sent.add_reserved(m, vector, published.sync);
         self.steps += 1;
         Ok((published.seq, k))
@@ -116,6 +117,7 @@ impl World {
             Err(refusal) => return Err(fault_of(refusal)),
         };
         vector[m as usize] = published.seq;
+        self.unsettled.note(m, published.seq);
         let sync = self.sent.add_reserved(m, vector, published.sync);
         self.steps += 1;
         Ok(Happened::Withdraw {

@@ -38,7 +38,9 @@ impl World {
         requires few { self.old.steps < 100000 }
         ensures { IsStep (keyed self.old.keys) (EventValue.Answer m f q) self.old result self.new }
     {
+        let claimed = self.members[m as usize].claimed(f as u8);
         let kept = answer(self.alloc, &self.group, &mut self.members, m, f as u8, q)?;
+        self.unsettled.note_claimed(claimed);
         self.attempts += 1;
         self.parts += parts_of(kept);
         self.octets += kept.unwrap_or(0);
@@ -55,6 +57,7 @@ impl World {
         requires few { self.old.steps < 100000 }
         ensures { IsStep (keyed self.old.keys) (EventValue.Feed m f octets.now) self.old result self.new }
     {
+        let claimed = self.members[m as usize].claimed(f as u8);
         let fed = feed(
             self.alloc,
             &self.group,
@@ -63,6 +66,7 @@ impl World {
             f as u8,
             octets,
         )?;
+        self.unsettled.note_claimed(claimed);
         let kept = kept_octets(fed, octets);
         self.parts += parts_of(kept);
         self.octets += kept.unwrap_or(0);

@@ -11,6 +11,7 @@ ghost use Rattle.bench_world.specs.Runs.{IsStep};
 use super::World;
 use crate::event::{EventError, Happened};
 use crate::settling::{reset_all, send_all, settle_members};
+use crate::touched::Touched;
 use bench_net::{Draws, Net};
 use std::alloc::AllocError;
 use std::thread::Threads;
@@ -39,8 +40,17 @@ impl World {
     {
         self.steps += 1;
         self.sent.reserve(self.members.len())?;
-        let settled = settle_members(rt, self.alloc, &self.group, net, workers, &mut self.members)?;
+        let settled = settle_members(
+            rt,
+            self.alloc,
+            &self.group,
+            net,
+            workers,
+            &self.unsettled.members,
+            &mut self.members,
+        )?;
         let (reported, parts, octets) = settled;
+        self.unsettled.members = Touched::none(self.alloc);
         send_all(&mut self.sent, reported);
         let count = self.members.len() as u64;
         self.delivered += count * count.saturating_sub(1);

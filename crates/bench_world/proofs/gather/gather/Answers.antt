@@ -1,5 +1,5 @@
 use Rattle.std.proofs.Common.{arith}
-use Rattle.bench_world.proofs.Rounds.{few_held, few_octets, tried_still}
+use Rattle.bench_world.proofs.Rounds.{few_held, few_octets, tried_still, lacks_still}
 use Rattle.bench_world.proofs.Bounded.{condition_of_holder, holder_passed_on}
 use Rattle.bench_world.proofs.gather.gather.Goals as goal
 
@@ -19,6 +19,9 @@ gather_round-requires g c κs within =
           tried_still words holders c.args.g.now g.logs c.args.link.now.others.now c.args.holder.now c.rounds.holder
           c.rounds.invariant.gains
           can.tried;
+      lacks =
+          lacks_still words holders c.args.touched.now c.args.g.now g.logs c.args.link.now.others.now c.args.holder.now
+          c.rounds.holder c.rounds.invariant.gains can.lacks;
     })
 
 pub overflow_add-kept : goal.overflow_add-kept

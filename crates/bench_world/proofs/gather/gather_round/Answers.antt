@@ -1,7 +1,7 @@
 use Rattle.std.proofs.Common.{arith}
 use Rattle.bench_world.specs.Sizes.{size_of}
 use Rattle.bench_world.proofs.Rounds.{few_held, few_octets, went_on, went_left, went_smaller, went_gains, went_count}
-use Rattle.bench_world.proofs.Rounds.{went_counts, counts_both, tried_still}
+use Rattle.bench_world.proofs.Rounds.{went_counts, counts_both, tried_still, lacks_still}
 use Rattle.bench_world.proofs.Bounded.{condition_of_holder, holder_passed_on}
 use Rattle.bench_world.proofs.gather.gather_round.Goals as goal
 
@@ -21,6 +21,9 @@ gather_phase-requires g c κs within =
           tried_still words holders c.args.g.now g.logs c.args.link.now.others.now c.args.holder.now c.phases.holder
           c.phases.invariant.so_far.gains
           can.tried;
+      lacks =
+          lacks_still words holders c.args.touched.now c.args.g.now g.logs c.args.link.now.others.now c.args.holder.now
+          c.phases.holder c.phases.invariant.so_far.gains can.lacks;
     })
 
 pub overflow_add-kept : goal.overflow_add-kept

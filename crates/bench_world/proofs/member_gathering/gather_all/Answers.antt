@@ -8,7 +8,7 @@ use Rattle.bench_world.specs.Sizes.{size_of}
 use Rattle.bench_world.specs.Worlds.{state_at}
 use Rattle.bench_world.proofs.Rounds.{few_held, few_octets}
 use Rattle.bench_world.proofs.AllGathering.{gathered_none, gathered_part, gathered_more, gathered_all, sum_more}
-use Rattle.bench_world.proofs.AllGathering.{all_sum, sum_ones, partly_all, few_all}
+use Rattle.bench_world.proofs.AllGathering.{all_sum, sum_ones, partly_all, few_all, lacks_at}
 use Rattle.bench_world.proofs.EitherAnswer.{where_err}
 use Rattle.bench_world.proofs.Bounded.{condition, passed_on}
 use Rattle.bench_world.proofs.member_gathering.gather_all.Goals as goal
@@ -43,6 +43,16 @@ gather_at-requires g c κs within =
       logs = can.logs;
       members = c.loop-j.invariant.so_far.all.consistent;
       tried = c.loop-j.invariant.so_far.all.tried;
+      lacks =
+          lacks_at c.args.g.now g.begun can.sound can.logs.are c.args.members.now.items can.learnt c.args.touched.now
+          can.lacks c.loop-j.j c.loop-j.members.items c.loop-j.invariant.so_far
+          (omega (
+            arith,
+            c.loop-j-test.true,
+            c.len-count.ensures,
+            c.loop-j.invariant.so_far.all.len,
+            c.args.members.now.ok,
+          ));
     })
 
 pub returns-in_err-came : goal.returns-in_err-came

@@ -4,10 +4,11 @@ use Rattle.std.proofs.lemmas.List.{get_or_default}
 use Rattle.repo_member.specs.MemberState.{MemberState, member_holdings}
 use Rattle.repo_member.specs.ConsistentMembers.{IsConsistentMember}
 use Rattle.bench_world.specs.Truth.{TriedFew}
-use Rattle.bench_world.specs.Worlds.{nobody, state_at, AreConsistentMembers}
+use Rattle.bench_world.specs.Worlds.{others_than, nobody, state_at, AreConsistentMembers}
 use Rattle.bench_world.specs.MemberWords.{member_words}
 use Rattle.bench_world.specs.Gathering.{Counts, NothingLeft, one_each}
 use Rattle.bench_world.specs.Sizes.{size_of}
+use Rattle.bench_world.specs.Touching.{LacksOnlyTouched}
 use Rattle.bench_world.proofs.ConsistentOthers.{others_consistent}
 use Rattle.bench_world.proofs.TakenOut.{put_at, put_between, put_changed}
 use Rattle.bench_world.proofs.Bounded.{condition, member_passed_on}
@@ -39,6 +40,12 @@ gather-kept-requires g c κs within =
           subst (IsConsistentMember c.args.g.now g.logs) (sym here)
           (can.members c.args.j can.there);
       tried = subst (λ (a : MemberState). TriedFew (member_holdings a)) (sym here) (can.tried c.args.j can.there);
+      lacks =
+          subst (λ (others : List MemberState).
+          LacksOnlyTouched member_words c.args.touched.now others c.remove-member.result)
+          (sym (c.as_slice.ensures.value ∙ c.remove-member.ensures.items))
+          (subst (LacksOnlyTouched member_words c.args.touched.now (others_than c.args.j c.args.members.now.items))
+          (sym here) can.lacks);
     })
 
 pub returns-clause-left : goal.returns-clause-left

@@ -2,13 +2,13 @@ use Rattle.std.proofs.Common.{rules, refl}
 use Rattle.std.proofs.lemmas.Result.{on_ok_weaker, IfOk-weaker}
 use Rattle.bench_world.specs.Worlds.{logs_around}
 use Rattle.bench_world.proofs.MirrorSettling.{gains_of}
-use Rattle.bench_world.proofs.MirrorGathering.{as_wide, consistently_learnt, few_learnt, gathered}
+use Rattle.bench_world.proofs.MirrorGathering.{as_wide, consistently_learnt, few_learnt, lacks_touched, gathered}
 use Rattle.bench_world.proofs.mirror_gathering.gather_for.Goals as goal
 
 pub learn-requires : goal.learn-requires
 learn-requires g c =
-    as_wide c.args.g.now c.args.workers c.args.i c.args.members.now c.args.known.now c.args.mirrors.now.items c.requires
-    c.remove-mirror.result c.remove-mirror.ensures.value
+    as_wide c.args.g.now c.args.workers c.args.i c.args.members.now c.args.touched.now c.args.known.now
+    c.args.mirrors.now.items c.requires c.remove-mirror.result c.remove-mirror.ensures.value
 
 pub gather_of_all-came-requires : goal.gather_of_all-came-requires
 gather_of_all-came-requires g c κs =
@@ -23,11 +23,17 @@ gather_of_all-came-requires g c κs =
           others = can.others;
           loss = refl;
           consistent =
-              consistently_learnt c.args.g.now c.args.workers c.args.i c.args.members.now c.args.known.now ms can
-              c.remove-mirror.result c.remove-mirror.ensures.value c.learn.new.self c.learn.ensures;
+              consistently_learnt c.args.g.now c.args.workers c.args.i c.args.members.now c.args.touched.now
+              c.args.known.now ms can c.remove-mirror.result c.remove-mirror.ensures.value c.learn.new.self
+              c.learn.ensures;
           tried =
-              few_learnt c.args.g.now c.args.workers c.args.i c.args.members.now c.args.known.now ms can
-              c.remove-mirror.result c.remove-mirror.ensures.value c.learn.new.self c.learn.ensures;
+              few_learnt c.args.g.now c.args.workers c.args.i c.args.members.now c.args.touched.now
+              c.args.known.now ms can c.remove-mirror.result c.remove-mirror.ensures.value c.learn.new.self
+              c.learn.ensures;
+          lacks =
+              lacks_touched c.args.g.now c.args.workers c.args.i c.args.members.now c.args.touched.now
+              c.args.known.now ms can c.remove-mirror.result c.remove-mirror.ensures.value c.learn.new.self
+              c.learn.ensures;
         },
       ),
     )
@@ -35,9 +41,9 @@ gather_of_all-came-requires g c κs =
 pub returns : goal.returns
 returns g c =
     let done =
-    gathered c.args.g.now c.args.workers c.args.i c.args.members.now c.args.known.now c.args.mirrors.now.items
-    c.requires c.remove-mirror.result c.remove-mirror.ensures.value c.learn.new.self c.learn.ensures
-    c.remove-mirror.new.self.items c.put_back.new.row.items c.gather_of_all-came.new.holder.mirror
+    gathered c.args.g.now c.args.workers c.args.i c.args.members.now c.args.touched.now c.args.known.now
+    c.args.mirrors.now.items c.requires c.remove-mirror.result c.remove-mirror.ensures.value c.learn.new.self
+    c.learn.ensures c.remove-mirror.new.self.items c.put_back.new.row.items c.gather_of_all-came.new.holder.mirror
     c.remove-mirror.ensures.items c.put_back.ensures
     (gains_of c.args.g.now (logs_around c.args.members.now) c.args.members.now _ c.gather_of_all-came.new.holder
     c.gather_of_all-came.ensures.gains) in

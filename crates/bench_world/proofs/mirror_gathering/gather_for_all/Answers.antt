@@ -1,9 +1,11 @@
 use Rattle.std.proofs.Common.{rules, ℕ, ◌+◌, ◌<◌, length, sym, ap, ◌∙◌, subst, arith}
+use Rattle.group_model.specs.World.{someone_holds}
 use Rattle.repo_mirror.specs.MirrorState.{MirrorState, mirror_holdings}
 use Rattle.bench_world.specs.MirrorSteps.{mirror_at}
 use Rattle.bench_world.specs.MirrorSettles.{held_by}
 use Rattle.bench_world.specs.Truth.{TriedFew}
-use Rattle.bench_world.specs.Worlds.{only_members}
+use Rattle.bench_world.specs.Unsettled.{MirrorLacksNone}
+use Rattle.bench_world.specs.Worlds.{in_groups, only_members}
 use Rattle.bench_world.proofs.MirrorSettling.{settled_none, one_more}
 use Rattle.bench_world.proofs.mirror_gathering.gather_for_all.Goals as goal
 
@@ -38,6 +40,9 @@ gather_for-requires g c =
         tried =
             subst (λ (m : MirrorState). TriedFew (mirror_holdings m)) (sym (so_far.still c.loop-i.i (omega arith)))
             (can.tried c.loop-i.i begun);
+        lacks =
+            subst (MirrorLacksNone c.args.touched.now (someone_holds (in_groups c.args.members.now)))
+            (sym (so_far.still c.loop-i.i (omega arith))) (can.lacks c.loop-i.i begun);
       },
     )
 

@@ -1,6 +1,8 @@
-use Rattle.std.proofs.Common.{◌≡◌, List, length, ap, sym, ◌∙◌, arith}
+use Rattle.std.proofs.Common.{◌≡◌, List, length, ap, sym, ◌∙◌, subst, arith}
 use Rattle.svs_vector.specs.Vectors.{join_all}
 use Rattle.repo_member.specs.MemberState.{MemberState}
+use Rattle.bench_world.specs.Touching.{NoneLacks}
+use Rattle.bench_world.proofs.Lacking.{learnt_lacks}
 use Rattle.bench_world.proofs.KnownByAll.{knowns, joined_short}
 use Rattle.bench_world.proofs.EitherAnswer.{where_err}
 use Rattle.bench_world.proofs.Learnt.{few_members, widths, own_known, all_width, have_learnt, counts_then}
@@ -58,6 +60,10 @@ gather_all-requires g c κs within =
       consistent = done.consistent;
       numbers = done.numbers can.numbers;
       tried = done.tried can.tried;
+      lacks =
+          subst (NoneLacks c.args.touched.now) (sym done.learnt)
+          (learnt_lacks g.begun c.args.touched.now g.begun.members
+          (subst (NoneLacks c.args.touched.now) can.begun can.lacks));
     })
 
 pub returns-clause-counts : goal.returns-clause-counts

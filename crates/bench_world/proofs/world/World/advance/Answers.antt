@@ -6,5 +6,10 @@ use Rattle.bench_world.proofs.world.World.advance.Goals as goal
 
 pub invariant_of-self : goal.invariant_of-self
 invariant_of-self c =
-    later_state (world_state c.self.inside) c.self.invariant
-    (subst (λ (x : GroupState). x.steps < 100000) (sym c.self.view_is) c.requires.few) c.args.ms c.requires.short
+    record {
+      consistent =
+          later_state (world_state c.self.inside) c.self.invariant.consistent
+          (subst (λ (x : GroupState). x.steps < 100000) (sym c.self.view_is) c.requires.few) c.args.ms c.requires.short;
+      nobody_lacks =
+          c.self.invariant.nobody_lacks;
+    }

@@ -18,7 +18,7 @@ returns c =
       reported =
           c.in_ok-happened.ensures
           ∙ ap (λ es. ask_reported c.args.m (served c.args.octets.now es))
-          (store_at s c.self.invariant c.args.m there c.index.result.now c.index.ensures)
+          (store_at s c.self.invariant.consistent c.args.m there c.index.result.now c.index.ensures)
           ∙ ap (λ (w : GroupState). ask_reported c.args.m
           (served c.args.octets.now (published_packets w.keys (logs (world_of w)) (member (world_of w) c.args.m).held)))
           c.self.view_is;

@@ -6,8 +6,13 @@ use Rattle.bench_world.proofs.world.World.count.Goals as goal
 
 pub invariant_of-self : goal.invariant_of-self
 invariant_of-self c =
-    counted_state (world_state c.self.inside) c.self.invariant
-    (subst (λ (x : GroupState). x.steps < 100000) (sym c.self.view_is) c.requires)
+    record {
+      consistent =
+          counted_state (world_state c.self.inside) c.self.invariant.consistent
+          (subst (λ (x : GroupState). x.steps < 100000) (sym c.self.view_is) c.requires);
+      nobody_lacks =
+          c.self.invariant.nobody_lacks;
+    }
 
 pub returns-clause-world : goal.returns-clause-world
 returns-clause-world c = ap world_of c.self.view_is

@@ -19,7 +19,7 @@ returns c =
       reported =
           c.in_ok-happened.ensures
           ∙ ap (dump_reported c.args.m)
-          (packet_of_held s c.self.invariant c.args.m there c.index.result.now c.index.ensures
+          (packet_of_held s c.self.invariant.consistent c.args.m there c.index.result.now c.index.ensures
           (part_at c.args.p c.args.s c.args.x))
           ∙ ap (λ (w : GroupState). dump_reported c.args.m
           (if member_holds (member (world_of w) c.args.m) (part_at c.args.p c.args.s c.args.x)

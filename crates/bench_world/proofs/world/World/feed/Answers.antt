@@ -1,19 +1,23 @@
 use Rattle.std.proofs.Common.{arith, rules, ◌≡◌, ◌<◌, ◌+◌, None, length, sym, ap, ◌∙◌, subst}
 use Rattle.std.proofs.lemmas.Result.{err_from_is_err_and}
+use Rattle.std.proofs.lemmas.List.{get_or_default}
+use Rattle.repo_plan.specs.Plan.{claim_of}
+use Rattle.repo_member.specs.MemberState.{MemberState, member_plan}
 use Rattle.std.specs.Prelude.{Ok}
 use Rattle.group_model.specs.Events.{Event}
-use Rattle.group_model.specs.World.{Tally}
+use Rattle.group_model.specs.World.{World, Tally}
 use Rattle.group_model.specs.Refusals.{refusal}
-use Rattle.group_model.specs.Steps.{after_event, claim_at}
+use Rattle.group_model.specs.Steps.{after_event, claim_at, came_as}
 use Rattle.bench_world.specs.Serving.{keyed, octets_as}
 use Rattle.bench_world.specs.EventValues.{feed_reported}
 use Rattle.bench_world.specs.Replying.{fed_reply}
 use Rattle.bench_world.specs.Steps.{IsFaultOf}
 use Rattle.bench_world.specs.Answering.{claim_in, came_for}
-use Rattle.bench_world.specs.Worlds.{GroupState, IsConsistentState, world_of, logs_around}
+use Rattle.bench_world.specs.Worlds.{GroupState, IsConsistentState, nobody, world_of, logs_around}
 use Rattle.bench_world.specs.Kept.{world_state}
 use Rattle.bench_world.proofs.AnswersAndFeeds.{feed_refusal, feed_taken, feed_is, feed_world, feed_state, feed_fits}
-use Rattle.bench_world.proofs.AnswersAndFeeds.{fault_by}
+use Rattle.bench_world.proofs.AnswersAndFeeds.{fault_by, claim_same}
+use Rattle.bench_world.proofs.NobodyLacking.{came_lacks}
 use Rattle.bench_world.proofs.world.World.feed.Goals as goal
 
 pub returns-in_err-fed : goal.returns-in_err-fed
@@ -35,7 +39,7 @@ returns-in_err-fed c =
           (Event.Feed c.args.m c.args.f (λ logs t. octets_as x.keys logs t c.args.octets.now))) c.in_err-fed.field-0.0)
           c.self.view_is
           (subst (λ r. IsFaultOf r c.in_err-fed.field-0.0)
-          (feed_refusal s c.self.invariant c.args.m there c.args.f c.args.octets.now)
+          (feed_refusal s c.self.invariant.consistent c.args.m there c.args.f c.args.octets.now)
           (fault_by s.keys (logs_around s.members) (claim_in s.members c.args.m c.args.f)
           (came_for s.keys (logs_around s.members) c.args.octets.now (claim_in s.members c.args.m c.args.f))
           c.in_err-fed.field-0.0
@@ -48,7 +52,7 @@ overflow_add-self c =
     let s = world_state c.self.inside in
     let there = subst (λ (x : GroupState). c.args.m < length x.members) (sym c.self.view_is) c.requires.there in
     let fits =
-    feed_fits s c.self.invariant c.args.m there c.args.f c.args.octets.now c.kept_octets-kept.result
+    feed_fits s c.self.invariant.consistent c.args.m there c.args.f c.args.octets.now c.kept_octets-kept.result
     (c.in_ok-fed.ensures.kept ∙ ap (λ k. Ok k) (sym c.kept_octets-kept.ensures)) c.feed.new.members.items
     c.in_ok-fed.ensures.members
     (subst (λ (x : GroupState). x.steps < 100000) (sym c.self.view_is) c.requires.few) in
@@ -60,7 +64,7 @@ overflow_add-self-2 c =
     let s = world_state c.self.inside in
     let there = subst (λ (x : GroupState). c.args.m < length x.members) (sym c.self.view_is) c.requires.there in
     let fits =
-    feed_fits s c.self.invariant c.args.m there c.args.f c.args.octets.now c.kept_octets-kept.result
+    feed_fits s c.self.invariant.consistent c.args.m there c.args.f c.args.octets.now c.kept_octets-kept.result
     (c.in_ok-fed.ensures.kept ∙ ap (λ k. Ok k) (sym c.kept_octets-kept.ensures)) c.feed.new.members.items
     c.in_ok-fed.ensures.members
     (subst (λ (x : GroupState). x.steps < 100000) (sym c.self.view_is) c.requires.few) in
@@ -72,13 +76,34 @@ invariant_of-self-2 c =
     let s = world_state c.self.inside in
     let there = subst (λ (x : GroupState). c.args.m < length x.members) (sym c.self.view_is) c.requires.there in
     let one = c.parts_of.ensures in
-    subst (λ (t : Tally). IsConsistentState (record s
-    { members = c.feed.new.members.items; tally = t; steps = s.steps + 1 }))
-    (λ i. record s.tally { parts = s.tally.parts + sym one i; octets = s.tally.octets + sym c.unwrap_or.ensures i })
-    (feed_state s c.self.invariant c.args.m there c.args.f c.args.octets.now c.kept_octets-kept.result
-    (c.in_ok-fed.ensures.kept ∙ ap (λ k. Ok k) (sym c.kept_octets-kept.ensures)) c.feed.new.members.items
-    c.in_ok-fed.ensures.members
-    (subst (λ (x : GroupState). x.steps < 100000) (sym c.self.view_is) c.requires.few))
+    let claimed =
+    c.claimed-claimed.ensures
+    ∙ ap (λ (a : MemberState). claim_of (member_plan a) c.args.f)
+    (c.index.ensures ∙ get_or_default s.members c.args.m c.index.result.now nobody there)
+    ∙ sym (claim_same s c.self.invariant.consistent c.args.m there c.args.f) in
+    record {
+      consistent =
+          subst (λ (t : Tally). IsConsistentState (record s
+          { members = c.feed.new.members.items; tally = t; steps = s.steps + 1 }))
+          (λ i. record s.tally {
+            parts = s.tally.parts + sym one i;
+            octets = s.tally.octets + sym c.unwrap_or.ensures i;
+          })
+          (feed_state s c.self.invariant.consistent c.args.m there c.args.f c.args.octets.now c.kept_octets-kept.result
+          (c.in_ok-fed.ensures.kept ∙ ap (λ k. Ok k) (sym c.kept_octets-kept.ensures)) c.feed.new.members.items
+          c.in_ok-fed.ensures.members
+          (subst (λ (x : GroupState). x.steps < 100000) (sym c.self.view_is) c.requires.few));
+      nobody_lacks =
+          came_lacks s c.args.m there c.self.inside.unsettled c.self.invariant.nobody_lacks c.feed.new.members.items
+          c.note_claimed.new.self c.claimed-claimed.result c.note_claimed.ensures c.args.f (keyed s.keys) s.tally
+          (claim_at (world_of s) c.args.m c.args.f)
+          (came_as (world_of s) (λ logs t. octets_as s.keys logs t c.args.octets.now)
+          (claim_at (world_of s) c.args.m c.args.f)) claimed
+          (ap (λ (w : World). w.members)
+          (feed_world s c.self.invariant.consistent c.args.m there c.args.f c.args.octets.now
+          c.kept_octets-kept.result (c.in_ok-fed.ensures.kept ∙ ap (λ k. Ok k) (sym c.kept_octets-kept.ensures))
+          c.feed.new.members.items c.in_ok-fed.ensures.members));
+    }
 
 pub returns : goal.returns
 returns c =
@@ -90,19 +115,20 @@ returns c =
           subst (λ (x : GroupState). refusal (keyed x.keys) (world_of x)
           (Event.Feed c.args.m c.args.f (λ logs t. octets_as x.keys logs t c.args.octets.now))
           ≡ None) c.self.view_is
-          (feed_taken s c.self.invariant c.args.m there c.args.f c.args.octets.now c.kept_octets-kept.result
+          (feed_taken s c.self.invariant.consistent c.args.m there c.args.f c.args.octets.now c.kept_octets-kept.result
           (c.in_ok-fed.ensures.kept ∙ ap (λ k. Ok k) (sym c.kept_octets-kept.ensures)));
       world =
           ap (λ (t : Tally). world_of (record s { members = c.feed.new.members.items; tally = t; steps = s.steps + 1 }))
           (λ i. record s.tally { parts = s.tally.parts + one i; octets = s.tally.octets + c.unwrap_or.ensures i })
-          ∙ feed_world s c.self.invariant c.args.m there c.args.f c.args.octets.now c.kept_octets-kept.result
+          ∙ feed_world s c.self.invariant.consistent c.args.m there c.args.f c.args.octets.now c.kept_octets-kept.result
           (c.in_ok-fed.ensures.kept ∙ ap (λ k. Ok k) (sym c.kept_octets-kept.ensures)) c.feed.new.members.items
           c.in_ok-fed.ensures.members
           ∙ ap (λ (x : GroupState). after_event (keyed x.keys) (world_of x)
           (Event.Feed c.args.m c.args.f (λ logs t. octets_as x.keys logs t c.args.octets.now))) c.self.view_is;
       reported =
           c.fed_happened.ensures ∙ ap (λ n. fed_reply c.args.m n c.in_ok-fed.fed) c.from.ensures
-          ∙ feed_is s c.self.invariant c.args.m there c.args.f c.args.octets.now c.in_ok-fed.fed c.in_ok-fed.ensures.fed
+          ∙ feed_is s c.self.invariant.consistent c.args.m there c.args.f c.args.octets.now c.in_ok-fed.fed
+          c.in_ok-fed.ensures.fed
           ∙ ap (λ (x : GroupState).
           feed_reported x.keys (world_of x) c.args.m c.args.f c.args.octets.now
           (claim_at (world_of x) c.args.m c.args.f))

@@ -2,10 +2,12 @@ use Rattle.std.proofs.Common.{◌<◌, length, refl, sym, ap, ◌∙◌, subst, 
 use Rattle.group_model.specs.Steps.{planned_parts, fetched_parts, attempts_made, after_fetch}
 use Rattle.bench_world.specs.Serving.{environment}
 use Rattle.bench_world.specs.EventValues.{Reported}
-use Rattle.bench_world.specs.Worlds.{GroupState, world_of}
+use Rattle.bench_world.specs.Worlds.{GroupState, world_of, only_members}
 use Rattle.bench_world.specs.Kept.{world_state}
 use Rattle.bench_world.proofs.States.{few_logs, tried_few}
 use Rattle.bench_world.proofs.FetchesAndSettles.{fetch_fits, fetch_world, fetch_state}
+use Rattle.bench_world.proofs.Spreading.{fetch_spreads}
+use Rattle.bench_world.proofs.NobodyLacking.{inside_too, nothing_lacks}
 use Rattle.bench_world.proofs.world.World.fetch.Goals as goal
 
 pub fetch_at-fetched-requires : goal.fetch_at-fetched-requires
@@ -23,11 +25,11 @@ fetch_at-fetched-requires g c κs within =
               workers = c.requires.workers;
               tries = c.requires.tries;
               there = there;
-              logs = few_logs s c.self.invariant;
+              logs = few_logs s c.self.invariant.consistent;
               begun = refl;
-              numbers = c.self.invariant.numbers;
-              consistent = c.self.invariant.members;
-              tried = tried_few s c.self.invariant;
+              numbers = c.self.invariant.consistent.numbers;
+              consistent = c.self.invariant.consistent.members;
+              tried = tried_few s c.self.invariant.consistent;
             },
           ),
         ),
@@ -39,7 +41,7 @@ overflow_add-self g c =
     let s = world_state c.self.inside in
     let few = subst (λ (x : GroupState). x.steps < 100000) (sym c.self.view_is) c.requires.few in
     let fits =
-    fetch_fits s c.self.invariant few (g.N.Net.passes c.args.net.now) c.args.m c.args.tries c.args.loss
+    fetch_fits s c.self.invariant.consistent few (g.N.Net.passes c.args.net.now) c.args.m c.args.tries c.args.loss
     c.requires.tries.1 c.in-Ok.counts.attempts c.in-Ok.counts.kept.parts c.in-Ok.counts.kept.octets
     c.in-Ok.ensures.attempts c.in-Ok.ensures.parts c.in-Ok.ensures.octets in
     omega (arith, fits.0)
@@ -49,7 +51,7 @@ overflow_add-self-3 g c =
     let s = world_state c.self.inside in
     let few = subst (λ (x : GroupState). x.steps < 100000) (sym c.self.view_is) c.requires.few in
     let fits =
-    fetch_fits s c.self.invariant few (g.N.Net.passes c.args.net.now) c.args.m c.args.tries c.args.loss
+    fetch_fits s c.self.invariant.consistent few (g.N.Net.passes c.args.net.now) c.args.m c.args.tries c.args.loss
     c.requires.tries.1 c.in-Ok.counts.attempts c.in-Ok.counts.kept.parts c.in-Ok.counts.kept.octets
     c.in-Ok.ensures.attempts c.in-Ok.ensures.parts c.in-Ok.ensures.octets in
     omega (arith, fits.2)
@@ -58,11 +60,24 @@ pub invariant_of-self-2 : goal.invariant_of-self-2
 invariant_of-self-2 g c =
     let s = world_state c.self.inside in
     let few = subst (λ (x : GroupState). x.steps < 100000) (sym c.self.view_is) c.requires.few in
-    fetch_state s c.self.invariant few (g.N.Net.passes c.args.net.now) c.args.m c.args.tries c.args.loss
-    c.requires.tries.1 c.in-Ok.counts.attempts c.from.result c.in-Ok.counts.kept.octets
-    c.in-Ok.ensures.attempts (c.from.ensures ∙ c.in-Ok.ensures.parts) c.in-Ok.ensures.octets
-    c.fetch_at-fetched.new.members.items c.in-Ok.ensures.members c.fetch_at-fetched.ensures.len
-    c.fetch_at-fetched.ensures.numbers c.fetch_at-fetched.ensures.consistent
+    let there = subst (λ (x : GroupState). c.args.m < length x.members) (sym c.self.view_is) c.requires.there in
+    let out = environment s.keys (λ _ _. 0) (g.N.Net.passes c.args.net.now) in
+    record {
+      consistent =
+          fetch_state s c.self.invariant.consistent few (g.N.Net.passes c.args.net.now) c.args.m c.args.tries
+          c.args.loss
+          c.requires.tries.1 c.in-Ok.counts.attempts c.from.result c.in-Ok.counts.kept.octets
+          c.in-Ok.ensures.attempts (c.from.ensures ∙ c.in-Ok.ensures.parts) c.in-Ok.ensures.octets
+          c.fetch_at-fetched.new.members.items c.in-Ok.ensures.members c.fetch_at-fetched.ensures.len
+          c.fetch_at-fetched.ensures.numbers c.fetch_at-fetched.ensures.consistent;
+      nobody_lacks =
+          nothing_lacks s c.args.m there c.self.inside.unsettled c.self.invariant.nobody_lacks
+          c.fetch_at-fetched.new.members.items
+          (after_fetch out (only_members s.members) c.args.m c.args.tries c.args.loss)
+          c.in-Ok.ensures.members
+          (λ n. fetch_spreads n (only_members s.members) c.args.m (inside_too s c.args.m there) out
+          c.args.tries c.args.loss);
+    }
 
 pub returns : goal.returns
 returns g c =
@@ -71,7 +86,8 @@ returns g c =
     record {
       taken = refl;
       world =
-          fetch_world s c.self.invariant few (g.N.Net.passes c.args.net.now) c.args.m c.args.tries c.args.loss
+          fetch_world s c.self.invariant.consistent few (g.N.Net.passes c.args.net.now) c.args.m c.args.tries
+          c.args.loss
           c.requires.tries.1 c.in-Ok.counts.attempts c.from.result c.in-Ok.counts.kept.octets
           c.in-Ok.ensures.attempts (c.from.ensures ∙ c.in-Ok.ensures.parts) c.in-Ok.ensures.octets
           c.fetch_at-fetched.new.members.items c.in-Ok.ensures.members

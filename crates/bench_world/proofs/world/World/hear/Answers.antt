@@ -17,6 +17,7 @@ use Rattle.bench_world.specs.Kept.{world_state}
 use Rattle.bench_world.proofs.States.{few_draws}
 use Rattle.bench_world.proofs.Hearings.{hears_reported, refused_so, foreign_so, sent_taken, heard_world, heard_state}
 use Rattle.bench_world.proofs.Hearings.{heard_reported}
+use Rattle.bench_world.proofs.NobodyLacking.{same_lacks}
 use Rattle.bench_world.proofs.world.World.hear.Goals as goal
 
 sync_apart : (refusal : SyncRefusal) → hear.Sync refusal ≡ hear.NoMemory → ⊥
@@ -31,7 +32,8 @@ returns-in-Err-Sync g c =
     let there = subst (λ (x : GroupState). c.args.m < length x.members) (sym c.self.view_is) c.requires.there in
     let r = group_verdict s.keys c.args.octets.now in
     let all =
-    refused_so s c.self.invariant c.args.m there c.index.result.now c.index.ensures r (g.D.Draws.draw c.args.draws.now)
+    refused_so s c.self.invariant.consistent c.args.m there c.index.result.now c.index.ensures r
+    (g.D.Draws.draw c.args.draws.now)
     c.in-Err-Sync.field-0 c.in-Err-Sync.ensures.refused
     (λ memory. sync_apart c.in-Err-Sync.refusal (sym c.in-Err-Sync.field-0-is ∙ memory)) in
     record {
@@ -64,7 +66,8 @@ returns-in-Err-OwnNumberAhead g c =
     let there = subst (λ (x : GroupState). c.args.m < length x.members) (sym c.self.view_is) c.requires.there in
     let r = group_verdict s.keys c.args.octets.now in
     let all =
-    refused_so s c.self.invariant c.args.m there c.index.result.now c.index.ensures r (g.D.Draws.draw c.args.draws.now)
+    refused_so s c.self.invariant.consistent c.args.m there c.index.result.now c.index.ensures r
+    (g.D.Draws.draw c.args.draws.now)
     c.in-Err-OwnNumberAhead.field-0 c.in-Err-OwnNumberAhead.ensures.refused
     (λ memory. ahead_apart c.in-Err-OwnNumberAhead.own c.in-Err-OwnNumberAhead.told
     (sym c.in-Err-OwnNumberAhead.field-0-is ∙ memory)) in
@@ -96,7 +99,8 @@ pub hear_sent-requires-clause-few : goal.hear_sent-requires-clause-few
 hear_sent-requires-clause-few g c =
     let s = world_state c.self.inside in
     let there = subst (λ (x : GroupState). c.args.m < length x.members) (sym c.self.view_is) c.requires.there in
-    few_draws s c.self.invariant c.args.m there c.index_mut-member.result.now c.index_mut-member.ensures.value
+    few_draws s c.self.invariant.consistent c.args.m there c.index_mut-member.result.now
+    c.index_mut-member.ensures.value
 
 pub returns-in_err-mode : goal.returns-in_err-mode
 returns-in_err-mode g c =
@@ -125,7 +129,8 @@ returns-in_err-mode g c =
           IsFaultOf (if_unsent (world_of x) c.args.m (read_as (group_verdict x.keys c.args.octets.now)))
           c.in_err-mode.field-0.0)
           c.self.view_is
-          (foreign_so s c.self.invariant c.args.m there old c.index_mut-member.ensures.value r c.in-Ok.reported.0
+          (foreign_so s c.self.invariant.consistent c.args.m there old c.index_mut-member.ensures.value r
+          c.in-Ok.reported.0
           c.in-Ok.reported.1
           reported c.in_err-mode.field-0.0 c.in_err-mode.ensures.foreign);
       err = grind (arith, common_steps);
@@ -145,11 +150,20 @@ invariant_of-self-2 g c =
     let reported = ap (λ (a : MemberState). reported_sync (length a.log) c.args.m r) (sym same)
     ∙ c.in-Ok.ensures.reported in
     let drawn = c.draw-draw.ensures ∙ ap (g.D.Draws.draw c.args.draws.now c.args.m) c.next_draw.ensures in
-    heard_state s c.self.invariant c.args.m there old c.index_mut-member.ensures.value r c.in-Ok.reported.0
-    c.in-Ok.reported.1
-    reported c.in_ok-mode.ensures.sent (g.D.Draws.draw c.args.draws.now) c.hear_sent.new.member c.draw-draw.result
-    c.in_ok-mode.ensures.ok drawn
-    (subst (λ (x : GroupState). x.steps < 100000) (sym c.self.view_is) c.requires.few)
+    record {
+      consistent =
+          heard_state s c.self.invariant.consistent c.args.m there old c.index_mut-member.ensures.value r
+          c.in-Ok.reported.0
+          c.in-Ok.reported.1
+          reported c.in_ok-mode.ensures.sent (g.D.Draws.draw c.args.draws.now) c.hear_sent.new.member c.draw-draw.result
+          c.in_ok-mode.ensures.ok drawn
+          (subst (λ (x : GroupState). x.steps < 100000) (sym c.self.view_is) c.requires.few);
+      nobody_lacks =
+          same_lacks c.self.inside.unsettled s.mirrors s.members c.args.m there c.index_mut-member.result.now
+          c.index_mut-member.ensures.value c.hear_sent.new.member
+          (ap (λ (a : MemberState). a.store) c.in_ok-mode.ensures.ok)
+          (ap (λ (a : MemberState). a.hidden) c.in_ok-mode.ensures.ok) c.self.invariant.nobody_lacks;
+    }
 
 pub returns : goal.returns
 returns g c =
@@ -171,11 +185,13 @@ returns g c =
           (λ (x : GroupState). if_unsent (world_of x) c.args.m (read_as (group_verdict x.keys c.args.octets.now))
           ≡ None)
           c.self.view_is
-          (sent_taken s c.self.invariant c.args.m there old c.index_mut-member.ensures.value r c.in-Ok.reported.0
+          (sent_taken s c.self.invariant.consistent c.args.m there old c.index_mut-member.ensures.value r
+          c.in-Ok.reported.0
           c.in-Ok.reported.1
           reported c.in_ok-mode.ensures.sent);
       world =
-          heard_world s c.self.invariant c.args.m there old c.index_mut-member.ensures.value r c.in-Ok.reported.0
+          heard_world s c.self.invariant.consistent c.args.m there old c.index_mut-member.ensures.value r
+          c.in-Ok.reported.0
           c.in-Ok.reported.1
           reported c.in_ok-mode.ensures.sent (g.D.Draws.draw c.args.draws.now) c.hear_sent.new.member
           c.draw-draw.result
@@ -184,7 +200,8 @@ returns g c =
           (read_as (group_verdict x.keys c.args.octets.now))) c.self.view_is;
       reported =
           c.heard.ensures
-          ∙ heard_reported s c.self.invariant c.args.m there old c.index_mut-member.ensures.value r c.in-Ok.reported.0
+          ∙ heard_reported s c.self.invariant.consistent c.args.m there old c.index_mut-member.ensures.value r
+          c.in-Ok.reported.0
           c.in-Ok.reported.1
           reported c.in_ok-mode.ensures.sent (g.D.Draws.draw c.args.draws.now) c.hear_sent.new.member
           c.draw-draw.result

@@ -11,6 +11,6 @@ returns-clause-catalogue c =
     let s = world_state c.self.inside in
     let there = subst (λ (x : GroupState). c.args.m < length x.members) (sym c.self.view_is) c.requires.there in
     sym (catalogues_alike (world_of s) c.args.m s.keys c.index.result.now
-    (in_world s c.self.invariant c.args.m there c.index.result.now c.index.ensures)
-    (consistent_in s c.self.invariant c.args.m there c.index.result.now c.index.ensures))
+    (in_world s c.self.invariant.consistent c.args.m there c.index.result.now c.index.ensures)
+    (consistent_in s c.self.invariant.consistent c.args.m there c.index.result.now c.index.ensures))
     ∙ ap (λ (x : GroupState). catalogue_at (world_of x) c.args.m) c.self.view_is

@@ -5,7 +5,7 @@ use Rattle.bench_world.specs.Worlds.{GroupState}
 use Rattle.bench_world.specs.Kept.{world_state}
 use Rattle.bench_world.proofs.world.World.mirror.Goals as goal
 
-pub returns : goal.returns-clause
+pub returns : goal.returns
 returns c =
     let s = world_state c.self.inside in
     let there = subst (λ (x : GroupState). c.args.i < length x.mirrors) (sym c.self.view_is) c.requires.there in

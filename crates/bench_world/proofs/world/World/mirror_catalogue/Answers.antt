@@ -27,7 +27,7 @@ returns-clause-lists c =
     c.catalogue.ensures.whole
     ∙ ap (λ (m : MirrorState). member_catalogue m.store)
     (c.index.ensures ∙ get_or_default s.mirrors c.args.i c.index.result.now no_mirror there)
-    ∙ mirrors_list_alike s.keys (logs_around s.members) (mirror_at s.mirrors c.args.i) c.self.invariant.are
-    (c.self.invariant.mirrors c.args.i no_mirror there)
+    ∙ mirrors_list_alike s.keys (logs_around s.members) (mirror_at s.mirrors c.args.i) c.self.invariant.consistent.are
+    (c.self.invariant.consistent.mirrors c.args.i no_mirror there)
     ∙ ap (λ (x : GroupState). mirror_catalogue (mirror_at x.mirrors c.args.i).pattern (logs (world_of x))
     (mirror_in_group (mirror_at x.mirrors c.args.i))) c.self.view_is

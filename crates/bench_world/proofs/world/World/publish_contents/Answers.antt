@@ -1,22 +1,29 @@
-use Rattle.std.proofs.Common.{◌≡◌, ◌⊎◌, ◌<◌, Some, None, Ok, Err, map, length, refl, sym, ap, ◌∙◌, subst, arith}
+use Rattle.std.proofs.Common.{List, ◌≡◌, ◌⊎◌, ◌<◌, Some, None, Ok, Err, map, length, set, refl, sym, ap, ◌∙◌, subst}
+use Rattle.std.proofs.Common.{arith}
 use Rattle.std.proofs.lemmas.Grind.{common_steps}
 use Rattle.std.proofs.lemmas.Result.{err_from_is_err_and}
 use Rattle.repo_object.specs.Objects.{NamedContents}
 use Rattle.repo_object.specs.Objects.Post.{Offers}
+use Rattle.bench_net.specs.SentList.{SentPacket}
+use Rattle.repo_member.specs.MemberState.{MemberState}
 use Rattle.group_model.specs.Events.{Event}
 use Rattle.group_model.specs.Refusals.{Refusal, refusal}
+use Rattle.group_model.specs.World.{World}
 use Rattle.group_model.specs.Steps.{after_publish, next_seq_at}
-use Rattle.bench_world.specs.Worlds.{GroupState, world_of, drawing}
+use Rattle.bench_world.specs.Worlds.{GroupState, IsConsistentState, in_groups, world_of, drawing}
 use Rattle.bench_world.specs.Kept.{world_state}
+use Rattle.bench_world.specs.Unsettled.{NobodyLacks}
 use Rattle.bench_world.proofs.States.{few_draws}
 use Rattle.bench_world.proofs.Objects.{refused_so, has_room, seq_is, sent_is, not_spent, world_sent, state_sent}
+use Rattle.bench_world.proofs.NobodyLacking.{all_unchanged, published_lacks}
 use Rattle.bench_world.proofs.world.World.publish_contents.Goals as goal
 
 pub publish-requires-clause-draws : goal.publish-requires-clause-draws
 publish-requires-clause-draws g c =
     let s = world_state c.self.inside in
     let there = subst (λ (x : GroupState). c.args.m < length x.members) (sym c.self.view_is) c.requires.there in
-    few_draws s c.self.invariant c.args.m there c.index_mut-member.result.now c.index_mut-member.ensures.value
+    few_draws s c.self.invariant.consistent c.args.m there c.index_mut-member.result.now
+    c.index_mut-member.ensures.value
 
 pub returns-in_err-published-clause-refused : goal.returns-in_err-published-clause-refused
 returns-in_err-published-clause-refused g c =
@@ -28,7 +35,8 @@ returns-in_err-published-clause-refused g c =
     (subst (λ (x : GroupState). (c.in_err-published.field-0.0 ≡ _)
     ⊎ (refusal (drawing (g.D.Draws.draw c.args.draws.now)) (world_of x) (Event.Publish c.args.m object)
     ≡ Some Refusal.NumbersSpent)) c.self.view_is
-    (refused_so s c.self.invariant c.args.m there c.index_mut-member.result.now c.index_mut-member.ensures.value
+    (refused_so s c.self.invariant.consistent c.args.m there c.index_mut-member.result.now
+    c.index_mut-member.ensures.value
     (g.D.Draws.draw c.args.draws.now) object (Err c.in_err-published.field-0.0) c.in_err-published.field-0.0 refl
     c.in_err-published.ensures.spent))
 
@@ -46,20 +54,36 @@ invariant_of-self-2 g c =
     let object : NamedContents = record { name = c.args.name.now; contents = map (λ x. x.items) c.args.contents.now } in
     let n_is = c.draw-draw.ensures ∙ ap (g.D.Draws.draw c.args.draws.now c.args.m) c.next_draw.ensures in
     let room =
-    has_room s c.self.invariant c.args.m there old c.index_mut-member.ensures.value (Ok c.in_ok-published.published)
+    has_room s c.self.invariant.consistent c.args.m there old c.index_mut-member.ensures.value
+    (Ok c.in_ok-published.published)
     c.in_ok-published.published refl c.in_ok-published.ensures.spent in
     let sent =
-    sent_is s c.self.invariant c.args.m there old c.index_mut-member.ensures.value c.publish.new.self
+    sent_is s c.self.invariant.consistent c.args.m there old c.index_mut-member.ensures.value c.publish.new.self
     (g.D.Draws.draw c.args.draws.now) c.draw-draw.result n_is (Offers object) c.in_ok-published.ensures.ok
     c.add_reserved-k.new.self.packets c.reserve.new.self.packets c.in_ok-vector.vector.items
     c.in_ok-published.published.seq
     c.in_ok-published.published.sync.items (ap (λ x. x.packets) c.in_ok-reserve.ensures.ok)
     (c.in_ok-vector.ensures ∙ c.vector.ensures.known)
     c.in_ok-published.ensures.seq c.in_ok-published.ensures.sync c.add_reserved-k.ensures.sent in
-    state_sent s c.self.invariant c.args.m there old c.index_mut-member.ensures.value c.publish.new.self
-    (g.D.Draws.draw c.args.draws.now) c.draw-draw.result n_is (Offers object) c.in_ok-published.ensures.ok few
-    c.in_ok-published.ensures.object room
-    c.add_reserved-k.new.self.packets sent
+    record {
+      consistent =
+          state_sent s c.self.invariant.consistent c.args.m there old c.index_mut-member.ensures.value
+          c.publish.new.self
+          (g.D.Draws.draw c.args.draws.now) c.draw-draw.result n_is (Offers object) c.in_ok-published.ensures.ok few
+          c.in_ok-published.ensures.object room
+          c.add_reserved-k.new.self.packets sent;
+      nobody_lacks =
+          published_lacks s c.args.m there c.self.inside.unsettled c.self.invariant.nobody_lacks
+          (set s.members c.args.m c.publish.new.self) c.note.new.self c.in_ok-published.published.seq c.note.ensures
+          (drawing (g.D.Draws.draw c.args.draws.now)) (Offers object)
+          (seq_is s c.self.invariant.consistent c.args.m there old c.index_mut-member.ensures.value
+          c.in_ok-published.published.seq c.in_ok-published.ensures.seq)
+          (ap (λ (w : World). w.members)
+          (world_sent s c.self.invariant.consistent c.args.m there old c.index_mut-member.ensures.value
+          c.publish.new.self
+          (g.D.Draws.draw c.args.draws.now) c.draw-draw.result n_is (Offers object) c.in_ok-published.ensures.ok
+          c.add_reserved-k.new.self.packets sent));
+    }
 
 pub returns-clause-ok : goal.returns-clause-ok
 returns-clause-ok g c =
@@ -69,14 +93,14 @@ returns-clause-ok g c =
     let object : NamedContents = record { name = c.args.name.now; contents = map (λ x. x.items) c.args.contents.now } in
     let n_is = c.draw-draw.ensures ∙ ap (g.D.Draws.draw c.args.draws.now c.args.m) c.next_draw.ensures in
     let sent =
-    sent_is s c.self.invariant c.args.m there old c.index_mut-member.ensures.value c.publish.new.self
+    sent_is s c.self.invariant.consistent c.args.m there old c.index_mut-member.ensures.value c.publish.new.self
     (g.D.Draws.draw c.args.draws.now) c.draw-draw.result n_is (Offers object) c.in_ok-published.ensures.ok
     c.add_reserved-k.new.self.packets c.reserve.new.self.packets c.in_ok-vector.vector.items
     c.in_ok-published.published.seq
     c.in_ok-published.published.sync.items (ap (λ x. x.packets) c.in_ok-reserve.ensures.ok)
     (c.in_ok-vector.ensures ∙ c.vector.ensures.known)
     c.in_ok-published.ensures.seq c.in_ok-published.ensures.sync c.add_reserved-k.ensures.sent in
-    world_sent s c.self.invariant c.args.m there old c.index_mut-member.ensures.value c.publish.new.self
+    world_sent s c.self.invariant.consistent c.args.m there old c.index_mut-member.ensures.value c.publish.new.self
     (g.D.Draws.draw c.args.draws.now) c.draw-draw.result n_is (Offers object) c.in_ok-published.ensures.ok
     c.add_reserved-k.new.self.packets sent
     ∙ ap (λ (x : GroupState).
@@ -90,17 +114,37 @@ returns-clause-taken g c =
     let old = c.index_mut-member.result.now in
     let object : NamedContents = record { name = c.args.name.now; contents = map (λ x. x.items) c.args.contents.now } in
     let room =
-    has_room s c.self.invariant c.args.m there old c.index_mut-member.ensures.value (Ok c.in_ok-published.published)
+    has_room s c.self.invariant.consistent c.args.m there old c.index_mut-member.ensures.value
+    (Ok c.in_ok-published.published)
     c.in_ok-published.published refl c.in_ok-published.ensures.spent in
     subst (λ (x : GroupState).
     refusal (drawing (g.D.Draws.draw c.args.draws.now)) (world_of x) (Event.Publish c.args.m object) ≡ None)
     c.self.view_is
-    (not_spent s c.self.invariant c.args.m there old c.index_mut-member.ensures.value room)
+    (not_spent s c.self.invariant.consistent c.args.m there old c.index_mut-member.ensures.value room)
 
 pub returns-clause-seq : goal.returns-clause-seq
 returns-clause-seq g c =
     let s = world_state c.self.inside in
     let there = subst (λ (x : GroupState). c.args.m < length x.members) (sym c.self.view_is) c.requires.there in
-    seq_is s c.self.invariant c.args.m there c.index_mut-member.result.now c.index_mut-member.ensures.value
+    seq_is s c.self.invariant.consistent c.args.m there c.index_mut-member.result.now c.index_mut-member.ensures.value
     c.in_ok-published.published.seq c.in_ok-published.ensures.seq
     ∙ ap (λ (x : GroupState). next_seq_at (world_of x) c.args.m) c.self.view_is
+
+pub invariant_of-self-in_err-published : goal.invariant_of-self-in_err-published
+invariant_of-self-in_err-published g c =
+    let s = world_state c.self.inside in
+    let there = subst (λ (x : GroupState). c.args.m < length x.members) (sym c.self.view_is) c.requires.there in
+    let back =
+    all_unchanged s.members c.args.m there c.index_mut-member.result.now c.index_mut-member.ensures.value
+    c.publish.new.self c.in_err-published.ensures.err in
+    record {
+      consistent =
+          subst (λ (ms : List MemberState).
+          IsConsistentState (record s { members = ms; sent = c.reserve.new.self.packets }))
+          (sym back)
+          (subst (λ (ps : List SentPacket). IsConsistentState (record s { sent = ps }))
+          (sym (ap (λ x. x.packets) c.in_ok-reserve.ensures.ok)) c.self.invariant.consistent);
+      nobody_lacks =
+          subst (λ (ms : List MemberState). NobodyLacks c.self.inside.unsettled (in_groups ms) s.mirrors) (sym back)
+          c.self.invariant.nobody_lacks;
+    }

@@ -1,8 +1,8 @@
-use Rattle.std.proofs.Common.{◌≡◌, ◌-◌, ◌==◌, ℕ, List, Option, Some, None, if◌then◌else◌, refl, sym, ap, ◌∙◌}
+use Rattle.std.proofs.Common.{◌≡◌, ◌-◌, ◌==◌, ℕ, Option, Some, None, if◌then◌else◌, refl, sym, ap, ◌∙◌}
 use Rattle.std.specs.Option.{option_map}
 use Rattle.std.specs.List.{slice_get}
 use Rattle.std.proofs.lemmas.Option.{slice_get-map}
-use Rattle.bench_net.specs.SentList.{SentPacket, sent_sender}
+use Rattle.bench_net.specs.SentList.{SentPacket}
 use Rattle.group_model.specs.Events.{SyncInterest}
 use Rattle.bench_world.specs.Kept.{world_state}
 use Rattle.bench_world.specs.Showing.{sender_at}

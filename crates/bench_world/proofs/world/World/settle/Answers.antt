@@ -6,21 +6,27 @@ use Rattle.group_model.specs.Steps.{settle_gains, after_gathering}
 use Rattle.bench_world.specs.Serving.{keyed}
 use Rattle.bench_world.specs.Runs.{HaveSettledPart}
 use Rattle.bench_world.specs.Settling.{reported_of}
-use Rattle.bench_world.specs.Worlds.{GroupState, IsConsistentState, tells, world_of}
+use Rattle.bench_world.specs.Worlds.{GroupState, IsConsistentState, only_members, tells, world_of}
 use Rattle.bench_world.specs.Kept.{world_state}
 use Rattle.bench_world.proofs.States.{few_logs, few_members, few_sent, tried_few}
 use Rattle.bench_world.proofs.Readers.{counted_state}
 use Rattle.bench_world.proofs.EitherAnswer.{where_err}
 use Rattle.bench_world.proofs.FetchesAndSettles.{sound_only, failed_state, partly, partly_before, settle_world}
 use Rattle.bench_world.proofs.FetchesAndSettles.{settle_state, settle_joined, settle_fits}
+use Rattle.bench_world.proofs.NobodyLacking.{partly_settled_lack, all_settled_lack}
 use Rattle.bench_world.proofs.world.World.settle.Goals as goal
 
 pub invariant_of-self : goal.invariant_of-self
 invariant_of-self g c =
     let s = world_state c.self.inside in
     let few = subst (λ (x : GroupState). x.steps < 100000) (sym c.self.view_is) c.requires.few in
-    subst (λ (ps : List SentPacket). IsConsistentState (record s { sent = ps; steps = s.steps + 1 }))
-    (sym (ap (λ x. x.packets) c.in_err-reserve.ensures.err)) (counted_state s c.self.invariant few)
+    record {
+      consistent =
+          subst (λ (ps : List SentPacket). IsConsistentState (record s { sent = ps; steps = s.steps + 1 }))
+          (sym (ap (λ x. x.packets) c.in_err-reserve.ensures.err)) (counted_state s c.self.invariant.consistent few);
+      nobody_lacks =
+          c.self.invariant.nobody_lacks;
+    }
 
 pub returns-in_err-reserve-clause-err : goal.returns-in_err-reserve-clause-err
 returns-in_err-reserve-clause-err g c =
@@ -30,7 +36,7 @@ returns-in_err-reserve-clause-err g c =
     subst (λ (x : GroupState). HaveSettledPart x (record s { sent = c.reserve.new.self.packets; steps = s.steps + 1 }))
     c.self.view_is
     (subst (λ (ps : List SentPacket). HaveSettledPart s (record s { sent = ps; steps = s.steps + 1 }))
-    (sym (ap (λ x. x.packets) c.in_err-reserve.ensures.err)) (partly_before s c.self.invariant few)))
+    (sym (ap (λ x. x.packets) c.in_err-reserve.ensures.err)) (partly_before s c.self.invariant.consistent few)))
 
 pub settle_members-requires : goal.settle_members-requires
 settle_members-requires g c κs within =
@@ -44,12 +50,13 @@ settle_members-requires g c κs within =
             c.type_bounds.sync-R,
             record {
               workers = c.requires.workers;
-              logs = few_logs s c.self.invariant;
+              logs = few_logs s c.self.invariant.consistent;
               begun = refl;
-              numbers = c.self.invariant.numbers;
-              consistent = c.self.invariant.members;
-              sound = sound_only s c.self.invariant;
-              tried = tried_few s c.self.invariant;
+              numbers = c.self.invariant.consistent.numbers;
+              consistent = c.self.invariant.consistent.members;
+              sound = sound_only s c.self.invariant.consistent;
+              tried = tried_few s c.self.invariant.consistent;
+              lacks = c.self.invariant.nobody_lacks.members;
             },
           ),
         ),
@@ -61,12 +68,19 @@ invariant_of-self-in_err-settled g c =
     let s = world_state c.self.inside in
     let few = subst (λ (x : GroupState). x.steps < 100000) (sym c.self.view_is) c.requires.few in
     let same : c.reserve.new.self.packets ≡ s.sent = ap (λ x. x.packets) c.in_ok-reserve.ensures.ok in
-    subst (λ (ps : List SentPacket).
-    IsConsistentState (record s { members = c.settle_members.new.members.items; sent = ps; steps = s.steps + 1 }))
-    (sym same)
-    (failed_state s c.self.invariant few c.settle_members.new.members.items c.settle_members.ensures.len
-    c.settle_members.ensures.numbers c.settle_members.ensures.consistent
-    c.settle_members.ensures.counts c.in_err-settled.ensures.err)
+    record {
+      consistent =
+          subst (λ (ps : List SentPacket).
+          IsConsistentState (record s { members = c.settle_members.new.members.items; sent = ps; steps = s.steps + 1 }))
+          (sym same)
+          (failed_state s c.self.invariant.consistent few c.settle_members.new.members.items
+          c.settle_members.ensures.len
+          c.settle_members.ensures.numbers c.settle_members.ensures.consistent
+          c.settle_members.ensures.counts c.in_err-settled.ensures.err);
+      nobody_lacks =
+          partly_settled_lack (only_members s.members) (sound_only s c.self.invariant.consistent)
+          c.self.inside.unsettled s.mirrors c.self.invariant.nobody_lacks _ c.in_err-settled.ensures.err;
+    }
 
 pub returns-in_err-settled-clause-err : goal.returns-in_err-settled-clause-err
 returns-in_err-settled-clause-err g c =
@@ -82,7 +96,7 @@ returns-in_err-settled-clause-err g c =
     })) c.self.view_is
     (subst (λ (ps : List SentPacket). HaveSettledPart s
     (record s { members = c.settle_members.new.members.items; sent = ps; steps = s.steps + 1 })) (sym same)
-    (partly s c.self.invariant few c.settle_members.new.members.items c.settle_members.ensures.len
+    (partly s c.self.invariant.consistent few c.settle_members.new.members.items c.settle_members.ensures.len
     c.settle_members.ensures.numbers c.settle_members.ensures.consistent
     c.settle_members.ensures.counts c.in_err-settled.ensures.err)))
 
@@ -104,8 +118,8 @@ send_all-requires-clause-few g c =
     let b = length-map c.in_ok-settled.settled.0.items reported_of in
     let d = length-map s.members (tells s.keys) in
     let e : length c.reserve.new.self.packets ≡ length s.sent = ap (λ x. length x.packets) c.in_ok-reserve.ensures.ok in
-    let n = few_members s c.self.invariant in
-    let f = few_sent s c.self.invariant in
+    let n = few_members s c.self.invariant.consistent in
+    let f = few_sent s c.self.invariant.consistent in
     omega (arith, a, b, d, e, n, f, c.in_ok-settled.settled.0.ok)
 
 pub overflow_add-self-3 : goal.overflow_add-self-3
@@ -120,7 +134,7 @@ overflow_add-self-3 g c =
     let count : c.len-count.result ≡ length c.settle_members.new.members.items =
     omega (arith, c.len-count.ensures, c.settle_members.new.members.ok) in
     let fits =
-    settle_fits s c.self.invariant few c.settle_members.new.members.items c.in_ok-settled.ensures.members
+    settle_fits s c.self.invariant.consistent few c.settle_members.new.members.items c.in_ok-settled.ensures.members
     c.send_all.new.sent.packets c.in_ok-settled.settled.0.items sent c.in_ok-settled.ensures.reported
     c.len-count.result c.saturating_sub.result c.in_ok-settled.settled.1 c.in_ok-settled.settled.2 count
     c.saturating_sub.ensures
@@ -139,7 +153,7 @@ overflow_add-self-4 g c =
     let count : c.len-count.result ≡ length c.settle_members.new.members.items =
     omega (arith, c.len-count.ensures, c.settle_members.new.members.ok) in
     let fits =
-    settle_fits s c.self.invariant few c.settle_members.new.members.items c.in_ok-settled.ensures.members
+    settle_fits s c.self.invariant.consistent few c.settle_members.new.members.items c.in_ok-settled.ensures.members
     c.send_all.new.sent.packets c.in_ok-settled.settled.0.items sent c.in_ok-settled.ensures.reported
     c.len-count.result c.saturating_sub.result c.in_ok-settled.settled.1 c.in_ok-settled.settled.2 count
     c.saturating_sub.ensures
@@ -157,12 +171,19 @@ invariant_of-self-2 g c =
     (ap (λ x. x.packets) c.in_ok-reserve.ensures.ok) in
     let count : c.len-count.result ≡ length c.settle_members.new.members.items =
     omega (arith, c.len-count.ensures, c.settle_members.new.members.ok) in
-    settle_state s c.self.invariant few c.settle_members.new.members.items c.in_ok-settled.ensures.members
-    c.send_all.new.sent.packets c.in_ok-settled.settled.0.items sent c.in_ok-settled.ensures.reported
-    c.len-count.result c.saturating_sub.result c.in_ok-settled.settled.1 c.in_ok-settled.settled.2 count
-    c.saturating_sub.ensures
-    c.in_ok-settled.ensures.parts c.in_ok-settled.ensures.octets
-    c.settle_members.ensures.len c.settle_members.ensures.numbers c.settle_members.ensures.consistent
+    record {
+      consistent =
+          settle_state s c.self.invariant.consistent few c.settle_members.new.members.items
+          c.in_ok-settled.ensures.members
+          c.send_all.new.sent.packets c.in_ok-settled.settled.0.items sent c.in_ok-settled.ensures.reported
+          c.len-count.result c.saturating_sub.result c.in_ok-settled.settled.1 c.in_ok-settled.settled.2 count
+          c.saturating_sub.ensures
+          c.in_ok-settled.ensures.parts c.in_ok-settled.ensures.octets
+          c.settle_members.ensures.len c.settle_members.ensures.numbers c.settle_members.ensures.consistent;
+      nobody_lacks =
+          all_settled_lack (only_members s.members) (sound_only s c.self.invariant.consistent)
+          c.self.inside.unsettled s.mirrors c.self.invariant.nobody_lacks _ _ refl c.in_ok-settled.ensures.members;
+    }
 
 pub returns : goal.returns
 returns g c =
@@ -177,7 +198,8 @@ returns g c =
     omega (arith, c.len-count.ensures, c.settle_members.new.members.ok) in
     record {
       world =
-          settle_world s c.self.invariant few mid c.in_ok-settled.ensures.members c.send_all.new.sent.packets reported
+          settle_world s c.self.invariant.consistent few mid c.in_ok-settled.ensures.members
+          c.send_all.new.sent.packets reported
           sent
           c.in_ok-settled.ensures.reported c.len-count.result c.saturating_sub.result c.in_ok-settled.settled.1
           c.in_ok-settled.settled.2 count
@@ -185,7 +207,8 @@ returns g c =
           ∙ ap (λ (x : GroupState). after_gathering (keyed x.keys) (world_of x)) c.self.view_is;
       parts = c.in_ok-settled.ensures.parts ∙ ap (λ (x : GroupState). settle_gains (world_of x)) c.self.view_is;
       joined =
-          settle_joined s c.self.invariant few mid c.in_ok-settled.ensures.members c.send_all.new.sent.packets reported
+          settle_joined s c.self.invariant.consistent few mid c.in_ok-settled.ensures.members
+          c.send_all.new.sent.packets reported
           sent
           c.in_ok-settled.ensures.reported c.len-count.result c.saturating_sub.result c.in_ok-settled.settled.1
           c.in_ok-settled.settled.2 count

@@ -1,16 +1,18 @@
 use Rattle.std.proofs.Common.{◌≡◌, ◌<◌, ◌+◌, length, refl, sym, ap, ◌∙◌, subst, arith}
 use Rattle.std.proofs.lemmas.List.{length-map}
 use Rattle.group_model.specs.Steps.{after_gathering, after_settle}
+use Rattle.repo_member.specs.MemberState.{MemberState}
 use Rattle.bench_world.specs.Serving.{environment, keyed}
 use Rattle.repo_member.specs.InGroup.{in_group}
 use Rattle.bench_world.specs.EventValues.{Reported}
 use Rattle.bench_world.specs.Worlds.{GroupState, in_groups, world_of}
 use Rattle.bench_world.specs.Kept.{world_state}
 use Rattle.bench_world.proofs.Resets.{all_few, reset_world, reset_joined, reset_state}
+use Rattle.bench_world.proofs.NobodyLacking.{alike_lacks}
 use Rattle.bench_world.proofs.world.World.settle_step.Goals as goal
 
 pub reset_all-requires-clause-draws : goal.reset_all-requires-clause-draws
-reset_all-requires-clause-draws g c = all_few (world_state c.self-2.inside) c.self-2.invariant
+reset_all-requires-clause-draws g c = all_few (world_state c.self-2.inside) c.self-2.invariant.consistent
 
 pub invariant_of-self : goal.invariant_of-self
 invariant_of-self g c =
@@ -24,9 +26,19 @@ invariant_of-self g c =
     ap (λ (x : GroupState). x.steps) c.self-2.view_is
     ∙ c.settle.ensures.steps
     ∙ ap (λ (x : GroupState). x.steps + 1) (sym c.self.view_is) in
-    reset_state s c.self.invariant few (g.D.Draws.draw c.args.draws.now) (g.N.Net.passes c.args.net.now)
-    (world_state c.self-2.inside) c.self-2.invariant mid steps c.reset_all.new.members.items c.reset_all.ensures.len
-    c.reset_all.ensures.each
+    record {
+      consistent =
+          reset_state s c.self.invariant.consistent few (g.D.Draws.draw c.args.draws.now)
+          (g.N.Net.passes c.args.net.now)
+          (world_state c.self-2.inside) c.self-2.invariant.consistent mid steps c.reset_all.new.members.items
+          c.reset_all.ensures.len
+          c.reset_all.ensures.each;
+      nobody_lacks =
+          alike_lacks c.self-2.inside.unsettled (world_state c.self-2.inside).mirrors
+          (world_state c.self-2.inside).members c.reset_all.new.members.items
+          c.reset_all.ensures.len (λ j l. ap (λ (a : MemberState). a.store) (c.reset_all.ensures.each j l))
+          (λ j l. ap (λ (a : MemberState). a.hidden) (c.reset_all.ensures.each j l)) c.self-2.invariant.nobody_lacks;
+    }
 
 pub returns : goal.returns
 returns g c =
@@ -47,8 +59,9 @@ returns g c =
     record {
       taken = refl;
       world =
-          reset_world s c.self.invariant few (g.D.Draws.draw c.args.draws.now) (g.N.Net.passes c.args.net.now)
-          (world_state c.self-2.inside) c.self-2.invariant mid steps c.reset_all.new.members.items
+          reset_world s c.self.invariant.consistent few (g.D.Draws.draw c.args.draws.now)
+          (g.N.Net.passes c.args.net.now)
+          (world_state c.self-2.inside) c.self-2.invariant.consistent mid steps c.reset_all.new.members.items
           c.reset_all.ensures.len
           c.reset_all.ensures.each
           ∙ ap (λ (x : GroupState).
@@ -57,8 +70,9 @@ returns g c =
           c.self.view_is;
       reported = λ i. Reported.Settle (syncs i) (c.in-Ok.ensures.parts i);
       joined =
-          reset_joined s c.self.invariant few (g.D.Draws.draw c.args.draws.now) (g.N.Net.passes c.args.net.now)
-          (world_state c.self-2.inside) c.self-2.invariant mid steps c.reset_all.new.members.items
+          reset_joined s c.self.invariant.consistent few (g.D.Draws.draw c.args.draws.now)
+          (g.N.Net.passes c.args.net.now)
+          (world_state c.self-2.inside) c.self-2.invariant.consistent mid steps c.reset_all.new.members.items
           c.reset_all.ensures.len
           c.reset_all.ensures.each;
       steps = ap (λ (x : GroupState). x.steps) c.self-2.view_is ∙ c.settle.ensures.steps;

@@ -14,7 +14,7 @@ use Rattle.bench_world.proofs.world.World.summary.Goals as goal
 pub add_up-requires : goal.add_up-requires
 add_up-requires c =
     subst (λ (ms : List MemberState). (j : ℕ) → j < length ms → HasFewTotals (totals_in (state_at ms j)))
-    (sym c.as_slice.ensures.value) (few_totals_at (world_state c.self.inside) c.self.invariant)
+    (sym c.as_slice.ensures.value) (few_totals_at (world_state c.self.inside) c.self.invariant.consistent)
 
 pub returns : goal.returns
 returns c =
@@ -26,15 +26,15 @@ returns c =
     let entries =
     c.in_ok-sums.ensures.entries
     ∙ ap (map (λ a. (totals_in a).entries)) c.as_slice.ensures.value
-    ∙ sums_are s c.self.invariant (λ t. t.entries) in
+    ∙ sums_are s c.self.invariant.consistent (λ t. t.entries) in
     let segments =
     c.in_ok-sums.ensures.segments
     ∙ ap (map (λ a. (totals_in a).segments)) c.as_slice.ensures.value
-    ∙ sums_are s c.self.invariant (λ t. t.segments) in
+    ∙ sums_are s c.self.invariant.consistent (λ t. t.segments) in
     let octets =
     c.in_ok-sums.ensures.octets
     ∙ ap (map (λ a. (totals_in a).octets)) c.as_slice.ensures.value
-    ∙ sums_are s c.self.invariant (λ t. t.octets) in
+    ∙ sums_are s c.self.invariant.consistent (λ t. t.octets) in
     record {
       taken = refl;
       world = c.count.ensures.world;

@@ -14,9 +14,15 @@ use Rattle.bench_world.proofs.world.World.sync.Goals as goal
 pub invariant_of-self : goal.invariant_of-self
 invariant_of-self c =
     let s = world_state c.self.inside in
-    stepped s c.self.invariant (subst (λ (x : GroupState). x.steps < 100000) (sym c.self.view_is) c.requires.few)
-    (drawing (λ _ _. 0)) (λ t. omega arith) (Event.Sync c.args.k) tt s.members s.sent s.time s.tally refl
-    c.self.invariant.numbers c.self.invariant.members c.self.invariant.sent refl
+    record {
+      consistent =
+          stepped s c.self.invariant.consistent
+          (subst (λ (x : GroupState). x.steps < 100000) (sym c.self.view_is) c.requires.few)
+          (drawing (λ _ _. 0)) (λ t. omega arith) (Event.Sync c.args.k) tt s.members s.sent s.time s.tally refl
+          c.self.invariant.consistent.numbers c.self.invariant.consistent.members c.self.invariant.consistent.sent refl;
+      nobody_lacks =
+          c.self.invariant.nobody_lacks;
+    }
 
 pub returns : goal.returns
 returns c =
@@ -31,7 +37,7 @@ returns c =
           ap (λ k. Reported.Sync k c.in_ok-octets.octets.items) c.from.ensures
           ∙ ap (Reported.Sync c.args.k)
           (c.in_ok-octets.ensures.items_if_clones_equal (λ x y e. e) ∙ at.same
-          ∙ octets_are s c.self.invariant c.args.k at.first at.last)
+          ∙ octets_are s c.self.invariant.consistent c.args.k at.first at.last)
           ∙ ap (λ (x : GroupState).
           Reported.Sync c.args.k (sync_of x.keys (sent_at (world_of x) c.args.k).sender
           (sent_at (world_of x) c.args.k).vector))

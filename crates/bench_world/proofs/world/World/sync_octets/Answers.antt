@@ -7,5 +7,5 @@ use Rattle.bench_world.proofs.world.World.sync_octets.Goals as goal
 
 pub returns : goal.returns
 returns c =
-    c.octets.ensures ∙ octets_as_shown (world_state c.self.inside) c.self.invariant c.args.k
+    c.octets.ensures ∙ octets_as_shown (world_state c.self.inside) c.self.invariant.consistent c.args.k
     ∙ ap (λ (x : GroupState). sync_octets_at x.keys (world_of x) c.args.k) c.self.view_is
