@@ -23,7 +23,7 @@ use Rattle.lab_lines.specs.declared.totals.Totals.{Totals}
 use Rattle.lab_lines.specs.Carrying.{Fails, FallsShort, Halts, IsEndingOf, IsOver, IsStopWritten}
 use Rattle.lab_lines.specs.Carrying.{Passes, TakesStop, ran, stopping_at}
 use Rattle.lab_lines.specs.Folding.{FormOf, Lined, NextLine, Passed, Ran, after_line, after_note, after_stop, fits}
-use Rattle.lab_lines.specs.Folding.{lined, next_line}
+use Rattle.lab_lines.specs.Folding.{lined, looked, next_line}
 use Rattle.lab_lines.specs.Folding.{noted, ran_from, ran_line, scripted, stops, taken_line, with_text}
 
 -- what was passed is the same where its parts are
@@ -41,7 +41,7 @@ pub record StopsSo {M : Type 0} (f : FormOf M) (env : RunEnvironment) (p : Passe
   pub ending : Ending
   pub not_done : ending ≢ an_ending.Done
   pub goes : (others : List (List ℕ)) → ran_from f env p m (line ∷ others)
-      ≡ stops f p m line others (stopping_at (p.reached.lines + 1) line why) ending
+      ≡ stops f p (looked f p m line) line others (stopping_at (p.reached.lines + 1) line why) ending
   pub only : (other : Ending) → IsEndingOf (p.reached.lines + 1) why other → other ≡ ending
 
 module _ {M : Type 0} (f : FormOf M) (env : RunEnvironment) (p : Passed) (m : M) where
@@ -93,16 +93,20 @@ module _ {M : Type 0} (f : FormOf M) (env : RunEnvironment) (p : Passed) (m : M)
       gained = nothing_gained a;
     }
 
+    -- what the form keeps before it
+    abbrev k : M
+    k = looked f p m line
+
     module _ (report : List ℕ) (next : State) (e : next_line env p line ≡ scripted (says report next)) where
       pub passes_taken : (q : Passed) (n : M) (a b : Option (List ℕ)) → q ≡ after_line p line report next
-          → n ≡ f.line m (taken_line p line report next) → GainsText a b (f.text m (taken_line p line report next))
+          → n ≡ f.line k (taken_line p line report next) → GainsText a b (f.text k (taken_line p line report next))
           → Passes f env p m line q n a b
       passes_taken q n a b passed kept gained = record {
-        text = f.text m (taken_line p line report next);
+        text = f.text k (taken_line p line report next);
         goes = λ others.
-            let text = f.text m (taken_line p line report next) in
+            let text = f.text k (taken_line p line report next) in
             let by_passed : Passed → Ran M = λ x.
-            with_text text (ran_from f env x (f.line m (taken_line p line report next)) others) in
+            with_text text (ran_from f env x (f.line k (taken_line p line report next)) others) in
             let by_form : M → Ran M = λ x. with_text text (ran_from f env q x others) in
             by_next (scripted (says report next)) e others ∙ ap by_passed (sym passed) ∙ ap by_form (sym kept);
         count = ap (λ (x : Passed). x.lines) passed;
@@ -111,12 +115,12 @@ module _ {M : Type 0} (f : FormOf M) (env : RunEnvironment) (p : Passed) (m : M)
 
       -- what the form writes of it was not written whole
       pub fails_taken : (a b : Option (List ℕ)) (status : LabStatus)
-          → FallsShort (f.text m (taken_line p line report next)) a b status → Fails f env p m line a b status
+          → FallsShort (f.text k (taken_line p line report next)) a b status → Fails f env p m line a b status
       fails_taken a b status short = record {
         failing = short.failing;
         prefix = λ others.
-            let text = f.text m (taken_line p line report next) in
-            let after = ran_from f env (after_line p line report next) (f.line m (taken_line p line report next))
+            let text = f.text k (taken_line p line report next) in
+            let after = ran_from f env (after_line p line report next) (f.line k (taken_line p line report next))
             others in
             let is : (ran_from f env p m (line ∷ others)).text ≡ text ++ after.text =
             ap (λ (x : Ran M). x.text) (by_next (scripted (says report next)) e others) in
@@ -153,16 +157,16 @@ module _ {M : Type 0} (f : FormOf M) (env : RunEnvironment) (p : Passed) (m : M)
 
     module _ (why : LineError) (so : StopsSo f env p m line why) (totals : Totals) (lines : totals.lines ≡ p.lines + 1)
         (octets : totals.octets ≡ p.octets + length line) (n : M) (a b : Option (List ℕ)) where
-      halts_at : (end : Ending) → TakesStop f (p.reached.lines + 1) line why m n a b end
+      halts_at : (end : Ending) → TakesStop f (p.reached.lines + 1) line why k n a b end
           → Halts f env p m line end totals n a b
       halts_at end t = record {
-        text = f.text m (stopping_at (p.reached.lines + 1) line why);
+        text = f.text k (stopping_at (p.reached.lines + 1) line why);
         lines = lines;
         octets = octets;
         not_done = λ e. so.not_done (sym (so.only end t.ends) ∙ e);
         goes = λ others.
-            let text = f.text m (stopping_at (p.reached.lines + 1) line why) in
-            let kept = f.line m (stopping_at (p.reached.lines + 1) line why) in
+            let text = f.text k (stopping_at (p.reached.lines + 1) line why) in
+            let kept = f.line k (stopping_at (p.reached.lines + 1) line why) in
             let by_lines : ℕ → Ran M = λ l.
             ran text (after_stop f l (p.octets + length line) kept others) so.ending l in
             let by_octets : ℕ → Ran M = λ o.
@@ -176,42 +180,41 @@ module _ {M : Type 0} (f : FormOf M) (env : RunEnvironment) (p : Passed) (m : M)
         gained = t.gained;
       }
 
-      fails_at : (status : LabStatus) → FallsShort (f.text m (stopping_at (p.reached.lines + 1) line why)) a b status
+      fails_at : (status : LabStatus) → FallsShort (f.text k (stopping_at (p.reached.lines + 1) line why)) a b status
           → Fails f env p m line a b status
       fails_at status short = record {
         failing = short.failing;
         prefix = λ others.
-            let text = f.text m (stopping_at (p.reached.lines + 1) line why) in
+            let text = f.text k (stopping_at (p.reached.lines + 1) line why) in
             let is : (ran_from f env p m (line ∷ others)).text ≡ text = ap (λ (x : Ran M). x.text) (so.goes others) in
             let P : List ℕ → Type 0 = λ t. GainsPrefix a b t (status ≡ WriteFault) in
             subst P (sym is) short.prefix;
       }
 
-      over_at : (over : Over) → IsStopWritten f (p.reached.lines + 1) line why m n a b over
+      over_at : (over : Over) → IsStopWritten f (p.reached.lines + 1) line why k n a b over
           → IsOver f env p m line totals n a b over
       over_at (Stopped end) t = halts_at end t
       over_at (Faulted status) short = fails_at status short
 
       pub over_stop : (number : ℕ) → number ≡ p.reached.lines + 1 → (over : Over)
-          → IsStopWritten f number line why m n a b over → IsOver f env p m line totals n a b over
+          → IsStopWritten f number line why k n a b over → IsOver f env p m line totals n a b over
       over_stop number is over written =
-          let P : ℕ → Type 0 = λ k. IsStopWritten f k line why m n a b over in over_at over (subst P is written)
+          let P : ℕ → Type 0 = λ i. IsStopWritten f i line why k n a b over in over_at over (subst P is written)
 
     -- or memory ran out before that
     pub over_stopped : (why : LineError) (verdict : Verdict) → next_line env p line ≡ scripted verdict
         → IsLineError verdict why
         → (totals : Totals) → totals.lines ≡ p.lines + 1 → totals.octets ≡ p.octets + length line → (n : M)
         → (a b : Option (List ℕ)) → (number : ℕ) → number ≡ p.reached.lines + 1 → (over : Over)
-        → IsStopWritten f number line why m n a b over
+        → (seen : M) → seen ≡ k → IsStopWritten f number line why seen n a b over
         → (why ≡ error.NoMemory → (over ≡ Faulted NoMemory) × (b ≡ a)) → IsOver f env p m line totals n a b over
-    over_stopped (error.Refused why) verdict e is totals lines octets n a b number same over written none =
+    over_stopped (error.Refused why) verdict e is totals lines octets n a b number same over seen looks written none =
         over_stop (error.Refused why) (stops_so (error.Refused why) verdict e is (λ h. cc)) totals lines octets n a b
-        number same over written
-    over_stopped error.Foreign verdict e is totals lines octets n a b number same over written none =
+        number same over (subst (λ (x : M). IsStopWritten f number line (error.Refused why) x n a b over) looks written)
+    over_stopped error.Foreign verdict e is totals lines octets n a b number same over seen looks written none =
         over_stop error.Foreign (stops_so error.Foreign verdict e is (λ h. cc)) totals lines octets n a b number same
-        over
-        written
-    over_stopped error.NoMemory verdict e is totals lines octets n a b number same over written none =
+        over (subst (λ (x : M). IsStopWritten f number line error.Foreign x n a b over) looks written)
+    over_stopped error.NoMemory verdict e is totals lines octets n a b number same over seen looks written none =
         let nothing = none refl in
         let P : Over → Type 0 = λ x. IsOver f env p m line totals n a b x in
         let Q : Option (List ℕ) → Type 0 = λ x. Fails f env p m line a x NoMemory in
@@ -226,24 +229,29 @@ module _ {M : Type 0} (f : FormOf M) (env : RunEnvironment) (p : Passed) (m : M)
       stated = judged_line fit other ∙ ap (λ (v : Verdict). scripted v) taken
 
       at_is : lined number (shown_text line) report (Some next) ≡ taken_line p line report next
-      at_is = ap (λ (k : ℕ). lined k (shown_text line) report (Some next)) same
+      at_is = ap (λ (i : ℕ). lined i (shown_text line) report (Some next)) same
 
       pub passes_stated : (q : Passed) (n : M) (a b : Option (List ℕ)) → q.lines ≡ p.lines + 1
           → q.octets ≡ p.octets + length line → q.reached ≡ reached_after p.reached line report next
-          → n ≡ f.line m (lined number (shown_text line) report (Some next))
-          → GainsText a b (f.text m (lined number (shown_text line) report (Some next)))
+          → (seen : M) → seen ≡ k → n ≡ f.line seen (lined number (shown_text line) report (Some next))
+          → GainsText a b (f.text seen (lined number (shown_text line) report (Some next)))
           → Passes f env p m line q n a b
-      passes_stated q n a b lines octets reached kept gained =
-          let P : Lined → Type 0 = λ at. GainsText a b (f.text m at) in
+      passes_stated q n a b lines octets reached seen looks kept gained =
+          let P : Lined → Type 0 = λ at. GainsText a b (f.text k at) in
+          let at = lined number (shown_text line) report (Some next) in
           passes_taken report next stated q n a b (same_passed q (after_line p line report next) lines octets reached)
-          (kept ∙ ap (f.line m) at_is) (subst P at_is gained)
+          (kept ∙ ap (λ (x : M). f.line x at) looks ∙ ap (f.line k) at_is)
+          (subst P at_is (subst (λ (x : M). GainsText a b (f.text x at)) looks gained))
 
       pub fails_stated : (a b : Option (List ℕ)) (status : LabStatus)
-          → FallsShort (f.text m (lined number (shown_text line) report (Some next))) a b status
+          → (seen : M) → seen ≡ k
+          → FallsShort (f.text seen (lined number (shown_text line) report (Some next))) a b status
           → Fails f env p m line a b status
-      fails_stated a b status short =
-          let P : Lined → Type 0 = λ at. FallsShort (f.text m at) a b status in
-          fails_taken report next stated a b status (subst P at_is short)
+      fails_stated a b status seen looks short =
+          let P : Lined → Type 0 = λ at. FallsShort (f.text k at) a b status in
+          let at = lined number (shown_text line) report (Some next) in
+          fails_taken report next stated a b status
+          (subst P at_is (subst (λ (x : M). FallsShort (f.text x at) a b status) looks short))
 
 pub no_ending : (number : ℕ) (why : LineError) (end : Ending) → IsEndingOf number why end → why ≡ error.NoMemory → ⊥
 no_ending number (error.Refused why) end is e = cc

@@ -7,4 +7,5 @@ pub mod Rests
 pub mod NotesAfter
 pub mod ReadAgain
 pub mod Transcripts
+pub mod Scripts
 pub mod LastLines

@@ -25,7 +25,7 @@ use Rattle.lab_text.proofs.NoteTexts.{is_a_note, shown_of_whole}
 use Rattle.lab_text.proofs.TranscriptLaws.{lines_of_both}
 use Rattle.lab_lines.specs.Folding.{FormOf, Lined, NextLine, Passed, Ran, after_line, after_note, after_notes}
 use Rattle.lab_lines.specs.Folding.{after_stop}
-use Rattle.lab_lines.specs.Folding.{fits, lined, most_lines, most_octets, next_line, noted, ran_from}
+use Rattle.lab_lines.specs.Folding.{fits, lined, looked, most_lines, most_octets, next_line, noted, ran_from}
 use Rattle.lab_lines.specs.Folding.{scripted}
 use Rattle.lab_lines.specs.Folding.{stopping_line, stops, taken_line, with_text}
 use Rattle.lab_lines.specs.Transcript.{transcript_form}
@@ -151,6 +151,7 @@ module _ {M : Type 0} (g : FormOf M) where
 pub record ReadsAgain {M : Type 0} (g : FormOf M) (kept : List ℕ → List ℕ) (Q : M → Type 0) : Type 0 where
   pub none : kept [] ≡ []
   pub joined : (x y : List ℕ) → kept (x ++ y) ≡ kept x ++ kept y
+  pub look : (n : M) (state : State) (line : List ℕ) → Q n → Q (g.before n state line)
   pub text : (n : M) (at : Lined) → Q n → g.text n at ≡ kept (line_with_report at.line at.report)
   pub next : (n : M) (at : Lined) → Q n → Q (with_notes g (g.line n at) (line_texts at.report))
   pub last : (n : M) (at : Lined) → Q n → (passed octets : ℕ)
@@ -274,7 +275,8 @@ module _ (env : RunEnvironment) {M : Type 0} (g : FormOf M) (kept : List ℕ →
     module _ (verdict : Verdict) (e : next_line env p line ≡ scripted verdict) (report : ℕ → List ℕ)
         (end : ℕ → Ending) (goes : (x : Passed) (y : M) (l : List ℕ) (others : List (List ℕ))
         → next_line env x l ≡ scripted verdict → ran_from g env x y (l ∷ others)
-        ≡ stops g x y l others (stopping_line x l (report (x.reached.lines + 1))) (end (x.reached.lines + 1))) where
+        ≡ stops g x (looked g x y l) l others (stopping_line x l (report (x.reached.lines + 1)))
+        (end (x.reached.lines + 1))) where
       text : List ℕ
       text = line_with_report (shown_text line) (report (p.reached.lines + 1))
 
@@ -299,18 +301,20 @@ module _ (env : RunEnvironment) {M : Type 0} (g : FormOf M) (kept : List ℕ →
           let at_is : stopping_line q shown (report (q.reached.lines + 1)) ≡ at =
           ap (λ (k : ℕ). lined k (shown_text shown) (report k) None) number_is
           ∙ ap (λ (t : List ℕ). lined number t (report number) None) (shown_of_again line w) in
-          let is : ran_from g env q n (lines text) ≡ stops g q n shown others at (end number) =
+          let k = looked g q n shown in
+          let seen = r.look n q.reached.state (shown_text shown) held in
+          let is : ran_from g env q n (lines text) ≡ stops g q k shown others at (end number) =
           ap (ran_from g env q n) stopped_lines
           ∙ goes q n shown others (judged_again line w env p q same ls others room here verdict e)
-          ∙ ap (λ (x : Lined). stops g q n shown others x (end (q.reached.lines + 1))) at_is
-          ∙ ap (λ (k : ℕ). stops g q n shown others at (end k)) number_is in
+          ∙ ap (λ (x : Lined). stops g q k shown others x (end (q.reached.lines + 1))) at_is
+          ∙ ap (λ (i : ℕ). stops g q k shown others at (end i)) number_is in
           let kept_room = room_more q.lines q.octets shown others here in
           let P : Ran M → Type 0 = λ x. SameEnd kept Q (stops transcript_form p (tt {0}) line ls
           (stopping_line p line (report number)) (end number)) x in
           subst P (sym is) (record {
-            text = r.text n at held;
+            text = r.text k at seen;
             ending = refl;
-            form = r.last n at held (q.lines + 1) (q.octets + length shown) kept_room (notes_more shown others fit);
+            form = r.last k at seen (q.lines + 1) (q.octets + length shown) kept_room (notes_more shown others fit);
           })
 
     -- it is taken
@@ -346,21 +350,23 @@ module _ (env : RunEnvironment) {M : Type 0} (g : FormOf M) (kept : List ℕ →
           let reached_is : (passed_notes y ts).reached ≡ reached_after p.reached line report next =
           left.same ∙ ap (λ (x : Reached). reached_after x shown report next) same
           ∙ ap (λ (t : List ℕ). reached_after p.reached t report next) line_is in
-          let k = with_notes g (g.line n at) ts in
-          let last = rest (after_line p line report next) (passed_notes y ts) k reached_is (r.next n at held)
+          let k = looked g q n shown in
+          let seen = r.look n q.reached.state (shown_text shown) held in
+          let m = with_notes g (g.line k at) ts in
+          let last = rest (after_line p line report next) (passed_notes y ts) m reached_is (r.next k at seen)
           (room_more p.lines p.octets line ls room) left.room left.notes in
-          let final = ran_from g env (passed_notes y ts) k more in
+          let final = ran_from g env (passed_notes y ts) m more in
           let is : ran_from g env q n (lines (line_with_report (shown_text line) report ++ after_it.text))
-          ≡ with_text (g.text n at) final =
+          ≡ with_text (g.text k at) final =
           ap (ran_from g env q n) taken_lines
           ∙ by_next g env q n shown (scripted (says report next))
           (judged_again line w env p q same ls others room here (says report next) e) others
-          ∙ ap (λ (x : Lined). with_text (g.text n x) (ran_from g env y (g.line n x) others)) at_is
-          ∙ ap (with_text (g.text n at)) (notes_pass g env y (g.line n at) ts more y_room y_fit) in
+          ∙ ap (λ (x : Lined). with_text (g.text k x) (ran_from g env y (g.line k x) others)) at_is
+          ∙ ap (with_text (g.text k at)) (notes_pass g env y (g.line k at) ts more y_room y_fit) in
           let P : Ran M → Type 0 = λ x.
           SameEnd kept Q (with_text (line_with_report (shown_text line) report) after_it) x in
           subst P (sym is) (record {
-            text = ap (λ (t : List ℕ). t ++ final.text) (r.text n at held)
+            text = ap (λ (t : List ℕ). t ++ final.text) (r.text k at seen)
                 ∙ ap (λ (t : List ℕ). kept (line_with_report (shown_text line) report) ++ t) last.text
                 ∙ sym (r.joined (line_with_report (shown_text line) report) after_it.text);
             ending = last.ending;

@@ -24,7 +24,7 @@ use Rattle.lab_lines.specs.Carrying.{Fails, Halts, Passes}
 use Rattle.lab_lines.specs.Carrying.{after_feed, after_stop_at, ran, through_feed}
 use Rattle.lab_lines.specs.Folding.{FormOf, Lined, NextLine, Passed, Ran, after_stop, lined, next_line}
 use Rattle.lab_lines.specs.Folding.{noted}
-use Rattle.lab_lines.specs.Folding.{after_line, after_note, after_notes}
+use Rattle.lab_lines.specs.Folding.{after_line, after_note, after_notes, looked}
 use Rattle.lab_lines.specs.Folding.{ran_from, scripted, taken_line, with_text}
 use Rattle.lab_lines.specs.Written.{can_be_judged}
 use Rattle.lab_lines.proofs.Folds.{StopsSo, by_next, line_beyond, no_lines, stops_so}
@@ -51,7 +51,11 @@ lines_read {M} f env p m (line ∷ others) =
           (omega (arith, grows (after_note p line) (f.note m line)))
       by_line grows (scripted (says report next)) e =
           rw (by_next f env p m line (scripted (says report next)) e others)
-          (omega (arith, grows (after_line p line report next) (f.line m (taken_line p line report next))))
+          (omega (
+            arith,
+            grows (after_line p line report next)
+                (f.line (looked f p m line) (taken_line p line report next)),
+          ))
       by_line grows (scripted (refused why)) e =
           rw (by_next f env p m line (scripted (refused why)) e others) (omega arith)
       by_line grows (scripted foreign) e =
@@ -77,8 +81,8 @@ module _ {M : Type 0} (f : FormOf M) (env : RunEnvironment) (p : Passed) (m : M)
       let here = long_stops leading more long in
       let bare = bare_stops leading long in
       let number = p.reached.lines + 1 in
-      let at : List ℕ → List ℕ = λ shown.
-      f.text m (lined number shown (line_error_text number (error.Refused Limit)) None) in
+      let at : List ℕ → List ℕ = λ shown. f.text (f.before m p.reached.state shown)
+      (lined number shown (line_error_text number (error.Refused Limit)) None) in
       ap (λ (r : Ran M). r.text) (here.goes others) ∙ ap at (long_shown leading long more)
       ∙ sym (ap (λ (r : Ran M). r.text) (bare.goes []))
 
@@ -103,6 +107,9 @@ module _ {M : Type 0} (f : FormOf M) (env : RunEnvironment) (p : Passed) (m : M)
       seen : List ℕ → Lined
       seen shown = lined (p.reached.lines + 1) shown (line_error_text (p.reached.lines + 1) (error.Refused Limit)) None
 
+      look : List ℕ → M
+      look shown = f.before m p.reached.state shown
+
       end_is : (line' : List ℕ) (so : StopsSo f env p m line' (error.Refused Limit))
           → so.ending ≡ an_ending.Refused (p.reached.lines + 1) 4
       end_is line' so = sym (so.only (an_ending.Refused (p.reached.lines + 1) 4) refl)
@@ -110,16 +117,17 @@ module _ {M : Type 0} (f : FormOf M) (env : RunEnvironment) (p : Passed) (m : M)
       long_real : (more : List ℕ) → ran_from f env p m (lines (line ++ more))
           ≡ ran halts.text (after_stop f totals.lines (totals.octets + length (through_feed more)) n
           (lines (after_feed more))) ending totals.lines
-      unfolding seen
+      unfolding seen look
       long_real more =
           let tail = through_feed more in
           let others = lines (after_feed more) in
           let here = long_stops line tail long in
           let bare = bare_stops line long in
           let both = sym (bare.goes []) ∙ halts.goes [] in
-          let texts : f.text m (seen (shown_text line)) ≡ halts.text = ap (λ (r : Ran M). r.text) both in
-          let forms : f.line m (seen (shown_text line)) ≡ n =
-          sym (nothing_after (p.lines + 1) (p.octets + length line) (f.line m (seen (shown_text line))))
+          let shown = shown_text line in
+          let texts : f.text (look shown) (seen shown) ≡ halts.text = ap (λ (r : Ran M). r.text) both in
+          let forms : f.line (look shown) (seen shown) ≡ n =
+          sym (nothing_after (p.lines + 1) (p.octets + length line) (f.line (look shown) (seen shown)))
           ∙ ap (λ (r : Ran M). r.form) both ∙ nothing_after totals.lines totals.octets n in
           let ends : here.ending ≡ ending = end_is (line ++ tail) here ∙ sym (end_is line bare)
           ∙ ap (λ (r : Ran M). r.ending) both in
@@ -127,9 +135,10 @@ module _ {M : Type 0} (f : FormOf M) (env : RunEnvironment) (p : Passed) (m : M)
           omega (arith, halts.octets, length-append line tail) in
           let go : List ℕ → ℕ → ℕ → M → Ending → Ran M = λ t l o x e. ran t (after_stop f l o x others) e l in
           let by_shown : List ℕ → Ran M = λ t.
-          go (f.text m (seen t)) (p.lines + 1) (p.octets + length (line ++ tail)) (f.line m (seen t)) here.ending in
+          go (f.text (look t) (seen t)) (p.lines + 1) (p.octets + length (line ++ tail)) (f.line (look t) (seen t))
+          here.ending in
           let by_text : List ℕ → Ran M = λ t.
-          go t (p.lines + 1) (p.octets + length (line ++ tail)) (f.line m (seen (shown_text line))) here.ending in
+          go t (p.lines + 1) (p.octets + length (line ++ tail)) (f.line (look shown) (seen shown)) here.ending in
           let by_form : M → Ran M = λ x. go halts.text (p.lines + 1) (p.octets + length (line ++ tail)) x here.ending in
           let by_octets : ℕ → Ran M = λ o. go halts.text (p.lines + 1) o n here.ending in
           let by_lines : ℕ → Ran M = λ l. go halts.text l (totals.octets + length tail) n here.ending in

@@ -94,6 +94,7 @@ transcribes_again : ReadsAgain transcript_form (λ (t : List ℕ). t) (λ (n : U
 transcribes_again = record {
   none = refl;
   joined = λ x y. refl;
+  look = λ n state line held. held;
   text = λ n at held. refl;
   next = λ n at held. tt;
   last = λ n at held passed octets room notes. tt;
@@ -191,6 +192,7 @@ checks_again : ReadsAgain check_form (λ (t : List ℕ). []) NoneDiffers
 checks_again = record {
   none = refl;
   joined = λ x y. refl;
+  look = λ n state line held. held;
   text = λ n at held. check_same n held;
   next = with_report;
   last = λ n at held passed octets room notes.

@@ -63,6 +63,7 @@ checked_outcome c = record {
 abbrev pub check_form : FormOf Checked
 check_form = record {
   note = with_note;
+  before = λ c state line. c;
   line = with_line;
   text = λ c at. last_text c;
   end = λ c ending. checked_outcome c;

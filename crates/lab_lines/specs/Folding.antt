@@ -34,7 +34,9 @@ lined number line report after = record { number = number; line = line; report =
 pub record FormOf (M : Type 0) : Type 0 where
   -- What it keeps after a note,
   pub note : M → List ℕ → M
-  -- and after a line of the script.
+  -- before a line of the script, of what the lines before it came to and of the line as it is shown,
+  pub before : M → State → List ℕ → M
+  -- and after that line.
   pub line : M → Lined → M
   -- What it writes of a line of the script,
   pub text : M → Lined → List ℕ
@@ -134,22 +136,31 @@ taken_line p line report next = lined (p.reached.lines + 1) (shown_text line) re
 abbrev pub stopping_line : Passed → List ℕ → List ℕ → Lined
 stopping_line p line report = lined (p.reached.lines + 1) (shown_text line) report None
 
--- A line, and then the others. A line that no row judges would end the script as refused under 0, which is the number
--- of no refusal.
+-- A line of the script that is judged so, and then the others. A line that no row judges would end the script as
+-- refused under 0, which is the number of no refusal.
+abbrev pub ran_scripted : {M : Type 0} → FormOf M → (Passed → M → Ran M) → Passed → M → List ℕ → List (List ℕ) → Verdict
+    → Ran M
+ran_scripted f go p m line others (says report next) =
+    with_text (f.text m (taken_line p line report next))
+    (go (after_line p line report next) (f.line m (taken_line p line report next)))
+ran_scripted f go p m line others (refused why) =
+    stops f p m line others (stopping_line p line (refusal_text (p.reached.lines + 1) why))
+    (ending.Refused (p.reached.lines + 1) (refusal_number why))
+ran_scripted f go p m line others foreign =
+    stops f p m line others (stopping_line p line (foreign_text (p.reached.lines + 1)))
+    (ending.Foreign (p.reached.lines + 1))
+ran_scripted f go p m line others unjudged =
+    stops f p m line others (stopping_line p line []) (ending.Refused (p.reached.lines + 1) 0)
+
+-- What a form keeps before a line of the script.
+abbrev pub looked : {M : Type 0} → FormOf M → Passed → M → List ℕ → M
+looked f p m line = f.before m p.reached.state (shown_text line)
+
+-- A line, and then the others.
 abbrev pub ran_line : {M : Type 0} → FormOf M → (Passed → M → Ran M) → Passed → M → List ℕ → List (List ℕ) → NextLine
     → Ran M
 ran_line f go p m line others noted = go (after_note p line) (f.note m line)
-ran_line f go p m line others (scripted (says report next)) =
-    with_text (f.text m (taken_line p line report next))
-    (go (after_line p line report next) (f.line m (taken_line p line report next)))
-ran_line f go p m line others (scripted (refused why)) =
-    stops f p m line others (stopping_line p line (refusal_text (p.reached.lines + 1) why))
-    (ending.Refused (p.reached.lines + 1) (refusal_number why))
-ran_line f go p m line others (scripted foreign) =
-    stops f p m line others (stopping_line p line (foreign_text (p.reached.lines + 1)))
-    (ending.Foreign (p.reached.lines + 1))
-ran_line f go p m line others (scripted unjudged) =
-    stops f p m line others (stopping_line p line []) (ending.Refused (p.reached.lines + 1) 0)
+ran_line f go p m line others (scripted verdict) = ran_scripted f go p (looked f p m line) line others verdict
 
 -- A form over lines that follow those that were passed.
 unfoldable pub ran_from : {M : Type 0} → FormOf M → RunEnvironment → Passed → M → List (List ℕ) → Ran M

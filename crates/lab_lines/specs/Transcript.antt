@@ -19,6 +19,7 @@ status_at (ending.Foreign line) = Foreign
 abbrev pub transcript_form : FormOf (Unit {0})
 transcript_form = record {
   note = λ m note. m;
+  before = λ m state line. m;
   line = λ m at. m;
   text = λ m at. line_with_report at.line at.report;
   end = λ m ending. record { text = []; status = status_at ending };

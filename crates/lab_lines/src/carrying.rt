@@ -68,14 +68,7 @@ pub(crate) fn pass_line<R: Threads + Sync, F: Form, K: Sink, N: Net + Sync, D: D
     let fits = totals.fits(line);
     totals.count(line);
     if !fits {
-        return Err(stop_at(
-            number,
-            line,
-            LineError::Refused(Refusal::Limit),
-            form,
-            page,
-            sink,
-        ));
+        return Err(stop_beyond(number, &script, line, form, page, sink));
     }
     if is_note(line) {
         return match form.note(line) {
@@ -83,6 +76,9 @@ pub(crate) fn pass_line<R: Threads + Sync, F: Form, K: Sink, N: Net + Sync, D: D
             Err(_) => Err(Over::Faulted(LabStatus::NoMemory)),
         };
     }
+    let Ok(()) = look(&script, line, form) else {
+        return Err(Over::Faulted(LabStatus::NoMemory));
+    };
     match script.take(rt, line, &mut page.report, net, draws) {
         Ok(next) => match write_line(number, line, Some(&next), form, page, sink) {
             Ok(()) => Ok(next),
@@ -90,6 +86,37 @@ pub(crate) fn pass_line<R: Threads + Sync, F: Form, K: Sink, N: Net + Sync, D: D
         },
         Err(error) => Err(stop_at(number, line, error, form, page, sink)),
     }
+}
+
+// Lets the form look at the script before a line of it.
+fn look<F: Form>(script: &Script, line: &[u8], form: &mut F) -> Result<(), AllocError>
+    ensures { OnOk result
+        (form.new ≡ F.form.before form.old (reached script.now).state (shown_text line.now)) }
+{
+    form.before(script, shown_text(line))
+}
+
+// The same of a line beyond the limits, and writes that the script stops at it.
+fn stop_beyond<F: Form, K: Sink>(
+    number: u32,
+    script: &Script,
+    line: &[u8],
+    form: &mut F,
+    page: &mut Page,
+    sink: &mut K,
+) -> Over
+    ensures stops { IsStopWritten F.form number line.now (LineError.Refused Refusal.Limit)
+        (F.form.before form.old (reached script.now).state (shown_text line.now)) form.new
+        (K.out sink.old) (K.out sink.new) result }
+    ensures risen { result ≡ Over.Faulted LabStatus.WriteFault
+        → HasRisen (K.faults sink.old) (K.faults sink.new) }
+    ensures faults { K.faults sink.old ≤ K.faults sink.new }
+{
+    let Ok(()) = look(script, line, form) else {
+        return Over::Faulted(LabStatus::NoMemory);
+    };
+    let beyond = LineError::Refused(Refusal::Limit);
+    stop_at(number, line, beyond, form, page, sink)
 }
 
 // Writes that the script stops so at the line of this number.

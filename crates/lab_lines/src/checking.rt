@@ -115,6 +115,10 @@ impl Form for Checking {
         Ok(())
     }
 
+    fn before(&mut self, _: &Script, _: &[u8]) -> Result<(), AllocError> {
+        Ok(())
+    }
+
     fn line(
         &mut self,
         number: u32,

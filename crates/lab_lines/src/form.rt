@@ -22,6 +22,11 @@ pub trait Form {
     fn note(&mut self, note: &[u8]) -> Result<(), AllocError>
         ensures { OnOk result (self.new ≡ form.note self.old note.now) };
 
+    /// Looks at the script before a line of it, which has no line feed here, whether it is then taken or stops the
+    /// script.
+    fn before(&mut self, script: &Script, line: &[u8]) -> Result<(), AllocError>
+        ensures { OnOk result (self.new ≡ form.before self.old (reached script.now).state line.now) };
+
     /// Takes a line of the script, without its line feed: its number among them, its report, and the script after it.
     /// At the line that stops the script the report says so, and there is none after it.
     fn line(

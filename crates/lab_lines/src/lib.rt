@@ -16,6 +16,8 @@ mod transcribing;
 
 pub use checking::check;
 pub use form::Form;
-pub use laws::{a_transcript_is_its_own_transcript, a_transcript_is_the_same};
+pub use laws::{
+    a_transcript_has_the_script, a_transcript_is_its_own_transcript, a_transcript_is_the_same,
+};
 pub use reading::run_form;
 pub use transcribing::transcript;

@@ -68,6 +68,10 @@ impl Form for Transcribing {
         Ok(())
     }
 
+    fn before(&mut self, _: &Script, _: &[u8]) -> Result<(), AllocError> {
+        Ok(())
+    }
+
     fn line(
         &mut self,
         _: u32,

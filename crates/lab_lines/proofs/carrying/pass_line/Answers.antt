@@ -5,7 +5,7 @@ use Rattle.script_story.specs.Story.{judged_next}
 use Rattle.script_lines.specs.declared.error.LineError.TheVariants as error
 use Rattle.script_lines.specs.Scripts.{reached}
 use Rattle.lab_lines.specs.Carrying.{passed}
-use Rattle.lab_lines.specs.Folding.{after_note}
+use Rattle.lab_lines.specs.Folding.{after_note, looked}
 use Rattle.lab_lines.proofs.Folds.{fails_stated, judged_line, line_beyond, noted_line, over_stopped, passes_note}
 use Rattle.lab_lines.proofs.Folds.{passes_stated, same_passed}
 use Rattle.lab_lines.proofs.carrying.pass_line.Goals as goal
@@ -17,9 +17,10 @@ returns-then-not-fits-clause-over g c =
     let p = passed c.args.totals.now (reached c.args.script) in
     over_stopped f env p c.args.form.now c.args.line.now (error.Refused Limit) (refused Limit)
     (line_beyond f env p c.args.form.now c.args.line.now (sym c.fits-fits.ensures ∙ c.if-not-fits.true)) refl
-    c.count.new.self c.count.ensures.lines c.count.ensures.octets c.stop_at.new.form (g.K.Sink.out c.args.sink.now)
-    (g.K.Sink.out c.stop_at.new.sink) c.next_line-number.result c.next_line-number.ensures c.stop_at.result
-    c.stop_at.ensures.stops c.stop_at.ensures.no_memory
+    c.count.new.self c.count.ensures.lines c.count.ensures.octets c.stop_beyond.new.form
+    (g.K.Sink.out c.args.sink.now) (g.K.Sink.out c.stop_beyond.new.sink) c.next_line-number.result
+    c.next_line-number.ensures c.stop_beyond.result
+    (looked f p c.args.form.now c.args.line.now) refl c.stop_beyond.ensures.stops (λ h. cc)
 
 pub returns-in-Ok-clause-passes : goal.returns-in-Ok-clause-passes
 returns-in-Ok-clause-passes g c =
@@ -42,7 +43,7 @@ returns-in-Ok-write_line-clause-passes g c =
     c.in-Ok-take.ensures.taken c.next_line-number.result c.next_line-number.ensures
     (passed c.count.new.self (reached c.in-Ok-take.next)) c.write_line.new.form (g.K.Sink.out c.args.sink.now)
     (g.K.Sink.out c.write_line.new.sink) c.count.ensures.lines c.count.ensures.octets c.in-Ok-take.ensures.reached
-    c.in-Ok-write_line.ensures.kept c.in-Ok-write_line.ensures.writes
+    c.look.new.form c.in-Ok-look.ensures c.in-Ok-write_line.ensures.kept c.in-Ok-write_line.ensures.writes
 
 pub returns-in-Err-write_line-clause-over : goal.returns-in-Err-write_line-clause-over
 returns-in-Err-write_line-clause-over g c =
@@ -53,7 +54,7 @@ returns-in-Err-write_line-clause-over g c =
     (sym c.is_note.ensures ∙ c.if-is_note.false) c.take.new.report.items (reached c.in-Ok-take.next).state
     c.in-Ok-take.ensures.taken c.next_line-number.result c.next_line-number.ensures
     (g.K.Sink.out c.args.sink.now) (g.K.Sink.out c.write_line.new.sink) c.in-Err-write_line.status
-    c.in-Err-write_line.ensures.writes
+    c.look.new.form c.in-Ok-look.ensures c.in-Err-write_line.ensures.writes
 
 pub returns-in-Err-take-clause-over : goal.returns-in-Err-take-clause-over
 returns-in-Err-take-clause-over g c =
@@ -65,6 +66,6 @@ returns-in-Err-take-clause-over g c =
     (judged_next env p.reached c.args.line.now)
     (judged_line f env p c.args.form.now c.args.line.now fit (sym c.is_note.ensures ∙ c.if-is_note.false))
     c.in-Err-take.ensures.stopped c.count.new.self c.count.ensures.lines c.count.ensures.octets
-    c.stop_at-in-Err-take.new.form (g.K.Sink.out c.args.sink.now) (g.K.Sink.out c.stop_at-in-Err-take.new.sink)
-    c.next_line-number.result c.next_line-number.ensures c.stop_at-in-Err-take.result
-    c.stop_at-in-Err-take.ensures.stops c.stop_at-in-Err-take.ensures.no_memory
+    c.stop_at.new.form (g.K.Sink.out c.args.sink.now) (g.K.Sink.out c.stop_at.new.sink)
+    c.next_line-number.result c.next_line-number.ensures c.stop_at.result
+    c.look.new.form c.in-Ok-look.ensures c.stop_at.ensures.stops c.stop_at.ensures.no_memory
