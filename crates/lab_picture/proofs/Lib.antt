@@ -1,0 +1,7 @@
+mod Belows
+mod CharacterData
+mod Drawings
+mod Eachs
+mod Markups
+mod MirrorCounts
+mod WordReads

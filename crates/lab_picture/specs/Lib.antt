@@ -1,0 +1,10 @@
+pub use Rattle.repo_io.specs.Outside
+pub use Rattle.lab_text.specs.Outcomes
+pub mod Svg
+pub mod Words
+pub mod Marks
+pub mod Page
+pub mod Sights
+pub mod Drawn
+pub mod Pictures
+pub mod Laws
