@@ -1,0 +1,5 @@
+mod SameValuesLaws
+mod Vectors
+mod Noted
+mod MemberValues
+mod MirrorValues

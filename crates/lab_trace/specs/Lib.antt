@@ -1,0 +1,9 @@
+pub use Rattle.repo_io.specs.Outside
+pub use Rattle.lab_text.specs.Outcomes
+pub use Rattle.lab_lines.specs.Written
+pub mod SameValues
+pub mod NoteTexts
+pub mod Changes
+pub mod StateNotes
+pub mod Trace
+pub mod Laws
