@@ -1,11 +1,15 @@
 #!/usr/bin/env python3
-"""Runs the examples of README, docs/SCRIPT.md and docs/COMMANDS.md, and compares what is printed with what stands there.
+"""Runs the examples of README, docs/SCRIPT.md, docs/COMMANDS.md and docs/LAB.md, and compares what is printed with what
+stands there.
 
-    python3 tools/doc_examples.py [--program FILE | --program model]
+    python3 tools/doc_examples.py [--program FILE | --program model | --lab FILE]
 
 An example is a block of code, the word `prints`, and a block of what is printed; or a sentence that ends with
 `ndnrepo gen ..` prints. A script that names no group follows the first block of its page. Two digits at the beginning
-make an input of `inspect`. The exit status is 1 where something else is printed, or where a page has no example.
+make an input of `inspect`. In LAB.md a sentence that ends with `prints` names the words of `ndnlab` and perhaps a file,
+or means the last words that were named; a sentence that ends with a colon comes before a script, and may name its file.
+With --lab, which names the program `ndnlab`, the examples of LAB.md are run, and else those of the other pages. The exit
+status is 1 where something else is printed, or where a page has no example.
 """
 import argparse
 import pathlib
@@ -15,6 +19,8 @@ import sys
 
 TOP = pathlib.Path(__file__).resolve().parent.parent
 PAGES = ("README.md", "docs/SCRIPT.md", "docs/COMMANDS.md")
+# The exit status of the lab by the first word of what it prints last.
+STATUSES = {"differs": 7, "refused": 2}
 
 
 def pieces(text):
@@ -49,17 +55,54 @@ def examples(text):
                 yield ["run"], given if given.startswith("group") else f"{first}\n{given}", wanted
 
 
+def lab_examples(text):
+    """The words, the input and the wanted output of each example of the lab."""
+    files, words, name = {}, [], "script"
+    found = [it for it in pieces(text) if it[1]]
+    for (is_code, said), (after, block) in zip(found, found[1:]):
+        named = re.findall(r"`ndnlab ([^`<]+?)(?: < ([\w.]+))?`", said)
+        if is_code or not after or not (said.endswith(("prints", ":"))):
+            words = named[-1][0].split() if named and not is_code else words
+            continue
+        if said.endswith(":"):
+            words = named[-1][0].split() if named else words
+            name = (re.findall(r"`(\w+\.script)`", said) or ["script"])[-1]
+            files[name] = block
+            continue
+        if named:
+            words, name = named[-1][0].split(), named[-1][1] or name
+        given = files[name]
+        change = re.match(r"With `(.+?)` in place of `(.+?)` in the last line", said.replace("\n", " "))
+        if change:
+            before, last = given.rsplit("\n", 1)
+            given = f"{before}\n{last.replace(change[2], change[1])}"
+        if words == ["transcript"]:
+            files[name.replace(".script", ".transcript")] = block
+        yield words, given, block
+
+
+def all_examples(lab):
+    """The examples of each page."""
+    if lab:
+        yield "docs/LAB.md", lab_examples((TOP / "docs/LAB.md").read_text())
+        return
+    for page in PAGES:
+        yield page, examples((TOP / page).read_text())
+
+
 def main():
     asked = argparse.ArgumentParser(description=__doc__, formatter_class=argparse.RawDescriptionHelpFormatter)
     asked.add_argument("--program", default=str(TOP / "crates/ndnrepo/out/ndnrepo"))
+    asked.add_argument("--lab")
     given = asked.parse_args()
-    program = [sys.executable, TOP / "tools/model.py"] if given.program == "model" else [given.program]
+    program = [sys.executable, TOP / "tools/model.py"] if given.program == "model" else [given.lab or given.program]
     wrong = 0
-    for page in PAGES:
+    for page, found in all_examples(given.lab):
         same = 0
-        for words, script, wanted in examples((TOP / page).read_text()):
+        for words, script, wanted in found:
             ran = subprocess.run([*program, *words], input=f"{script}\n".encode(), capture_output=True)
-            if ran.returncode == 0 and ran.stdout.decode() == f"{wanted}\n":
+            ends = STATUSES.get(wanted.split("\n")[-1].split()[0], 0) if given.lab else 0
+            if ran.returncode == ends and ran.stdout.decode() == f"{wanted}\n":
                 same += 1
             else:
                 wrong += 1

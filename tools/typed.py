@@ -1,10 +1,11 @@
 #!/usr/bin/env python3
-"""Types transcripts into `ndnlab transcript`, and sees that each line is answered before the next one is given.
+"""Types scripts into `ndnlab transcript` and `ndnlab trace`, and sees that each line is answered before the next one is
+given.
 
-    python3 tools/typed.py PROGRAM TRANSCRIPT ..
+    python3 tools/typed.py PROGRAM FILE ..
 
-The program's input stays open. After each line of the script this waits until the program has written that line and the
-report that stands after it in the transcript, at most 60 seconds.
+A file is NAME.transcript or NAME.trace. The program's input stays open. After each line of the script this waits until
+the program has written that line and the notes that stand after it in the file, at most 60 seconds.
 """
 import os
 import select
@@ -27,11 +28,11 @@ def read_exactly(pipe, octets):
     return came
 
 
-def answers(transcript):
+def answers(written):
     """Each line of the script, and what is to be written of it: the line and its notes."""
     parts = []
-    for line in transcript.splitlines(keepends=True):
-        if line.startswith(b"#> "):
+    for line in written.splitlines(keepends=True):
+        if line.startswith((b"#> ", b"#= ")):
             parts[-1][1] += line
         else:
             parts.append([line, line])
@@ -41,7 +42,8 @@ def answers(transcript):
 def type_in(program, path):
     with open(path, "rb") as file:
         parts = answers(file.read())
-    with subprocess.Popen([program, "transcript"], stdin=subprocess.PIPE, stdout=subprocess.PIPE, bufsize=0) as run:
+    form = path.rpartition(".")[2]
+    with subprocess.Popen([program, form], stdin=subprocess.PIPE, stdout=subprocess.PIPE, bufsize=0) as run:
         for line, wanted in parts:
             run.stdin.write(line)
             came = read_exactly(run.stdout, len(wanted))
@@ -56,7 +58,7 @@ def type_in(program, path):
 def main(program, paths):
     for path in paths:
         type_in(program, path)
-    print(f"typed: {len(paths)} transcripts were answered line by line")
+    print(f"typed: {len(paths)} scripts were answered line by line")
 
 
 main(sys.argv[1], sys.argv[2:])

@@ -65,7 +65,14 @@ fn lines_that_were_read_whole_are_written(rt: HostRuntime) {
 }
 
 // The words of each form.
-const FORMS: [&str; 4] = ["transcript", "check", "lint", "seeds 0 3 2"];
+const FORMS: [&str; 6] = [
+    "transcript",
+    "trace",
+    "check",
+    "lint",
+    "seeds 0 3 2",
+    "draw",
+];
 
 // Each call of the sink that is made fails in turn. Then a prefix of the text was written and not all of it, and once
 // none fails the whole.

@@ -11,6 +11,8 @@ mod faults;
 #[cfg(test)]
 mod limits;
 #[cfg(test)]
+mod pictures;
+#[cfg(test)]
 mod rows;
 #[cfg(test)]
 mod seeds;

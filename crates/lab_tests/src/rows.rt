@@ -21,7 +21,29 @@ pub(super) const FIRST: &str = "group /g\n\
     #> entry alice 1 /doc segments 1 octets 3 sha256 \
     ba7816bf8f01cfea414140de5dae2223b00361a396177a9cb410ff61f20015ad\n";
 
-// The same where another number is expected in bob's entry.
+// The script of the first page, with its reports, and what its members are after each line. The texts of traces in this
+// file were computed by `tools/traces.py`.
+const FIRST_TRACED: &str = "group /g\n\
+    member alice /alice 6b31\n\
+    member bob /bob 6b32\n\
+    publish alice /doc 10 text:abc\n\
+    #> publish alice 1 segments 1 sync 1\n\
+    #= alice steady until 28851 knows alice=1 bob=0 holds 2 wants 0 lists 1\n\
+    #= bob steady until 31601 knows alice=0 bob=0 holds 0 wants 0 lists 0\n\
+    settle 2\n\
+    #> settle syncs 2 kept 2\n\
+    #= alice steady until 30513 knows alice=1 bob=0 holds 2 wants 0 lists 1\n\
+    #= bob steady until 32688 knows alice=1 bob=0 holds 2 wants 0 lists 1\n\
+    catalogue alice\n\
+    #> catalogue alice 1\n\
+    #> entry alice 1 /doc segments 1 octets 3 sha256 \
+    ba7816bf8f01cfea414140de5dae2223b00361a396177a9cb410ff61f20015ad\n\
+    catalogue bob\n\
+    #> catalogue bob 1\n\
+    #> entry alice 1 /doc segments 1 octets 3 sha256 \
+    ba7816bf8f01cfea414140de5dae2223b00361a396177a9cb410ff61f20015ad\n";
+
+// The same script where another number is expected in bob's entry.
 const CHANGED: &str = "group /g\n\
     member alice /alice 6b31\n\
     member bob /bob 6b32\n\
@@ -55,7 +77,7 @@ const FOREIGN: &str = "group /g\n\
     #> foreign 4\n";
 
 // Words, an input, the status, and what is written.
-type Row = (&'static str, &'static str, LabStatus, &'static str);
+pub(super) type Row = (&'static str, &'static str, LabStatus, &'static str);
 
 // Forms that go line by line.
 const LINES: [Row; 19] = [
@@ -157,6 +179,48 @@ const LINES: [Row; 19] = [
     ),
 ];
 
+// Traces.
+const TRACES: [Row; 6] = [
+    ("trace", FIRST, LabStatus::Done, FIRST_TRACED),
+    ("trace 0", FIRST_TRACED, LabStatus::Done, FIRST_TRACED),
+    ("check", FIRST_TRACED, LabStatus::Done, "same 7\n"),
+    // Nothing is noted before the first event, and at the line that stops a script.
+    (
+        "trace",
+        "#= x\ngroup /g\nmember a /a 61\nsettle 0",
+        LabStatus::Refused,
+        "group /g\nmember a /a 61\nsettle 0\n#> refused 3 4 Limit\n",
+    ),
+    // Under another seed timers are due at other times. A claimed part is wanted still.
+    (
+        "trace 8",
+        "group /g\nmember alice /alice 6b31\nmember bob /bob 6b32\npublish alice /doc 10 text:abc\n\
+         deliver 1 bob\nclaim bob 1\nrestart bob\n",
+        LabStatus::Done,
+        "group /g\nmember alice /alice 6b31\nmember bob /bob 6b32\npublish alice /doc 10 text:abc\n\
+         #> publish alice 1 segments 1 sync 1\n\
+         #= alice steady until 28744 knows alice=1 bob=0 holds 2 wants 0 lists 1\n\
+         #= bob steady until 29354 knows alice=0 bob=0 holds 0 wants 0 lists 0\n\
+         deliver 1 bob\n\
+         #> deliver 1 bob steady\n\
+         #= bob steady until 28396 knows alice=1 bob=0 holds 0 wants 1 lists 0\n\
+         claim bob 1\n\
+         #> claim bob 1 part alice 1 0\n\
+         restart bob\n\
+         #> restart bob\n\
+         #= bob steady until 30992 knows alice=1 bob=0 holds 0 wants 1 lists 0\n",
+    ),
+    // A group without members has mirrors, and each is noted once where nothing happens.
+    (
+        "trace",
+        "group /g\nmirror m * /\nsettle 1\nsettle 1\n",
+        LabStatus::Done,
+        "group /g\nmirror m * /\n\
+         settle 1\n#> settle syncs 0 kept 0\n#= m knows holds 0 wants 0 lists 0\n\
+         settle 1\n#> settle syncs 0 kept 0\n",
+    ),
+];
+
 // Lines that are refused before anything is carried out.
 const LINTS: [Row; 4] = [
     ("lint", "", LabStatus::Done, "clean 0\n"),
@@ -209,7 +273,7 @@ const SEEDS: [Row; 4] = [
     ),
 ];
 
-fn expect_rows<R: Threads + Sync + AllocGlobal + Abort>(rt: &R, rows: &[Row]) {
+pub(super) fn expect_rows<R: Threads + Sync + AllocGlobal + Abort>(rt: &R, rows: &[Row]) {
     for (words, input, wanted, text) in rows {
         let mut source = source_of(rt, input.as_bytes(), 7, Vec::new(rt.alloc()));
         expect_from(rt, words, &mut source, *wanted, text);
@@ -219,6 +283,7 @@ fn expect_rows<R: Threads + Sync + AllocGlobal + Abort>(rt: &R, rows: &[Row]) {
 #[test]
 fn forms_write_what_they_find(rt: HostRuntime) {
     expect_rows(&rt, &LINES);
+    expect_rows(&rt, &TRACES);
     expect_rows(&rt, &LINTS);
     expect_rows(&rt, &SEEDS);
 }

@@ -6,15 +6,18 @@ use std::thread::Threads;
 
 // A line for each form.
 const USAGE: &str = "ndnlab transcript [SEED]\n\
+    ndnlab trace [SEED]\n\
     ndnlab check [SEED]\n\
     ndnlab lint\n\
-    ndnlab seeds FIRST LAST WORKERS\n";
+    ndnlab seeds FIRST LAST WORKERS\n\
+    ndnlab capture [SEED]\n\
+    ndnlab draw [SEED]\n";
 
-const OTHER_WORDS: [&str; 24] = [
+const OTHER_WORDS: [&str; 25] = [
     "",
     "run",
-    "trace",
-    "capture",
+    "traces",
+    "captures",
     "transcripts",
     "Lint",
     "transcript x",
@@ -25,8 +28,9 @@ const OTHER_WORDS: [&str; 24] = [
     "transcript -1",
     "transcript 18446744073709551616",
     "transcript 100000000000000000000",
+    "trace 1 2",
     "check 1.0",
-    "draw",
+    "draw 01",
     "lint 1",
     "seeds",
     "seeds 0 9",

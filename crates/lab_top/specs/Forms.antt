@@ -7,7 +7,7 @@ use Rattle.std.specs.Str.{bytes_eq}
 use Rattle.lab_top.specs.Words.{number_of}
 use Rattle.lab_top.specs.declared.asked.Span.{Span}
 use Rattle.lab_top.specs.declared.asked.Asked.{Asked}
-use Rattle.lab_top.specs.declared.asked.Asked.TheVariants.{Transcript, Check, Lint, Seeds}
+use Rattle.lab_top.specs.declared.asked.Asked.TheVariants.{Transcript, Trace, Check, Lint, Seeds, Capture, Draw}
 
 -- `[SEED]`: without one it is 0.
 abbrev pub seed_of : List (List ℕ) → Option ℕ
@@ -23,9 +23,12 @@ is_span s =
 -- What is asked for is within these limits.
 abbrev pub IsWithin : Asked → Type 0
 IsWithin (Transcript seed) = ⊤
+IsWithin (Trace seed) = ⊤
 IsWithin (Check seed) = ⊤
 IsWithin Lint = ⊤
 IsWithin (Seeds s) = is_span s ≡ true
+IsWithin (Capture seed) = ⊤
+IsWithin (Draw seed) = ⊤
 
 -- Seeds and workers, where these are numbers within the limits.
 abbrev pub span_from : Option ℕ → Option ℕ → Option ℕ → Option Span
@@ -47,9 +50,12 @@ alone (word ∷ others) = None
 abbrev pub form_of : List ℕ → List (List ℕ) → Option Asked
 form_of word others =
     if bytes_eq word (codes "transcript") then option_map Transcript (seed_of others)
+    else if bytes_eq word (codes "trace") then option_map Trace (seed_of others)
     else if bytes_eq word (codes "check") then option_map Check (seed_of others)
     else if bytes_eq word (codes "lint") then alone others
     else if bytes_eq word (codes "seeds") then option_map Seeds (span_of others)
+    else if bytes_eq word (codes "capture") then option_map Capture (seed_of others)
+    else if bytes_eq word (codes "draw") then option_map Draw (seed_of others)
     else None
 
 -- What the words of the command line ask for.

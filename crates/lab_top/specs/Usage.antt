@@ -5,8 +5,9 @@ use Rattle.std.specs.List.{flat_map}
 -- The words of each form: capitals stand for numbers, and what is in brackets may be left out.
 abbrev pub usage_lines : List (List ℕ)
 usage_lines =
-    codes "ndnlab transcript [SEED]" ∷ codes "ndnlab check [SEED]" ∷ codes "ndnlab lint"
-    ∷ codes "ndnlab seeds FIRST LAST WORKERS" ∷ []
+    codes "ndnlab transcript [SEED]" ∷ codes "ndnlab trace [SEED]" ∷ codes "ndnlab check [SEED]"
+    ∷ codes "ndnlab lint" ∷ codes "ndnlab seeds FIRST LAST WORKERS" ∷ codes "ndnlab capture [SEED]"
+    ∷ codes "ndnlab draw [SEED]" ∷ []
 
 -- Each on a line of its own.
 abbrev pub usage_text : List ℕ

@@ -9,12 +9,18 @@ use crate::words::number_of;
 pub(crate) enum Asked {
     // The script line by line, each with its report, under this seed.
     Transcript(u64),
+    // The same, and what each member and mirror is after each line.
+    Trace(u64),
     // Whether each line's report is the one that its notes expect, under this seed.
     Check(u64),
     // Each line that is refused before anything is carried out, and why.
     Lint,
     // How the script ends under each of many seeds.
     Seeds(Span),
+    // A capture of the packets, under this seed.
+    Capture(u64),
+    // A picture of what the members and mirrors did, under this seed.
+    Draw(u64),
 }
 
 // The seeds from the first to the last, and how many of them are tried at once.
@@ -35,9 +41,12 @@ pub(crate) fn asked_of(words: &[String]) -> Option<Asked>
     };
     match word.as_str() {
         "transcript" => seed_of(others).map(Asked::Transcript),
+        "trace" => seed_of(others).map(Asked::Trace),
         "check" => seed_of(others).map(Asked::Check),
         "lint" => alone(others),
         "seeds" => span_of(others).map(Asked::Seeds),
+        "capture" => seed_of(others).map(Asked::Capture),
+        "draw" => seed_of(others).map(Asked::Draw),
         _ => None,
     }
 }

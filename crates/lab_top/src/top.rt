@@ -6,19 +6,25 @@ ghost use Rattle.lab_top.specs.Lab.{ReadsInput, UsageIsOfWords, lab_outcome};
 ghost use Rattle.lab_top.specs.Usage.{usage_text};
 
 use crate::asked::{Asked, asked_of};
+use lab_capture::capture;
 use lab_lines::{check, transcript};
 use lab_lint::lint;
+use lab_picture::draw;
 use lab_seeds::{seeded, seeds};
 use lab_text::LabStatus;
+use lab_trace::trace;
 use repo_io::{Sink, Source, write_whole};
 use std::alloc::Global;
 use std::thread::Threads;
 
 // A line for each form.
 const USAGE: &str = "ndnlab transcript [SEED]\n\
+    ndnlab trace [SEED]\n\
     ndnlab check [SEED]\n\
     ndnlab lint\n\
-    ndnlab seeds FIRST LAST WORKERS\n";
+    ndnlab seeds FIRST LAST WORKERS\n\
+    ndnlab capture [SEED]\n\
+    ndnlab draw [SEED]\n";
 
 /// Does what the words ask for, over the script of the source, and writes its text to the sink. A seed decides the
 /// draws of the members and what the network loses; `ndnrepo run` has those of seed 0.
@@ -44,8 +50,8 @@ pub fn run_lab<R: Threads + Sync, S: Source, K: Sink>(
     ensures causes { HasCause (lab_outcome (asked_of (map string_bytes words.now)) (S.left source.old)) result
         (HasRisen (S.faults source.old) (S.faults source.new)) (HasRisen (K.faults sink.old) (K.faults sink.new)) }
 
-    // Each line of a transcript is written before the next one is looked for, and little is read past the line that
-    // stops the script.
+    // What a transcript, a trace or a capture has of a line is written before the next one is looked for, and little is
+    // read past the line that stops the script.
     ensures input { ReadsInput (asked_of (map string_bytes words.now)) (S.left source.old) (S.left source.new)
         (K.out sink.old) (K.out sink.new) result }
 {
@@ -77,6 +83,10 @@ fn run_form<R: Threads + Sync, S: Source, K: Sink>(
             let env = seeded(seed);
             transcript(rt, alloc, source, sink, &env, &env)
         }
+        Asked::Trace(seed) => {
+            let env = seeded(seed);
+            trace(rt, alloc, source, sink, &env, &env)
+        }
         Asked::Check(seed) => {
             let env = seeded(seed);
             check(rt, alloc, source, sink, &env, &env)
@@ -85,6 +95,14 @@ fn run_form<R: Threads + Sync, S: Source, K: Sink>(
         Asked::Seeds(span) => {
             let workers = span.workers as u32;
             seeds(rt, alloc, span.first, span.last, workers, source, sink)
+        }
+        Asked::Capture(seed) => {
+            let env = seeded(seed);
+            capture(rt, alloc, source, sink, &env, &env)
+        }
+        Asked::Draw(seed) => {
+            let env = seeded(seed);
+            draw(rt, alloc, source, sink, &env, &env)
         }
     }
 }

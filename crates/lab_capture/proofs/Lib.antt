@@ -1,0 +1,10 @@
+mod AskedNames
+mod Captured
+mod HeldLists
+mod Joined
+mod Mirrors
+mod PrintedAnswers
+mod Records
+mod Reports
+mod Texts
+mod Worlds

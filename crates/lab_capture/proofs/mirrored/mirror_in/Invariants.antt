@@ -1,0 +1,5 @@
+use Rattle.sorted_lists.specs.SortedList.{keys}
+use Rattle.lab_capture.proofs.mirrored.mirror_in.Given as goal
+
+abbrev pub ghost-of : goal.ghost-of
+ghost-of a = keys a.holder.now.store
