@@ -13,17 +13,17 @@ use Rattle.sorted_lists.proofs.Orders.{then_second}
 use Rattle.sorted_lists.proofs.TwoOrders.{first_le, then_then, nat_le, less_nat}
 use Rattle.sorted_lists.proofs.Sets.{eq_same, eq_itself}
 use Rattle.sorted_lists.proofs.MapChanges.{length-without}
-use Rattle.sorted_lists.proofs.RunOrder.{Le, lt_not_le, in_without, first_is, none_from_on}
+use Rattle.sorted_lists.proofs.RunOrder.{Le, le_itself, lt_not_le, in_without, first_is, none_from_on}
 use Rattle.sorted_lists.proofs.Members.{in_filtered, filter_whole}
 use Rattle.sorted_lists.proofs.LeastOnes.{le_both}
 use Rattle.sorted_lists.proofs.Lookups.{value_there}
 use Rattle.repo_plan.specs.declared.part.Part.{Part}
-use Rattle.repo_plan.specs.Parts.{Pair, pair_cmp, pair_of, part_cmp}
+use Rattle.repo_plan.specs.Parts.{Pair, pair_cmp, pair_of, part_cmp, part_of}
 use Rattle.repo_plan.specs.Plan.{is_in}
 use Rattle.repo_plan.proofs.Orders.{exact_pairs, exact_parts}
 use Rattle.repo_store.specs.PacketTable.{Held, PacketTableState}
 use Rattle.repo_store.specs.StoreList.{is_in_any}
-use Rattle.repo_store.specs.Slots.{AreSame, held_outside, held_outside_all}
+use Rattle.repo_store.specs.Slots.{AreSame, held_outside, held_outside_all, HasFew}
 use Rattle.repo_store.proofs.StoreLemmas.{outside_more}
 use Rattle.repo_store.proofs.IndexLemmas.{PartLe}
 
@@ -75,14 +75,16 @@ pair_up_to a b h =
     first_le (pair_cmp (pair_of a) (pair_of b)) (nat_cmp a.part b.part)
     (sym (ap is_le (then_then (nat_cmp a.publisher b.publisher) (nat_cmp a.seq b.seq) (nat_cmp a.part b.part))) ∙ h)
 
--- what stands between the first part of a publication and a part of it is of it too
-in_between : (pair : Pair) (t u : Part) → is_in pair u ≡ true → PartLe (first_of pair) t → PartLe t u
+-- what stands between two parts of a publication is of it too
+in_between : (pair : Pair) (low t u : Part) → is_in pair low ≡ true → is_in pair u ≡ true → PartLe low t → PartLe t u
     → is_in pair t ≡ true
-in_between pair t u inside low high =
+in_between pair low t u own inside above high =
     let to : PairLe (pair_of t) pair =
     subst (PairLe (pair_of t)) (sym (eq_same exact_pairs pair (pair_of u) inside)) (pair_up_to t u high) in
-    ap (eq_by_cmp pair_cmp pair) (sym (le_both exact_pairs pair (pair_of t) (pair_up_to (first_of pair) t low) to))
-    ∙ eq_itself exact_pairs pair
+    let from : PairLe pair (pair_of t) =
+    subst (λ (p : Pair). PairLe p (pair_of t)) (sym (eq_same exact_pairs pair (pair_of low) own))
+    (pair_up_to low t above) in
+    ap (eq_by_cmp pair_cmp pair) (sym (le_both exact_pairs pair (pair_of t) from to)) ∙ eq_itself exact_pairs pair
 
 first_up_to : (pair : Pair) (t : Part) → is_in pair t ≡ true → part_cmp t (first_of pair) ≢ Less
 first_up_to pair t inside less =
@@ -161,7 +163,9 @@ module _ (pair : Pair) (old now : PacketTableState) (d : Dropping pair old now) 
       let found = first_is exact_parts (first_of pair) now.held rises x is in
       elim (found.others h i) [
         | inl less ↦ first_up_to pair h.0 inside less
-        | inr high ↦ true≢false (sym (in_between pair x.0 h.0 inside found.above high) ∙ other)
+        | inr high ↦ true≢false
+          (sym (in_between pair (first_of pair) x.0 h.0 (eq_itself exact_pairs pair) inside found.above
+          high) ∙ other)
       ])
 
   -- the next one is gone, and there are fewer
@@ -170,6 +174,31 @@ module _ (pair : Pair) (old now : PacketTableState) (d : Dropping pair old now) 
   fewer_held new x rises i held =
       let less = length-without exact_parts.total x.0 x.1 now.held rises (value_there exact_parts now.held x rises i) in
       omega (arith, less, ap length held)
+
+-- ---- few parts
+
+-- what comes before a part of the publication has a lesser number
+lesser_number : (pair : Pair) (t : Part) (number : ℕ) → is_in pair t ≡ true → part_cmp t (part_of pair number) ≡ Less
+    → t.part < number
+lesser_number pair t number inside less =
+    let end : Part = part_of pair number in
+    later_part pair t end inside (eq_itself exact_pairs pair) (ap is_le less)
+    (λ e. lt_not_le exact_parts t end less (subst (λ (u : Part). PartLe end u) e (le_itself exact_parts end)))
+
+pub few_none : (pair : Pair) (held : List Held) → first_from part_cmp (part_of pair 4) held ≡ None → HasFew pair held
+few_none pair held none h i inside =
+    lesser_number pair h.0 4 inside (none_from_on exact_parts (part_of pair 4) held none h i)
+
+pub few_other : (pair : Pair) (held : List Held) (x : Held) → Rises part_cmp (keys held)
+    → first_from part_cmp (part_of pair 4) held ≡ Some x → is_in pair x.0 ≡ false → HasFew pair held
+few_other pair held x rises is other h i inside =
+    let from : Part = part_of pair 4 in
+    let found = first_is exact_parts from held rises x is in
+    elim (found.others h i) [
+      | inl less ↦ lesser_number pair h.0 4 inside less
+      | inr high ↦
+          absurd (true≢false (sym (in_between pair from x.0 h.0 (eq_itself exact_pairs pair) inside found.above high) ∙ other))
+    ]
 
 -- ---- the parts of many publications
 

@@ -1,5 +1,5 @@
 -- What the layers of names have, and how they change.
-use Rattle.std.proofs.Common.{◌≡◌, ℕ, ◌<◌, ◌≤◌, ◌==◌, inl, inr, Bool, true, false, not, List, [], ◌∷◌, ◌++◌, Option}
+use Rattle.std.proofs.Common.{◌≡◌, ℕ, ◌<◌, ◌≤◌, ◌==◌, inl, inr, Bool, true, false, cond, not, List, [], ◌∷◌, ◌++◌, Option}
 use Rattle.std.proofs.Common.{Some, None, Result, Ok, Err, append_assoc, refl, sym, ap, subst, ◌∙◌, arith}
 use Rattle.std.specs.Prelude.{◌&&◌, ◌||◌, max, OnOk, OnErr}
 use Rattle.std.specs.List.{filter}
@@ -24,7 +24,7 @@ use Rattle.repo_store.specs.PacketTable.{Slots, at, Held, PacketTableState}
 use Rattle.repo_store.specs.Slots.{held_outside_all}
 use Rattle.repo_store.specs.Indexes.{name_of, Key, key_cmp, key_in, AreInOrder, GainsOne}
 use Rattle.repo_store.specs.NameLayers.{all_of, LayersAreInOrder, HasRoom, HasSame, IsMerged, IsIndexOf, is_left}
-use Rattle.repo_store.specs.NameLayers.{left_of, is_slot, is_kept, WaitsStill}
+use Rattle.repo_store.specs.NameLayers.{is_slot, is_kept, WaitsStill, taken_out, left_unless}
 use Rattle.repo_store.proofs.IndexLemmas.{exact_keys}
 
 -- ---- what the layers have
@@ -195,6 +195,21 @@ left_outside (pair ∷ []) held h i = go (is_in pair h.0) where
   go false = refl
 left_outside (pair ∷ other ∷ pairs) held h i = looked_up (pair ∷ other ∷ pairs) held h i
 
+filter_within : (p q : Held → Bool) (xs : List Held) → ((h : Held) → In h xs → p h ≡ q h) → filter p xs ≡ filter q xs
+filter_within p q [] agree = refl
+filter_within p q (x ∷ xs) agree =
+    let rest : filter p xs ≡ filter q xs = filter_within p q xs (λ h i. agree h (inr i)) in
+    λ j. cond (agree x (inl refl) j) (x ∷ rest j) (rest j)
+
+-- what is taken out before is what goes otherwise
+pub left_either : (pairs : List Pair) (held : List Held) (taken : Bool) (xs : List Held)
+    → ((h : Held) → In h xs → In h held)
+    → left_unless taken pairs (held_outside_all pairs held) (taken_out taken pairs xs) ≡ held_outside_all pairs xs
+left_either pairs held true xs among = refl
+left_either pairs held false xs among =
+    filter_within (λ (h : Held). is_left pairs (held_outside_all pairs held) h.0)
+    (λ (h : Held). not (is_in_any pairs h.0)) xs (λ h i. left_outside pairs held h (among h i))
+
 module _ (old new : Slots) (held : List Held) (index : Names) (indexed : IsIndexOf old held index) where
   abbrev settled : List Held
   settled = index.settled.items
@@ -233,38 +248,32 @@ module _ (old new : Slots) (held : List Held) (index : Names) (indexed : IsIndex
     abbrev left : List Held
     left = held_outside_all pairs held
 
-    abbrev stays : Held → Bool
-    stays h = is_left pairs left h.0
-
     abbrev out : Held → Bool
     out h = not (is_in_any pairs h.0)
 
-    stays_held : (xs : List Held) → ((h : Held) → In h xs → In h held) → (h : Held) → In h (filter stays xs)
+    stays_held : (xs : List Held) → ((h : Held) → In h xs → In h held) → (h : Held) → In h (held_outside_all pairs xs)
         → In h left
     stays_held xs among h i =
-        let both = in_filtered stays xs h i in
-        let j = among h both.0 in
-        in_filter out held h j (sym (left_outside pairs held h j) ∙ both.1)
+        let both = in_filtered out xs h i in
+        in_filter out held h (among h both.0) both.1
 
-    layer_left : (xs after : List Held) → ((h : Held) → In h xs → In h held) → after ≡ left_of pairs left xs
+    layer_left : (xs after : List Held) → ((h : Held) → In h xs → In h held) → after ≡ held_outside_all pairs xs
         → AreInOrder old xs → AreInOrder new after
     layer_left xs after among is climbs =
         subst (AreInOrder new) (sym is)
-        (order_same old new (filter stays xs) (λ h i. same h (stays_held xs among h i))
-        (climbs_filter exact_keys (key_in old) stays xs climbs))
+        (order_same old new (held_outside_all pairs xs) (λ h i. same h (stays_held xs among h i))
+        (climbs_filter exact_keys (key_in old) out xs climbs))
 
-    left_stays : (xs : List Held) (h : Held) → In h left → In h xs → In h (filter stays xs)
-    left_stays xs h i j =
-        let both = in_filtered out held h i in
-        in_filter stays xs h j (left_outside pairs held h both.0 ∙ both.1)
+    left_stays : (xs : List Held) (h : Held) → In h left → In h xs → In h (held_outside_all pairs xs)
+    left_stays xs h i j = in_filter out xs h j (in_filtered out held h i).1
 
     left_rises : Rises part_cmp (keys left)
     left_rises =
         subst (Rises part_cmp) (sym (keys-filter exact_parts (λ t. not (is_in_any pairs t)) held))
         (rises_filter exact_parts.total (λ t. not (is_in_any pairs t)) (keys held) indexed.rises)
 
-    pub index_left : (after : Names) → after.settled.items ≡ left_of pairs left settled
-        → after.recent.items ≡ left_of pairs left recent → WaitsStill left waiting after.waiting.items
+    pub index_left : (after : Names) → after.settled.items ≡ held_outside_all pairs settled
+        → after.recent.items ≡ held_outside_all pairs recent → WaitsStill left waiting after.waiting.items
         → IsIndexOf new left after
     index_left after settled_is recent_is waits = record {
       rises = left_rises;

@@ -1,8 +1,9 @@
 -- Indexes of packets: what is held, in order of names and then of parts.
-use Rattle.std.specs.Prelude.{◌≡◌, ℕ, Bool, true, false, List, [], ◌∷◌, ◌++◌, Option, Some, None}
-use Rattle.std.specs.List.{starts_with}
+use Rattle.std.specs.Prelude.{◌≡◌, ℕ, ◌<◌, Bool, true, false, not, List, [], ◌∷◌, ◌++◌, length, drop, slice_get, Option}
+use Rattle.std.specs.Prelude.{Some, None}
+use Rattle.std.specs.List.{starts_with, filter}
 use Rattle.std.specs.Bool.{nat_eq}
-use Rattle.std.specs.Ordering.{nat_cmp, ordering_then, is_le}
+use Rattle.std.specs.Ordering.{nat_cmp, ordering_then, is_le, eq_by_cmp}
 use Rattle.std.specs.Cmp.Lexicographic.{slice_cmp, pointwise}
 use Rattle.std.specs.declared.cmp.Ordering.{Ordering}
 use Rattle.std.specs.declared.cmp.Ordering.TheVariants.{Less}
@@ -97,6 +98,28 @@ pub record AreAsked (slots : Slots) (held : List Held) (asked : List ℕ) (can_b
 -- One more is among these.
 abbrev pub GainsOne : Held → List Held → List Held → Type 0
 GainsOne h old new = HaveSame new (h ∷ old)
+
+-- Whether it is of this part.
+abbrev pub is_of : Part → Held → Bool
+is_of t h = eq_by_cmp part_cmp t h.0
+
+-- What is of other parts.
+abbrev pub outside_part : Part → List Held → List Held
+outside_part t held = filter (λ (h : Held). not (is_of t h)) held
+
+-- Nothing else is of its part.
+abbrev pub IsAlone : Held → List Held → Type 0
+IsAlone one held = (h : Held) → In h held → h.0 ≡ one.0 → h ≡ one
+
+-- Whether there is one, and it is of this part.
+abbrev pub is_one_of : Part → Option Held → Bool
+is_one_of t None = false
+is_one_of t (Some h) = is_of t h
+
+-- One of this part stands in this place; or there is none.
+abbrev pub IsFoundAt : Part → List Held → Option ℕ → Type 0
+IsFoundAt t held None = (h : Held) → In h held → is_of t h ≡ false
+IsFoundAt t held (Some place) = (place < length held) × (is_one_of t (slice_get (drop place held) 0) ≡ true)
 
 -- Whether its packet satisfies an Interest of this name.
 abbrev pub satisfies_held : Slots → List Component → Bool → Held → Bool

@@ -9,6 +9,7 @@ use Rattle.repo_plan.specs.Parts.{Pair, part_cmp}
 use Rattle.repo_plan.specs.Plan.{is_in}
 use Rattle.repo_store.specs.declared.names.Names.{Names}
 use Rattle.repo_store.specs.PacketTable.{Slots, Held, PacketTableState}
+use Rattle.repo_store.specs.Slots.{held_outside_all}
 use Rattle.repo_store.specs.Indexes.{is_asked, AreInOrder}
 
 -- All that the layers have.
@@ -63,6 +64,13 @@ pub record IsIndexOf (slots : Slots) (held : List Held) (index : Names) : Type 0
   pub recent : (h : Held) → In h index.recent.items → In h held
   pub all : (h : Held) → In h held → In h (all_of index)
 
+-- What is settled and what is recent are in order and held.
+pub record AreAmong (slots : Slots) (held : List Held) (l : Names) : Type 0 where
+  pub rises : Rises part_cmp (keys held)
+  pub in_order : LayersAreInOrder slots l
+  pub settled : (h : Held) → In h l.settled.items → In h held
+  pub recent : (h : Held) → In h l.recent.items → In h held
+
 -- Whether a part that was held still is, where all parts of these publications were dropped: with one publication that
 -- is compared, with more the part is looked up.
 abbrev pub is_left : List Pair → List Held → Part → Bool
@@ -73,3 +81,13 @@ is_left (pair ∷ other ∷ pairs) held t = contains part_cmp (keys held) t
 -- What is left of what was held.
 abbrev pub left_of : List Pair → List Held → List Held → List Held
 left_of pairs held named = filter (λ (h : Held). is_left pairs held h.0) named
+
+-- What there was, without the parts of these publications where they were taken out.
+abbrev pub taken_out : Bool → List Pair → List Held → List Held
+taken_out true pairs named = held_outside_all pairs named
+taken_out false pairs named = named
+
+-- What is left of what was held, where the parts of these publications weren't taken out before.
+abbrev pub left_unless : Bool → List Pair → List Held → List Held → List Held
+left_unless true pairs held named = named
+left_unless false pairs held named = left_of pairs held named

@@ -129,6 +129,10 @@ held_outside pair held = filter (λ (h : Held). not (is_in pair h.0)) held
 abbrev pub held_outside_all : List Pair → List Held → List Held
 held_outside_all pairs held = filter (λ (h : Held). not (is_in_any pairs h.0)) held
 
+-- The parts of a publication that are held have numbers below 4.
+abbrev pub HasFew : Pair → List Held → Type 0
+HasFew pair held = (h : Held) → In h held → is_in pair h.0 ≡ true → h.0.part < 4
+
 -- What stays held has the packet that it had.
 abbrev pub AreSame : PacketTableState → PacketTableState → Type 0
 AreSame old new = (h : Held) → In h new.held → at new.slots h.1 ≡ at old.slots h.1

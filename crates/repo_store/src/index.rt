@@ -1,6 +1,7 @@
 ghost use Rattle.std.specs.Prelude.{◌≡◌, ◌+◌, ◌<◌, ◌≤◌, true, vec_len, vec_capacity};
 ghost use Rattle.repo_store.specs.Indexes.{name_at, key_cmp, key_in, is_asked, first_part, AreInOrder};
 ghost use Rattle.repo_store.specs.Indexes.{IndexIsInOrder, IsPlace, IsFrom, AreAsked, IsFirstOf, GainsOne};
+ghost use Rattle.repo_store.specs.Indexes.{outside_part, IsAlone, IsFoundAt};
 
 use crate::packet_table::{FIRST, Held, PacketTable, lesser};
 use repo_plan::Part;
@@ -150,4 +151,33 @@ pub(crate) fn insert(index: &mut Vec<Held>, kept: &PacketTable, held: Held)
     }
     .place_of(&held);
     index.insert(place, held).unwrap();
+}
+
+// What is in order of names loses what is of this part, which is searched by its name.
+pub(crate) fn take_out(index: &mut Vec<Held>, kept: &PacketTable, held: Held)
+    requires in_order { AreInOrder kept.now.slots index.old.items }
+    requires alone { IsAlone held index.old.items }
+    ensures outside { index.new.items ≡ outside_part held.0 index.old.items }
+    ensures len { vec_len index.new ≤ vec_len index.old }
+    ensures capacity { vec_capacity index.new ≡ vec_capacity index.old }
+{
+    while let Some(place) = find(index, kept, held) {
+        index.remove(place);
+    }
+}
+
+// Where something of this part stands in what is in order of names.
+fn find(index: &[Held], kept: &PacketTable, held: Held) -> Option<usize>
+    requires in_order { AreInOrder kept.now.slots index.now }
+    requires alone { IsAlone held index.now }
+    ensures { IsFoundAt held.0 index.now result }
+{
+    let place = Index { held: index, kept }.place_of(&held);
+    let (_, rest) = index.split_at(place);
+    let next = rest.first()?;
+    if held.0.cmp(&next.0).is_eq() {
+        Some(place)
+    } else {
+        None
+    }
 }

@@ -4,9 +4,12 @@ ghost use Rattle.sorted_lists.specs.Members.{HaveSame};
 ghost use Rattle.repo_store.specs.Indexes.{is_asked, AreInOrder, IsFirstOf, GainsOne};
 ghost use Rattle.repo_store.specs.NameLayers.{all_of, LayersAreInOrder, HasRoom, HasSame, IsMerged};
 ghost use Rattle.repo_store.specs.NameLayers.{is_left, left_of, is_kept, is_kept_and_asked, IsIndexOf, WaitsStill};
+ghost use Rattle.repo_store.specs.Indexes.{outside_part};
+ghost use Rattle.repo_store.specs.Slots.{held_outside, HasFew};
+ghost use Rattle.repo_store.specs.NameLayers.{AreAmong, taken_out, left_unless};
 
-use crate::index::{Index, insert, is_asked};
-use crate::packet_table::{Held, PacketTable, lesser};
+use crate::index::{Index, insert, is_asked, take_out};
+use crate::packet_table::{FEW, Held, PacketTable, lesser};
 use repo_plan::Part;
 use std::alloc::{AllocError, Global};
 use std::mem;
@@ -163,19 +166,88 @@ impl Names {
         self.recent.clear();
     }
 
-    // Drops what is held of these publications, so many parts, which are kept no more. They go on waiting until as many
-    // were dropped as half of what waits.
-    pub(crate) fn drop_all(&mut self, kept: &PacketTable, pairs: &[(u32, u16)], parts: usize)
-        ensures settled { self.new.settled.items ≡ left_of pairs.now kept.now.held self.old.settled.items }
-        ensures recent { self.new.recent.items ≡ left_of pairs.now kept.now.held self.old.recent.items }
+    // Takes what is held of these publications out of what is in order, where it is one publication of few parts: each
+    // is searched by its name, since its packet is kept still. Else nothing is done.
+    pub(crate) fn take_out(&mut self, kept: &PacketTable, pairs: &[(u32, u16)]) -> bool
+        requires { AreAmong kept.now.slots kept.now.held self.old }
+        ensures settled { self.new.settled.items ≡ taken_out result pairs.now self.old.settled.items }
+        ensures recent { self.new.recent.items ≡ taken_out result pairs.now self.old.recent.items }
+        ensures waiting { self.new.waiting.items ≡ self.old.waiting.items }
+        ensures room { (n : ℕ) → HasRoom self.old n → HasRoom self.new n }
+    {
+        match pairs {
+            [pair] if kept.has_few(*pair) => {
+                self.take_pair(kept, *pair);
+                true
+            }
+            _ => false,
+        }
+    }
+
+    // The same of one publication of few parts.
+    fn take_pair(&mut self, kept: &PacketTable, pair: (u32, u16))
+        requires among { AreAmong kept.now.slots kept.now.held self.old }
+        requires few { HasFew pair kept.now.held }
+        ensures settled { self.new.settled.items ≡ held_outside pair self.old.settled.items }
+        ensures recent { self.new.recent.items ≡ held_outside pair self.old.recent.items }
+        ensures waiting { self.new.waiting.items ≡ self.old.waiting.items }
+        ensures room { (n : ℕ) → HasRoom self.old n → HasRoom self.new n }
+    {
+        for number in 0..FEW {
+            let part = Part {
+                publisher: pair.0,
+                seq: pair.1,
+                part: number,
+            };
+            self.take_part(kept, part);
+        }
+    }
+
+    // The same of one part.
+    fn take_part(&mut self, kept: &PacketTable, part: Part)
+        requires { AreAmong kept.now.slots kept.now.held self.old }
+        ensures settled { self.new.settled.items ≡ outside_part part self.old.settled.items }
+        ensures recent { self.new.recent.items ≡ outside_part part self.old.recent.items }
+        ensures waiting { self.new.waiting.items ≡ self.old.waiting.items }
+        ensures room { (n : ℕ) → HasRoom self.old n → HasRoom self.new n }
+    {
+        if let Some(slot) = kept.slot_of(part) {
+            take_out(&mut self.settled, kept, (part, slot));
+            take_out(&mut self.recent, kept, (part, slot));
+        }
+    }
+
+    // Drops what is held of these publications, so many parts, which are kept no more, and were perhaps taken out. They
+    // go on waiting until as many were dropped as half of what waits.
+    pub(crate) fn drop_all(
+        &mut self,
+        kept: &PacketTable,
+        pairs: &[(u32, u16)],
+        parts: usize,
+        taken: bool,
+    )
+        ensures settled { self.new.settled.items ≡ left_unless taken pairs.now kept.now.held self.old.settled.items }
+        ensures recent { self.new.recent.items ≡ left_unless taken pairs.now kept.now.held self.old.recent.items }
         ensures waiting { WaitsStill kept.now.held self.old.waiting.items self.new.waiting.items }
         ensures room { (n : ℕ) → HasRoom self.old n → HasRoom self.new n }
     {
-        retain(&mut self.settled, kept, pairs);
-        retain(&mut self.recent, kept, pairs);
+        self.drop_ordered(kept, pairs, taken);
         self.dropped = self.dropped.saturating_add(parts);
         if self.dropped > self.waiting.len() / 2 {
             self.forget_dropped(kept);
+        }
+    }
+
+    // Drops it from what is in order, unless it was taken out.
+    fn drop_ordered(&mut self, kept: &PacketTable, pairs: &[(u32, u16)], taken: bool)
+        ensures settled { self.new.settled.items ≡ left_unless taken pairs.now kept.now.held self.old.settled.items }
+        ensures recent { self.new.recent.items ≡ left_unless taken pairs.now kept.now.held self.old.recent.items }
+        ensures waiting { self.new.waiting.items ≡ self.old.waiting.items }
+        ensures room { (n : ℕ) → HasRoom self.old n → HasRoom self.new n }
+    {
+        if !taken {
+            retain(&mut self.settled, kept, pairs);
+            retain(&mut self.recent, kept, pairs);
         }
     }
 }

@@ -9,7 +9,7 @@ ghost use Rattle.repo_store.specs.StoreList.{different_octets};
 ghost use Rattle.sha2.specs.Sha256.{sha256};
 ghost use Rattle.repo_store.specs.PacketTable.{fingerprint_of, at, octets_at, fingerprint_at, entries_of};
 ghost use Rattle.repo_store.specs.Slots.{KeptIsSound, KeepsOne, IsUsed, AreSame, held_outside, held_outside_all};
-ghost use Rattle.repo_store.specs.Slots.{is_sought, is_sought_at, has_full_name, IsNextOf, IsKeptIn, IsPut};
+ghost use Rattle.repo_store.specs.Slots.{is_sought, is_sought_at, has_full_name, IsNextOf, IsKeptIn, IsPut, HasFew};
 ghost use Rattle.repo_store.specs.Indexes.{name_of, lesser, IsFirstOf};
 
 use repo_object::Packet;
@@ -38,6 +38,9 @@ enum Sought<'s> {
     Octets(&'s [u8]),
     FullName(&'s [u8], &'s [u8]),
 }
+
+// A publication has few parts where their numbers are below this.
+pub(crate) const FEW: u16 = 4;
 
 // No part comes before it.
 pub(crate) const FIRST: Part = Part {
@@ -125,6 +128,21 @@ impl PacketTable {
         ensures { result ≡ contains part_cmp (keys self.now.held) part }
     {
         self.slot_of(part).is_some()
+    }
+
+    // Whether few parts of this publication are held, by their numbers.
+    pub(crate) fn has_few(&self, pair: (u32, u16)) -> bool
+        ensures { IsTrue result → HasFew pair self.now.held }
+    {
+        let first = Part {
+            publisher: pair.0,
+            seq: pair.1,
+            part: FEW,
+        };
+        match self.parts.first_from(first) {
+            Some((part, _)) => (part.publisher, part.seq) != pair,
+            None => true,
+        }
     }
 
     // The packet in a slot.

@@ -211,8 +211,8 @@ impl Store {
         self.drop_all(&[(publisher, seq)]) as u32
     }
 
-    /// The same for many publications, which takes one pass over what is in order of its name. A publication may stand
-    /// twice. Each has at most 65,536 parts.
+    /// The same for many publications, which takes one pass over what is in order of its name; none where it is one
+    /// publication of few parts. A publication may stand twice. Each has at most 65,536 parts.
     pub fn drop_all(&mut self, pairs: &[(u32, u16)]) -> usize
         ensures number { result ≡ length (packets_in_any pairs.now self.old.packets) }
         ensures few { result ≤ length pairs.now * 65536 }
@@ -220,8 +220,9 @@ impl Store {
           packets = packets_outside_all pairs.now self.old.packets;
         } }
     {
+        let taken = self.names.take_out(&self.kept, pairs);
         let number = self.kept.drop_all(pairs);
-        self.names.drop_all(&self.kept, pairs, number);
+        self.names.drop_all(&self.kept, pairs, number, taken);
         number
     }
 }

@@ -7,10 +7,15 @@ use Rattle.repo_plan.specs.Parts.{part_cmp}
 use Rattle.repo_store.specs.StoreList.{StoreList, is_in_any, packets_in_any, packets_outside_all}
 use Rattle.repo_store.specs.PacketTable.{at, octets_at, Held, entries_of}
 use Rattle.repo_store.specs.Slots.{held_outside_all}
-use Rattle.repo_store.specs.NameLayers.{HasRoom, IsIndexOf, WaitsStill, left_of}
+use Rattle.repo_store.specs.NameLayers.{HasRoom, IsIndexOf, WaitsStill, left_unless}
 use Rattle.repo_store.proofs.StoreLemmas.{entries_same, lengths_in_any}
-use Rattle.repo_store.proofs.NameLayerLemmas.{index_left}
+use Rattle.repo_store.proofs.NameLayerLemmas.{left_either, index_left}
+use Rattle.repo_store.proofs.TakenLemmas.{among}
 use Rattle.repo_store.proofs.store.Store.drop_all.Goals as goal
+
+pub take_out-taken-requires : goal.take_out-taken-requires
+take_out-taken-requires c =
+    among c.self.inside.kept.slots c.self.inside.kept.held c.self.inside.names c.self.invariant.names
 
 pub invariant_of-self : goal.invariant_of-self
 invariant_of-self c =
@@ -18,21 +23,27 @@ invariant_of-self c =
     let names = c.self.inside.names in
     let new = c.drop_all-number.new.self in
     let pairs = c.args.pairs.now in
+    let taken = c.take_out-taken.result in
     let held = c.drop_all-number.ensures.held in
     let same : (h : Held) → In h (held_outside_all pairs k.held) → at new.slots h.1 ≡ at k.slots h.1 =
     λ h i. c.drop_all-number.ensures.same h (subst (In h) (sym held) i) in
-    let left = λ (xs : List Held). ap (λ (hs : List Held). left_of pairs hs xs) held in
+    let waits : WaitsStill new.held names.waiting.items c.drop_all.new.self.waiting.items =
+    λ h i. c.drop_all.ensures.waiting h (subst (In h) (sym c.take_out-taken.ensures.waiting) i) in
     record {
       names =
           subst (λ (hs : List Held). IsIndexOf new.slots hs c.drop_all.new.self) (sym held)
           (index_left k.slots new.slots k.held names c.self.invariant.names pairs same c.drop_all.new.self
-          (c.drop_all.ensures.settled ∙ left names.settled.items)
-          (c.drop_all.ensures.recent ∙ left names.recent.items)
+          (c.drop_all.ensures.settled
+          ∙ (λ i. left_unless taken pairs (held i) (c.take_out-taken.ensures.settled i))
+          ∙ left_either pairs k.held taken names.settled.items c.self.invariant.names.settled)
+          (c.drop_all.ensures.recent
+          ∙ (λ i. left_unless taken pairs (held i) (c.take_out-taken.ensures.recent i))
+          ∙ left_either pairs k.held taken names.recent.items c.self.invariant.names.recent)
           (subst (λ (hs : List Held). WaitsStill hs names.waiting.items c.drop_all.new.self.waiting.items) held
-          c.drop_all.ensures.waiting));
+          waits));
       room =
           subst (HasRoom c.drop_all.new.self) (sym c.drop_all-number.ensures.spare)
-          (c.drop_all.ensures.room k.spare c.self.invariant.room);
+          (c.drop_all.ensures.room k.spare (c.take_out-taken.ensures.room k.spare c.self.invariant.room));
     }
 
 pub returns-clause-number : goal.returns-clause-number
