@@ -1,6 +1,7 @@
 pub mod IndexLemmas
 pub mod AskedLemmas
 pub mod NameLayerLemmas
+pub mod BlockLemmas
 pub mod TakenLemmas
 pub mod FingerprintLemmas
 pub mod SlotLemmas

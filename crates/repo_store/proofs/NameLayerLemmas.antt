@@ -60,7 +60,6 @@ fewer_room l n m le room = record {
   waiting = omega (arith, le, room.waiting);
   recent = omega (arith, le, room.recent);
   settled = omega (arith, le, room.settled);
-  merged = omega (arith, le, room.merged);
 }
 
 -- what is in order stays so where its packets stay

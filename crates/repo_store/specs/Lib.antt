@@ -10,5 +10,7 @@ pub mod Answers
 pub mod PacketTable
 pub mod Slots
 pub mod Indexes
+pub mod Blocks
+pub mod SettledFields
 pub mod NameLayers
 pub mod StoreFields

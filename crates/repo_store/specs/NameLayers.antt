@@ -1,6 +1,6 @@
 -- The names of what is held, in layers: what is settled, what came last in front of others, and what waits.
-use Rattle.std.specs.Prelude.{◌≡◌, ℕ, ◌+◌, ◌≤◌, ◌==◌, Bool, true, false, not, ◌&&◌, List, [], ◌∷◌, ◌++◌, Option}
-use Rattle.std.specs.Prelude.{Some, None, vec_len, vec_capacity}
+use Rattle.std.specs.Prelude.{◌≡◌, ℕ, ◌+◌, ◌≤◌, ◌==◌, Bool, true, false, not, ◌&&◌, List, [], ◌∷◌, ◌++◌, length}
+use Rattle.std.specs.Prelude.{Option, Some, None, vec_len, vec_capacity}
 use Rattle.std.specs.List.{filter}
 use Rattle.sorted_lists.specs.SortedList.{Rises, contains, keys, value_of}
 use Rattle.sorted_lists.specs.Members.{In, HaveSame}
@@ -25,8 +25,7 @@ pub record LayersAreInOrder (slots : Slots) (l : Names) : Type 0 where
 pub record HasRoom (l : Names) (n : ℕ) : Type 0 where
   pub waiting : n + vec_len l.waiting ≤ vec_capacity l.waiting
   pub recent : n + (vec_len l.recent + vec_len l.waiting) ≤ vec_capacity l.recent
-  pub settled : n + (vec_len l.settled + (vec_len l.recent + vec_len l.waiting)) ≤ vec_capacity l.settled
-  pub merged : n + (vec_len l.settled + (vec_len l.recent + vec_len l.waiting)) ≤ vec_capacity l.merged
+  pub settled : n + (length l.settled.items + (vec_len l.recent + vec_len l.waiting)) ≤ l.settled.room
 
 -- The layers have the same.
 pub record HasSame (old new : Names) : Type 0 where

@@ -1,9 +1,12 @@
-ghost use Rattle.std.specs.Prelude.{◌≡◌, ◌+◌, ◌<◌, ◌≤◌, true, vec_len, vec_capacity};
+ghost use Rattle.std.specs.Prelude.{◌≡◌, ◌+◌, ◌<◌, ◌≤◌, [], length, vec_len, vec_capacity};
 ghost use Rattle.repo_store.specs.Indexes.{name_at, key_cmp, key_in, is_asked, first_part, AreInOrder};
-ghost use Rattle.repo_store.specs.Indexes.{IndexIsInOrder, IsPlace, IsFrom, AreAsked, IsFirstOf, GainsOne};
+ghost use Rattle.repo_store.specs.Indexes.{IndexIsInOrder, IsPlace, AreAsked, IsFirstOf, GainsOne};
 ghost use Rattle.repo_store.specs.Indexes.{outside_part, IsAlone, IsFoundAt};
+ghost use Rattle.repo_store.specs.Blocks.{piece, AreBlocks};
+ghost use Rattle.repo_store.specs.NameLayers.{is_left, left_of, IsMerged};
 
-use crate::packet_table::{FIRST, Held, PacketTable, lesser};
+use crate::blocks::{Block, least_between, piece};
+use crate::packet_table::{FIRST, Held, PacketTable};
 use repo_plan::Part;
 use std::cmp::Ordering;
 
@@ -76,52 +79,34 @@ impl Index<'_> {
         self.place(name, held.0)
     }
 
-    // What is held from this name on.
-    fn from(&self, name: &[u8]) -> &[Held]
-        requires { IndexIsInOrder self.now }
-        ensures { IsFrom self.now.kept.now.slots self.now.held.now name.now result.now }
-    {
-        let (_, rest) = self.held.split_at(self.place(name, FIRST));
-        rest
-    }
-
     // What has this name, or begins with it where that is asked for, of the least part. Of one name the first is of
-    // the least part; of several names the parts are compared, and no name is read.
-    pub(crate) fn first(&self, asked: &[u8], can_be_prefix: bool) -> Option<Held>
-        requires { IndexIsInOrder self.now }
+    // the least part; of several names the parts are compared, block by block, and no name is read.
+    pub(crate) fn first(&self, blocks: &[Block], asked: &[u8], can_be_prefix: bool) -> Option<Held>
+        requires in_order { IndexIsInOrder self.now }
+        requires blocks { AreBlocks self.now.held.now blocks.now }
         ensures { IsFirstOf self.now.held.now (is_asked self.now.kept.now.slots asked.now can_be_prefix) result }
     {
-        let named = self.asked(asked, can_be_prefix);
+        let (start, end) = self.asked(asked, can_be_prefix);
         if can_be_prefix {
-            least_of(named)
+            least_between(self.held, blocks, start, end)
         } else {
-            named.first().copied()
+            piece(self.held, start, end).first().copied()
         }
     }
 
-    // What has this name, or begins with it where that is asked for. It stands side by side.
-    fn asked(&self, asked: &[u8], can_be_prefix: bool) -> &[Held]
+    // Between which places that stands which has this name, or begins with it where that is asked for.
+    fn asked(&self, asked: &[u8], can_be_prefix: bool) -> (usize, usize)
         requires { IndexIsInOrder self.now }
-        ensures { AreAsked self.now.kept.now.slots self.now.held.now asked.now can_be_prefix result.now }
+        ensures rises { result.0 ≤ result.1 }
+        ensures within { result.1 ≤ length self.now.held.now }
+        ensures asked { AreAsked self.now.kept.now.slots self.now.held.now asked.now can_be_prefix
+            (piece result.0 result.1 self.now.held.now) }
     {
-        let rest = self.from(asked);
+        let start = self.place(asked, FIRST);
+        let (_, rest) = self.held.split_at(start);
         let end = rest.partition_point(|held| is_asked(self.kept, asked, can_be_prefix, held));
-        let (named, _) = rest.split_at(end);
-        named
+        (start, start + end)
     }
-}
-
-// Of all of these, what is of the least part.
-fn least_of(held: &[Held]) -> Option<Held>
-    ensures { IsFirstOf held.now (λ h. true) result }
-{
-    let mut least = *held.first()?;
-    for next in held {
-        if next.0.cmp(&least.0).is_lt() {
-            least = *next;
-        }
-    }
-    Some(least)
 }
 
 // Whether its packet's name is this, or begins with it where that is asked for.
@@ -167,7 +152,7 @@ pub(crate) fn take_out(index: &mut Vec<Held>, kept: &PacketTable, held: Held)
 }
 
 // Where something of this part stands in what is in order of names.
-fn find(index: &[Held], kept: &PacketTable, held: Held) -> Option<usize>
+pub(crate) fn find(index: &[Held], kept: &PacketTable, held: Held) -> Option<usize>
     requires in_order { AreInOrder kept.now.slots index.now }
     requires alone { IsAlone held index.now }
     ensures { IsFoundAt held.0 index.now result }
@@ -179,5 +164,46 @@ fn find(index: &[Held], kept: &PacketTable, held: Held) -> Option<usize>
         Some(place)
     } else {
         None
+    }
+}
+
+// Two that are in order are merged into one, for which there is room. Names that come one after the other mostly stand
+// close together, so most places are near the start of the rest.
+pub(crate) fn merge(merged: &mut Vec<Held>, settled: &[Held], recent: &[Held], kept: &PacketTable)
+    requires empty { merged.old.items ≡ [] }
+    requires settled { AreInOrder kept.now.slots settled.now }
+    requires recent { AreInOrder kept.now.slots recent.now }
+    requires room { length settled.now + length recent.now ≤ vec_capacity merged.old }
+    ensures merged { IsMerged kept.now.slots settled.now recent.now merged.new.items }
+    ensures len { vec_len merged.new ≡ length settled.now + length recent.now }
+    ensures capacity { vec_capacity merged.old ≤ vec_capacity merged.new }
+{
+    let mut rest = settled;
+    for held in recent {
+        let index = Index { held: rest, kept };
+        let (before, after) = rest.split_at(index.place_near_start(held));
+        merged.extend_from_slice(before).unwrap();
+        merged.push(*held).unwrap();
+        rest = after;
+    }
+    merged.extend_from_slice(rest).unwrap();
+}
+
+// Drops what is held of these publications, whose parts are kept no more.
+pub(crate) fn retain(held: &mut Vec<Held>, kept: &PacketTable, pairs: &[(u32, u16)])
+    ensures left { held.new.items ≡ left_of pairs.now kept.now.held held.old.items }
+    ensures len { vec_len held.new ≤ vec_len held.old }
+    ensures capacity { vec_capacity held.new ≡ vec_capacity held.old }
+{
+    held.retain(|held| is_left(kept, pairs, held.0));
+}
+
+// Whether a part that was kept still is, where those of these publications were dropped.
+fn is_left(kept: &PacketTable, pairs: &[(u32, u16)], part: Part) -> bool
+    ensures { result ≡ is_left pairs.now kept.now.held part }
+{
+    match pairs {
+        [pair] => (part.publisher, part.seq) != *pair,
+        _ => kept.has(part),
     }
 }

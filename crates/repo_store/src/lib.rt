@@ -4,10 +4,12 @@
 //! What is promised of it: `docs/promises/repo_store.md`.
 #![tactic(auto)]
 
+mod blocks;
 mod index;
 mod laws;
 mod names;
 mod packet_table;
+mod settled;
 mod store;
 
 pub use laws::{

@@ -8,11 +8,11 @@ ghost use Rattle.repo_store.specs.Indexes.{outside_part};
 ghost use Rattle.repo_store.specs.Slots.{held_outside, HasFew};
 ghost use Rattle.repo_store.specs.NameLayers.{AreAmong, taken_out, left_unless};
 
-use crate::index::{Index, insert, is_asked, take_out};
+use crate::index::{Index, insert, is_asked, retain, take_out};
 use crate::packet_table::{FEW, Held, PacketTable, lesser};
+use crate::settled::Settled;
 use repo_plan::Part;
 use std::alloc::{AllocError, Global};
-use std::mem;
 
 // The names of what is held. What is put waits, and no name is read, until an asker comes. Of what was put in its
 // place then most is settled, and what came last is recent until it is merged with that. So few others are moved for
@@ -20,10 +20,8 @@ use std::mem;
 // part takes no walk over all that wait.
 #[derive(Drop)]
 pub(crate) struct Names {
-    settled: Vec<Held>,
+    settled: Settled,
     recent: Vec<Held>,
-    // Both are merged into this.
-    merged: Vec<Held>,
     waiting: Vec<Held>,
     // So many parts were dropped since those that wait were looked through for such.
     dropped: usize,
@@ -37,16 +35,15 @@ impl Names {
         ensures room { HasRoom result 0 }
     {
         Names {
-            settled: Vec::new(alloc),
+            settled: Settled::new(alloc),
             recent: Vec::new(alloc),
-            merged: Vec::new(alloc),
             waiting: Vec::new(alloc),
             dropped: 0,
         }
     }
 
     pub(crate) fn allocator(&self) -> Global {
-        *self.settled.allocator()
+        *self.recent.allocator()
     }
 
     // Makes room for so many more.
@@ -63,12 +60,7 @@ impl Names {
         let Some(recent) = self.recent.len().checked_add(waiting) else {
             return Err(AllocError);
         };
-        self.settled.reserve(recent)?;
-        let Some(all) = self.settled.len().checked_add(recent) else {
-            return Err(AllocError);
-        };
-        self.merged.clear();
-        self.merged.reserve(all)
+        self.settled.reserve(recent)
     }
 
     // What is held waits from now on. There is room for one more.
@@ -93,17 +85,13 @@ impl Names {
         requires { IsIndexOf kept.now.slots kept.now.held self.now }
         ensures { IsFirstOf kept.now.held (is_asked kept.now.slots asked.now can_be_prefix) result }
     {
-        let settled = Index {
-            held: &self.settled,
-            kept,
-        };
         let recent = Index {
             held: &self.recent,
             kept,
         };
         let waiting = first_of(&self.waiting, kept, asked, can_be_prefix);
-        let ordered = lesser(recent.first(asked, can_be_prefix), waiting);
-        lesser(settled.first(asked, can_be_prefix), ordered)
+        let ordered = lesser(recent.first(&[], asked, can_be_prefix), waiting);
+        lesser(self.settled.first(kept, asked, can_be_prefix), ordered)
     }
 
     // What waits and is held is put in its place. There is room for that.
@@ -142,7 +130,8 @@ impl Names {
         insert_all(&mut self.recent, kept, &self.waiting);
         self.waiting.clear();
         if self.has_many_recent() {
-            self.settle(kept);
+            self.settled.settle(&self.recent, kept);
+            self.recent.clear();
         }
     }
 
@@ -150,20 +139,6 @@ impl Names {
     // merged the other.
     fn has_many_recent(&self) -> bool {
         self.recent.len().saturating_mul(self.recent.len()) > self.settled.len()
-    }
-
-    // What is recent becomes settled. There is room for that.
-    fn settle(&mut self, kept: &PacketTable)
-        requires in_order { LayersAreInOrder kept.now.slots self.old }
-        requires room { HasRoom self.old 0 }
-        ensures in_order { LayersAreInOrder kept.now.slots self.new }
-        ensures same { HaveSame (all_of self.new) (all_of self.old) }
-        ensures room { (n : ℕ) → HasRoom self.old n → HasRoom self.new n }
-    {
-        self.merged.clear();
-        merge(&mut self.merged, &self.settled, &self.recent, kept);
-        mem::swap(&mut self.settled, &mut self.merged);
-        self.recent.clear();
     }
 
     // Takes what is held of these publications out of what is in order, where it is one publication of few parts: each
@@ -212,7 +187,7 @@ impl Names {
         ensures room { (n : ℕ) → HasRoom self.old n → HasRoom self.new n }
     {
         if let Some(slot) = kept.slot_of(part) {
-            take_out(&mut self.settled, kept, (part, slot));
+            self.settled.take_out(kept, (part, slot));
             take_out(&mut self.recent, kept, (part, slot));
         }
     }
@@ -246,7 +221,7 @@ impl Names {
         ensures room { (n : ℕ) → HasRoom self.old n → HasRoom self.new n }
     {
         if !taken {
-            retain(&mut self.settled, kept, pairs);
+            self.settled.retain(kept, pairs);
             retain(&mut self.recent, kept, pairs);
         }
     }
@@ -293,46 +268,5 @@ fn insert_all(index: &mut Vec<Held>, kept: &PacketTable, held: &[Held])
 {
     for next in held {
         insert(index, kept, *next);
-    }
-}
-
-// Two that are in order are merged into one, for which there is room. Names that come one after the other mostly stand
-// close together, so most places are near the start of the rest.
-fn merge(merged: &mut Vec<Held>, settled: &[Held], recent: &[Held], kept: &PacketTable)
-    requires empty { merged.old.items ≡ [] }
-    requires settled { AreInOrder kept.now.slots settled.now }
-    requires recent { AreInOrder kept.now.slots recent.now }
-    requires room { length settled.now + length recent.now ≤ vec_capacity merged.old }
-    ensures merged { IsMerged kept.now.slots settled.now recent.now merged.new.items }
-    ensures len { vec_len merged.new ≡ length settled.now + length recent.now }
-    ensures capacity { vec_capacity merged.old ≤ vec_capacity merged.new }
-{
-    let mut rest = settled;
-    for held in recent {
-        let index = Index { held: rest, kept };
-        let (before, after) = rest.split_at(index.place_near_start(held));
-        merged.extend_from_slice(before).unwrap();
-        merged.push(*held).unwrap();
-        rest = after;
-    }
-    merged.extend_from_slice(rest).unwrap();
-}
-
-// Drops what is held of these publications, whose parts are kept no more.
-fn retain(held: &mut Vec<Held>, kept: &PacketTable, pairs: &[(u32, u16)])
-    ensures left { held.new.items ≡ left_of pairs.now kept.now.held held.old.items }
-    ensures len { vec_len held.new ≤ vec_len held.old }
-    ensures capacity { vec_capacity held.new ≡ vec_capacity held.old }
-{
-    held.retain(|held| is_left(kept, pairs, held.0));
-}
-
-// Whether a part that was kept still is, where those of these publications were dropped.
-fn is_left(kept: &PacketTable, pairs: &[(u32, u16)], part: Part) -> bool
-    ensures { result ≡ is_left pairs.now kept.now.held part }
-{
-    match pairs {
-        [pair] => (part.publisher, part.seq) != *pair,
-        _ => kept.has(part),
     }
 }

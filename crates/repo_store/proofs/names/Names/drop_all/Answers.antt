@@ -17,10 +17,9 @@ returns-then-self-len-clause-room c n room =
       waiting = left.waiting;
       recent = left.recent;
       settled = left.settled;
-      merged = left.merged;
     })
 
 pub returns-else-self-len-clause-room : goal.returns-else-self-len-clause-room
 returns-else-self-len-clause-room c n room =
     let left = c.drop_ordered.ensures.room n room in
-    record { waiting = left.waiting; recent = left.recent; settled = left.settled; merged = left.merged }
+    record { waiting = left.waiting; recent = left.recent; settled = left.settled }

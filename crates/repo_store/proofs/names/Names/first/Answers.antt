@@ -9,13 +9,11 @@ pub returns : goal.returns
 returns c =
     let k = c.args.kept.now in
     let test = is_asked k.slots c.args.asked.now c.args.can_be_prefix in
-    let settled =
-    subst (λ (xs : List Held). IsFirstOf xs test c.first-2.result) c.deref.ensures.value c.first-2.ensures in
-    let recent = subst (λ (xs : List Held). IsFirstOf xs test c.first.result) c.deref-2.ensures.value c.first.ensures in
+    let recent = subst (λ (xs : List Held). IsFirstOf xs test c.first.result) c.deref.ensures.value c.first.ensures in
     let waiting =
     subst (λ (xs : List Held).
     IsFirstOf xs (is_kept_and_asked k c.args.asked.now c.args.can_be_prefix) c.first_of-waiting.result)
-    c.deref-3.ensures.value c.first_of-waiting.ensures in
+    c.deref-2.ensures.value c.first_of-waiting.ensures in
     rw c.lesser.ensures (rw c.lesser-ordered.ensures
     (first_of_layers k c.args.asked.now c.args.can_be_prefix c.args.self.now c.requires c.first-2.result c.first.result
-    c.first_of-waiting.result settled recent waiting))
+    c.first_of-waiting.result c.first-2.ensures recent waiting))

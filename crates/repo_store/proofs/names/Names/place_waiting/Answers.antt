@@ -1,8 +1,9 @@
-use Rattle.std.proofs.Common.{List, ◌++◌, subst, arith}
+use Rattle.std.proofs.Common.{List, ◌++◌, refl, subst, arith}
 use Rattle.sorted_lists.specs.Members.{HaveSame}
 use Rattle.sorted_lists.proofs.Members.{same_back, same_permutation, same_then}
 use Rattle.repo_store.specs.PacketTable.{Held}
-use Rattle.repo_store.proofs.NameLayerLemmas.{placed_same}
+use Rattle.repo_store.specs.NameLayers.{IsMerged}
+use Rattle.repo_store.proofs.NameLayerLemmas.{settled_same, placed_same}
 use Rattle.repo_store.proofs.names.Names.place_waiting.Goals as goal
 
 pub returns-else-has_many_recent-clause-same : goal.returns-else-has_many_recent-clause-same
@@ -24,7 +25,13 @@ returns-then-has_many_recent-clause-same c =
     let moved = same_back (same_permutation l.waiting.items sorted c.sort_unstable_by.ensures.permutation) in
     let added : HaveSame more (l.recent.items ++ sorted) =
     subst (λ (xs : List Held). HaveSame more (l.recent.items ++ xs)) c.deref.ensures.value c.insert_all.ensures.same in
-    same_then c.settle.ensures.same
+    let merged =
+    subst (λ (xs : List Held). IsMerged c.args.kept.now.slots l.settled.items xs c.settle.new.self.items)
+    c.deref-then-has_many_recent.ensures.value c.settle.ensures.merged in
+    same_then
+    (settled_same c.args.kept.now.slots l.settled.items more c.clear.new.self.items c.settle.new.self.items
+    c.settle.new.self.items c.clear-then-has_many_recent.new.self.items merged refl
+    c.clear-then-has_many_recent.ensures.items)
     (placed_same l.settled.items l.recent.items l.waiting.items sorted more c.clear.new.self.items moved added
     c.clear.ensures.items)
 
@@ -33,9 +40,22 @@ returns-then-has_many_recent-clause-room c n room =
     let sorted = c.sort_unstable_by.ensures.len in
     let added = c.insert_all.ensures.len in
     let none = c.clear.ensures.len in
-    c.settle.ensures.room n (record {
+    let settled = c.settle.ensures in
+    let left = c.clear-then-has_many_recent.ensures in
+    record {
       waiting = omega (arith, room.waiting, none, c.clear.ensures.capacity, c.sort_unstable_by.ensures.capacity);
-      recent = omega (arith, room.recent, sorted, added, none, c.deref.ensures.len, c.insert_all.ensures.capacity);
-      settled = omega (arith, room.settled, sorted, added, none, c.deref.ensures.len);
-      merged = omega (arith, room.merged, sorted, added, none, c.deref.ensures.len);
-    })
+      recent = omega (arith, room.recent, none, left.len, left.capacity, c.insert_all.ensures.capacity);
+      settled =
+          omega (
+            arith,
+            room.settled,
+            sorted,
+            added,
+            none,
+            c.deref.ensures.len,
+            settled.len,
+            settled.kept,
+            left.len,
+            c.deref-then-has_many_recent.ensures.len,
+          );
+    }

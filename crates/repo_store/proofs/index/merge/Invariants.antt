@@ -2,7 +2,7 @@ use Rattle.std.proofs.Common.{◌≡◌, ◌+◌, ◌≤◌, length, vec_len, ve
 use Rattle.sorted_lists.proofs.Climbs.{Merging}
 use Rattle.repo_store.specs.Indexes.{key_in}
 use Rattle.repo_store.proofs.IndexLemmas.{exact_keys}
-use Rattle.repo_store.proofs.names.merge.Given as goal
+use Rattle.repo_store.proofs.index.merge.Given as goal
 
 abbrev pub invariant-loop-held : goal.invariant-loop-held
 invariant-loop-held l = record {

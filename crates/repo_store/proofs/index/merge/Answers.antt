@@ -4,7 +4,7 @@ use Rattle.repo_store.specs.PacketTable.{Held}
 use Rattle.repo_store.specs.Indexes.{first_part, key_in}
 use Rattle.repo_store.specs.NameLayers.{IsMerged}
 use Rattle.repo_store.proofs.IndexLemmas.{exact_keys}
-use Rattle.repo_store.proofs.names.merge.Goals as goal
+use Rattle.repo_store.proofs.index.merge.Goals as goal
 
 pub loop-held-init : goal.loop-held-init
 loop-held-init c = record {

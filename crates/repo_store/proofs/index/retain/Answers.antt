@@ -2,7 +2,7 @@ use Rattle.std.proofs.Common.{rules}
 use Rattle.std.proofs.lemmas.Fn.{filter_same}
 use Rattle.repo_store.specs.PacketTable.{Held}
 use Rattle.repo_store.specs.NameLayers.{is_left}
-use Rattle.repo_store.proofs.names.retain.Goals as goal
+use Rattle.repo_store.proofs.index.retain.Goals as goal
 
 pub returns-clause-left : goal.returns-clause-left
 returns-clause-left c =

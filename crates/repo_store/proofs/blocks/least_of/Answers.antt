@@ -16,8 +16,8 @@ use Rattle.repo_plan.proofs.Orders.{exact_parts}
 use Rattle.repo_store.specs.PacketTable.{Held}
 use Rattle.repo_store.specs.Indexes.{first_part}
 use Rattle.repo_store.proofs.IndexLemmas.{PartLe}
-use Rattle.repo_store.proofs.index.least_of.Goals as goal
-use Rattle.repo_store.proofs.index.least_of.Goals.{then-is_lt, else-is_lt}
+use Rattle.repo_store.proofs.blocks.least_of.Goals as goal
+use Rattle.repo_store.proofs.blocks.least_of.Goals.{then-is_lt, else-is_lt}
 
 -- of two parts the first comes first, or the second does
 first_le : (a b : Part) → is_lt (part_cmp a b) ≡ true → PartLe a b

@@ -1,0 +1,141 @@
+ghost use Rattle.std.specs.Prelude.{◌≡◌, ◌+◌, ◌<◌, ◌≤◌, [], length, OnOk};
+ghost use Rattle.std.specs.List.{remove};
+ghost use Rattle.repo_store.specs.Indexes.{is_asked, AreInOrder, IsFirstOf, outside_part, IsAlone, IsFoundAt};
+ghost use Rattle.repo_store.specs.NameLayers.{IsMerged, left_of};
+
+use crate::blocks::{BLOCK, Block, make_blocks, shift_blocks};
+use crate::index::{Index, find, merge, retain};
+use crate::packet_table::{Held, PacketTable};
+use std::alloc::{AllocError, Global};
+use std::marker::Model;
+use std::mem;
+
+// What is settled, in order of names, and which of each block of it is of the least part: so what begins with a prefix
+// is looked through block by block.
+#[derive(Drop)]
+pub(crate) struct Settled {
+    held: Vec<Held>,
+    // What is settled and what comes to it are merged into this.
+    merged: Vec<Held>,
+    blocks: Vec<Block>,
+}
+
+impl Model for Settled {
+    ghost use Rattle.std.specs.Prelude.{min, vec_capacity};
+    ghost use Rattle.repo_store.specs.Blocks.{SettledList};
+
+    ghost Value = { SettledList };
+
+    ghost use Rattle.repo_store.specs.SettledFields.{IsSettled};
+
+    ghost view = { λ s. record { items = s.held.items; room = min (vec_capacity s.held) (vec_capacity s.merged) } };
+
+    ghost invariant = { IsSettled };
+}
+
+impl Settled {
+    pub(crate) fn new(alloc: Global) -> Settled
+        ensures { result.items ≡ [] }
+    {
+        Settled {
+            held: Vec::new(alloc),
+            merged: Vec::new(alloc),
+            blocks: Vec::new(alloc),
+        }
+    }
+
+    pub(crate) fn len(&self) -> usize
+        ensures { result ≡ length self.now.items }
+    {
+        self.held.len()
+    }
+
+    // Makes room for so many more.
+    pub(crate) fn reserve(&mut self, n: usize) -> Result<(), AllocError>
+        ensures items { self.new.items ≡ self.old.items }
+        ensures kept { self.old.room ≤ self.new.room }
+        ensures room { OnOk result (length self.new.items + n ≤ self.new.room) }
+    {
+        self.held.reserve(n)?;
+        let Some(all) = self.held.len().checked_add(n) else {
+            return Err(AllocError);
+        };
+        self.merged.clear();
+        self.merged.reserve(all)?;
+        let more = (all / BLOCK).saturating_sub(self.blocks.len());
+        self.blocks.reserve(more)
+    }
+
+    // What is settled of this name, or of one that begins with it where that is asked for, of the least part.
+    pub(crate) fn first(
+        &self,
+        kept: &PacketTable,
+        asked: &[u8],
+        can_be_prefix: bool,
+    ) -> Option<Held>
+        requires { AreInOrder kept.now.slots self.now.items }
+        ensures { IsFirstOf self.now.items (is_asked kept.now.slots asked.now can_be_prefix) result }
+    {
+        let index = Index {
+            held: &self.held,
+            kept,
+        };
+        index.first(&self.blocks, asked, can_be_prefix)
+    }
+
+    // What is recent becomes settled. There is room for that.
+    pub(crate) fn settle(&mut self, recent: &[Held], kept: &PacketTable)
+        requires settled { AreInOrder kept.now.slots self.old.items }
+        requires recent { AreInOrder kept.now.slots recent.now }
+        requires room { length self.old.items + length recent.now ≤ self.old.room }
+        ensures merged { IsMerged kept.now.slots self.old.items recent.now self.new.items }
+        ensures len { length self.new.items ≡ length self.old.items + length recent.now }
+        ensures kept { self.old.room ≤ self.new.room }
+    {
+        self.merged.clear();
+        merge(&mut self.merged, &self.held, recent, kept);
+        mem::swap(&mut self.held, &mut self.merged);
+        make_blocks(&mut self.blocks, &self.held);
+    }
+
+    // What is settled loses what is of this part, which is searched by its name.
+    pub(crate) fn take_out(&mut self, kept: &PacketTable, held: Held)
+        requires in_order { AreInOrder kept.now.slots self.old.items }
+        requires alone { IsAlone held self.old.items }
+        ensures outside { self.new.items ≡ outside_part held.0 self.old.items }
+        ensures len { length self.new.items ≤ length self.old.items }
+        ensures kept { self.new.room ≡ self.old.room }
+    {
+        while let Some(place) = self.find(kept, held) {
+            self.remove(place);
+        }
+    }
+
+    // Where something of this part stands.
+    fn find(&self, kept: &PacketTable, held: Held) -> Option<usize>
+        requires in_order { AreInOrder kept.now.slots self.now.items }
+        requires alone { IsAlone held self.now.items }
+        ensures { IsFoundAt held.0 self.now.items result }
+    {
+        find(&self.held, kept, held)
+    }
+
+    fn remove(&mut self, place: usize)
+        requires { place < length self.old.items }
+        ensures items { self.new.items ≡ remove self.old.items place }
+        ensures kept { self.new.room ≡ self.old.room }
+    {
+        self.held.remove(place);
+        shift_blocks(&mut self.blocks, place, &self.held);
+    }
+
+    // Drops what is held of these publications, whose parts are kept no more.
+    pub(crate) fn retain(&mut self, kept: &PacketTable, pairs: &[(u32, u16)])
+        ensures left { self.new.items ≡ left_of pairs.now kept.now.held self.old.items }
+        ensures len { length self.new.items ≤ length self.old.items }
+        ensures kept { self.new.room ≡ self.old.room }
+    {
+        retain(&mut self.held, kept, pairs);
+        make_blocks(&mut self.blocks, &self.held);
+    }
+}
