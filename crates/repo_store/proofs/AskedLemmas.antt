@@ -24,9 +24,9 @@ use Rattle.sorted_lists.proofs.Climbs.{climbs_parts, pairs_climb}
 use Rattle.sorted_lists.proofs.LeastOnes.{le_both, first_same}
 use Rattle.repo_plan.proofs.Orders.{exact_parts}
 use Rattle.repo_store.specs.PacketTable.{Slots, Held}
-use Rattle.repo_store.specs.Indexes.{name_at, key_in, AreInOrder, asks, is_asked, held_part, IsFrom, AreAsked}
+use Rattle.repo_store.specs.Indexes.{name_at, key_in, AreInOrder, asks, is_asked, held_part, AreAsked}
 use Rattle.repo_store.specs.Indexes.{IsFirstOf}
-use Rattle.repo_store.proofs.IndexLemmas.{exact_octets, exact_keys, NameLe, PartLe, names_le, parts_le}
+use Rattle.repo_store.proofs.IndexLemmas.{exact_octets, exact_keys, NameLe, PartLe, names_le, parts_le, IsFrom}
 
 -- ---- octets in order
 

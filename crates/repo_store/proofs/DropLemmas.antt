@@ -164,8 +164,8 @@ module _ (pair : Pair) (old now : PacketTableState) (d : Dropping pair old now) 
       elim (found.others h i) [
         | inl less ↦ first_up_to pair h.0 inside less
         | inr high ↦ true≢false
-          (sym (in_between pair (first_of pair) x.0 h.0 (eq_itself exact_pairs pair) inside found.above
-          high) ∙ other)
+            (sym (in_between pair (first_of pair) x.0 h.0 (eq_itself exact_pairs pair) inside found.above
+            high) ∙ other)
       ])
 
   -- the next one is gone, and there are fewer

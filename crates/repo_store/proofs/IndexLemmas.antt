@@ -1,12 +1,13 @@
 -- The orders of names and parts, and what a search of an index finds.
-use Rattle.std.proofs.Common.{◌≡◌, ℕ, true, List, drop, take, ap, sym, ◌∙◌, arith}
+use Rattle.std.proofs.Common.{◌≡◌, ℕ, true, List, ◌++◌, drop, take, ap, sym, ◌∙◌, arith}
 use Rattle.std.specs.Ordering.{nat_cmp, is_le}
 use Rattle.std.specs.Cmp.{IsTotalOrder}
 use Rattle.std.specs.Cmp.Lexicographic.{slice_cmp}
-use Rattle.std.specs.declared.cmp.Ordering.TheVariants.{Equal}
+use Rattle.std.specs.declared.cmp.Ordering.TheVariants.{Less, Equal}
 use Rattle.std.proofs.lemmas.Cmp.{nat_list_cmp_total, on_total, then_total, tied_itself}
 use Rattle.std.proofs.lemmas.List.{take-append-drop}
 use Rattle.std.proofs.lemmas.Map.Lookups.{exact_bytes}
+use Rattle.sorted_lists.specs.Members.{In}
 use Rattle.sorted_lists.proofs.Orders.{Exact, then_equal}
 use Rattle.sorted_lists.proofs.TwoOrders.{first_le, second_le, then_le, first_before, nat_le}
 use Rattle.sorted_lists.proofs.RunOrder.{Le, lt_not_le}
@@ -15,7 +16,7 @@ use Rattle.repo_plan.specs.declared.part.Part.{Part}
 use Rattle.repo_plan.specs.Parts.{part_cmp}
 use Rattle.repo_plan.proofs.Orders.{exact_parts}
 use Rattle.repo_store.specs.PacketTable.{Slots, Held}
-use Rattle.repo_store.specs.Indexes.{name_at, Key, key_cmp, key_in, AreInOrder, IsPlace, first_part, IsFrom}
+use Rattle.repo_store.specs.Indexes.{name_at, Key, key_cmp, key_in, AreInOrder, IsPlace, first_part}
 
 -- ---- orders
 
@@ -62,6 +63,14 @@ pub parts_le : (a b : Key) → a.0 ≡ b.0 → is_le (key_cmp a b) ≡ true → 
 parts_le a b same h =
     second_le (slice_cmp nat_cmp a.0 b.0) (part_cmp a.1 b.1)
     (ap (slice_cmp nat_cmp a.0) (sym same) ∙ exact_octets.itself a.0) h
+
+-- what is held from a name on: what stands in front has lesser names.
+pub record IsFrom (slots : Slots) (held : List Held) (name : List ℕ) (rest : List Held) : Type 0 where
+  pub prefix : List Held
+  pub whole : prefix ++ rest ≡ held
+  pub in_order : AreInOrder slots rest
+  pub before : (h : Held) → In h prefix → slice_cmp nat_cmp (name_at slots h) name ≡ Less
+  pub after : (h : Held) → In h rest → is_le (slice_cmp nat_cmp name (name_at slots h)) ≡ true
 
 pub from_place : (slots : Slots) (held : List Held) (name : List ℕ) (place : ℕ) → AreInOrder slots held
     → IsPlace slots held (name, first_part) place → IsFrom slots held name (drop place held)

@@ -1,7 +1,7 @@
 -- What is left where parts are taken out of what is in order.
-use Rattle.std.proofs.Common.{◌≡◌, ◌⊎◌, inl, inr, ℕ, zero, suc, ◌+◌, ◌<◌, ◌≤◌, Bool, true, false, cond, not, List, []}
+use Rattle.std.proofs.Common.{◌≡◌, inl, inr, ℕ, zero, suc, ◌+◌, ◌≤◌, Bool, true, false, cond, not, List, []}
 use Rattle.std.proofs.Common.{◌∷◌, drop, take, Option, Some, None, refl, sym, ap, subst, ◌∙◌, arith}
-use Rattle.std.specs.Prelude.{◌&&◌, ◌||◌, slice_get}
+use Rattle.std.specs.Prelude.{◌&&◌, slice_get}
 use Rattle.std.specs.List.{filter, remove}
 use Rattle.std.specs.Ordering.{is_le, eq_by_cmp}
 use Rattle.std.proofs.lemmas.Bool.{true≢false, false_from_ne_true}
@@ -9,19 +9,19 @@ use Rattle.std.proofs.lemmas.List.{take-append-drop}
 use Rattle.std.proofs.lemmas.List.Elements.{filter_agree}
 use Rattle.sorted_lists.specs.SortedList.{Rises, keys, value_of}
 use Rattle.sorted_lists.specs.Members.{In}
-use Rattle.sorted_lists.proofs.Sets.{in_append, in_filter, eq_same, eq_itself}
+use Rattle.sorted_lists.proofs.Sets.{in_append, eq_same, eq_itself}
 use Rattle.sorted_lists.proofs.RunOrder.{le_itself, lt_not_le, unique}
 use Rattle.sorted_lists.proofs.Lookups.{there_value, value_there}
 use Rattle.sorted_lists.proofs.Members.{in_filtered, filter_whole, filter-filter}
 use Rattle.sorted_lists.proofs.LeastOnes.{le_both}
 use Rattle.sorted_lists.proofs.Climbs.{climbs_parts, climbs_filter}
 use Rattle.repo_plan.specs.declared.part.Part.{Part}
-use Rattle.repo_plan.specs.Parts.{Pair, pair_cmp, part_cmp, part_of, pair_of}
+use Rattle.repo_plan.specs.Parts.{Pair, part_cmp, part_of, pair_of}
 use Rattle.repo_plan.specs.Plan.{is_in}
 use Rattle.repo_plan.proofs.Orders.{exact_pairs, exact_parts}
 use Rattle.repo_store.specs.declared.names.Names.{Names}
 use Rattle.repo_store.specs.PacketTable.{Slots, Held}
-use Rattle.repo_store.specs.Slots.{held_outside, held_outside_all, HasFew}
+use Rattle.repo_store.specs.Slots.{held_outside, HasFew}
 use Rattle.repo_store.specs.Indexes.{Key, key_cmp, key_in, AreInOrder, IsPlace, is_of, outside_part, IsAlone, is_one_of}
 use Rattle.repo_store.specs.NameLayers.{AreAmong, IsIndexOf}
 use Rattle.repo_store.proofs.IndexLemmas.{exact_keys}
@@ -175,12 +175,6 @@ taking_pair_all pair held old now number whole few among t =
     let high = few h (among h i) inside in
     absurd (omega (arith, low, high, whole))))))
     ∙ t.outside
-
-pub outside_one : (pair : Pair) (held : List Held) → held_outside pair held ≡ held_outside_all (pair ∷ []) held
-outside_one pair held = filter_agree _ _ (λ (h : Held). go (is_in pair h.0)) held where
-  go : (b : Bool) → not b ≡ not (b || false)
-  go true = refl
-  go false = refl
 
 -- ---- in layers
 

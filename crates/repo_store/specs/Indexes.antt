@@ -1,12 +1,11 @@
 -- Indexes of packets: what is held, in order of names and then of parts.
-use Rattle.std.specs.Prelude.{◌≡◌, ℕ, ◌<◌, Bool, true, false, not, List, [], ◌∷◌, ◌++◌, length, drop, slice_get, Option}
+use Rattle.std.specs.Prelude.{◌≡◌, ℕ, ◌<◌, Bool, true, false, not, List, [], ◌∷◌, length, drop, slice_get, Option}
 use Rattle.std.specs.Prelude.{Some, None}
 use Rattle.std.specs.List.{starts_with, filter}
 use Rattle.std.specs.Bool.{nat_eq}
-use Rattle.std.specs.Ordering.{nat_cmp, ordering_then, is_le, eq_by_cmp}
+use Rattle.std.specs.Ordering.{nat_cmp, ordering_then, eq_by_cmp}
 use Rattle.std.specs.Cmp.Lexicographic.{slice_cmp, pointwise}
 use Rattle.std.specs.declared.cmp.Ordering.{Ordering}
-use Rattle.std.specs.declared.cmp.Ordering.TheVariants.{Less}
 use Rattle.ndn_name.specs.Names.{Component}
 use Rattle.sorted_lists.specs.Members.{In, HaveSame}
 use Rattle.sorted_lists.specs.Climbing.{Climbs, IsPlaceOf}
@@ -58,14 +57,6 @@ IsPlace slots held key place = IsPlaceOf key_cmp (key_in slots) held key place
 -- No part comes before it.
 abbrev pub first_part : Part
 first_part = record { publisher = 0; seq = 0; part = 0 }
-
--- What is held from a name on: what stands in front has lesser names.
-pub record IsFrom (slots : Slots) (held : List Held) (name : List ℕ) (rest : List Held) : Type 0 where
-  pub prefix : List Held
-  pub whole : prefix ++ rest ≡ held
-  pub in_order : AreInOrder slots rest
-  pub before : (h : Held) → In h prefix → slice_cmp nat_cmp (name_at slots h) name ≡ Less
-  pub after : (h : Held) → In h rest → is_le (slice_cmp nat_cmp name (name_at slots h)) ≡ true
 
 -- The part of what is held.
 abbrev pub held_part : Held → Part

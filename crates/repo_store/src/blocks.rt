@@ -65,9 +65,7 @@ pub(crate) fn make_blocks(blocks: &mut Vec<Block>, held: &[Held])
     blocks.clear();
     let mut start = 0;
     while blocks.len() < blocks.capacity() && BLOCK <= held.len() - start {
-        blocks
-            .push(Block::of(held, start, start + BLOCK))
-            .unwrap();
+        blocks.push(Block::of(held, start, start + BLOCK)).unwrap();
         start += BLOCK;
     }
 }
@@ -84,7 +82,12 @@ pub(crate) fn shift_blocks(blocks: &mut Vec<Block>, place: usize, held: &[Held])
 
 // Of what stands between two places, what is of the least part. A block between them is one step; what is in none is
 // read.
-pub(crate) fn least_between(held: &[Held], blocks: &[Block], start: usize, end: usize) -> Option<Held>
+pub(crate) fn least_between(
+    held: &[Held],
+    blocks: &[Block],
+    start: usize,
+    end: usize,
+) -> Option<Held>
     requires rises { start ≤ end }
     requires within { end ≤ length held.now }
     requires blocks { AreBlocks held.now blocks.now }
@@ -114,4 +117,3 @@ fn least_of(held: &[Held]) -> Option<Held>
     }
     Some(least)
 }
-

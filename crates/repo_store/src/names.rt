@@ -1,12 +1,11 @@
 ghost use Rattle.std.specs.Prelude.{◌≡◌, ◌+◌, ◌≤◌, ℕ, [], ◌++◌, length, OnOk, vec_len, vec_capacity};
 ghost use Rattle.std.specs.List.{filter};
 ghost use Rattle.sorted_lists.specs.Members.{HaveSame};
-ghost use Rattle.repo_store.specs.Indexes.{is_asked, AreInOrder, IsFirstOf, GainsOne};
-ghost use Rattle.repo_store.specs.NameLayers.{all_of, LayersAreInOrder, HasRoom, HasSame, IsMerged};
-ghost use Rattle.repo_store.specs.NameLayers.{is_left, left_of, is_kept, is_kept_and_asked, IsIndexOf, WaitsStill};
-ghost use Rattle.repo_store.specs.Indexes.{outside_part};
 ghost use Rattle.repo_store.specs.Slots.{held_outside, HasFew};
-ghost use Rattle.repo_store.specs.NameLayers.{AreAmong, taken_out, left_unless};
+ghost use Rattle.repo_store.specs.Indexes.{is_asked, AreInOrder, IsFirstOf, GainsOne, outside_part};
+ghost use Rattle.repo_store.specs.NameLayers.{all_of, LayersAreInOrder, HasRoom, HasSame};
+ghost use Rattle.repo_store.specs.NameLayers.{is_kept, is_kept_and_asked, IsIndexOf, WaitsStill, AreAmong};
+ghost use Rattle.repo_store.specs.NameLayers.{taken_out, left_unless};
 
 use crate::index::{Index, insert, is_asked, retain, take_out};
 use crate::packet_table::{FEW, Held, PacketTable, lesser};

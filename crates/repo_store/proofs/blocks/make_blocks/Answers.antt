@@ -1,5 +1,4 @@
-use Rattle.std.proofs.Common.{◌≡◌, List, ◌∷◌, [], ◌++◌, sym, subst, arith}
-use Rattle.repo_store.specs.declared.blocks.Block.{Block}
+use Rattle.std.proofs.Common.{◌≡◌, ◌∷◌, [], ◌++◌, sym, subst, arith}
 use Rattle.repo_store.specs.Blocks.{AreBlocks}
 use Rattle.repo_store.proofs.BlockLemmas.{blocks_more}
 use Rattle.repo_store.proofs.blocks.make_blocks.Goals as goal

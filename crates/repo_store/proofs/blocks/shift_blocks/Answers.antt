@@ -1,4 +1,4 @@
-use Rattle.std.proofs.Common.{◌<◌, length, None, sym, subst, ◌∙◌, arith}
+use Rattle.std.proofs.Common.{◌<◌, length, sym, subst, arith}
 use Rattle.std.proofs.lemmas.List.{take_all}
 use Rattle.sorted_lists.specs.Members.{In}
 use Rattle.repo_store.specs.declared.blocks.Block.{Block}

@@ -1,8 +1,8 @@
 use Rattle.std.proofs.Common.{take, subst, sym, ap, ◌∙◌, rules}
 use Rattle.std.proofs.lemmas.List.{drop-take}
 use Rattle.std.proofs.lemmas.List.Sorted.{IsPartitionPoint-from_clause}
-use Rattle.repo_store.specs.Indexes.{IsFrom, AreAsked}
-use Rattle.repo_store.proofs.IndexLemmas.{from_place}
+use Rattle.repo_store.specs.Indexes.{AreAsked}
+use Rattle.repo_store.proofs.IndexLemmas.{IsFrom, from_place}
 use Rattle.repo_store.proofs.AskedLemmas.{test, asked_parted, asked_found}
 use Rattle.repo_store.proofs.index.Index.asked.Goals as goal
 

@@ -1,4 +1,4 @@
-use Rattle.std.proofs.Common.{◌≡◌, ◌∙◌, not, arith}
+use Rattle.std.proofs.Common.{◌∙◌, not}
 use Rattle.repo_plan.specs.declared.part.Part.{Part}
 use Rattle.repo_plan.specs.Parts.{part_of}
 use Rattle.repo_store.specs.PacketTable.{Held}
