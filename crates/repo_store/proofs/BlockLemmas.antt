@@ -124,7 +124,8 @@ module _ (place : ℕ) (left : List Held) (old now : List Block) (number : ℕ) 
     len = length-set now number moved ∙ s.len;
     rest = drop-set-lt (number + 1) now number moved (omega arith) ∙ rest;
     moved = λ held in_it is are b i.
-        elim (in_append (take number now) (moved ∷ []) b (subst (In b) (take-set_at now number (number + 1) moved refl within) i)) [
+        let taken = take-set_at now number (number + 1) moved refl within in
+        elim (in_append (take number now) (moved ∷ []) b (subst (In b) taken i)) [
           | inl before ↦ s.moved held in_it is are b before
           | inr own ↦ elim (let j : (b ≡ moved) ⊎ ⊥ = own in j) [
             | inl e ↦ subst (IsBlock left) (sym e) (stays held in_it is (are (get_or now number d) its))

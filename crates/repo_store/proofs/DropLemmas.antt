@@ -197,7 +197,8 @@ few_other pair held x rises is other h i inside =
     elim (found.others h i) [
       | inl less ↦ lesser_number pair h.0 4 inside less
       | inr high ↦
-          absurd (true≢false (sym (in_between pair from x.0 h.0 (eq_itself exact_pairs pair) inside found.above high) ∙ other))
+          let own = in_between pair from x.0 h.0 (eq_itself exact_pairs pair) inside found.above high in
+          absurd (true≢false (sym own ∙ other))
     ]
 
 -- ---- the parts of many publications

@@ -10,8 +10,8 @@ pub returns-then-can_be_prefix : goal.returns-then-can_be_prefix
 returns-then-can_be_prefix c =
     let index = c.args.self.now in
     least_asked index.kept.now.slots index.held.now c.args.asked.now c.args.can_be_prefix
-    (piece c.asked-start.result.0 c.asked-start.result.1 index.held.now) c.asked-start.ensures.asked c.least_between.result
-    c.least_between.ensures
+    (piece c.asked-start.result.0 c.asked-start.result.1 index.held.now) c.asked-start.ensures.asked
+    c.least_between.result c.least_between.ensures
 
 pub returns-else-can_be_prefix : goal.returns-else-can_be_prefix
 returns-else-can_be_prefix c =
@@ -20,5 +20,5 @@ returns-else-can_be_prefix c =
     let found = piece c.asked-start.result.0 c.asked-start.result.1 index.held.now in
     subst (λ (o : Option Held). IsFirstOf index.held.now test o)
     (sym (c.copied.ensures ∙ c.first.ensures.value ∙ ap (λ (xs : List Held). slice_get xs 0) c.piece.ensures))
-    (first_asked index.kept.now.slots index.held.now c.args.asked.now c.args.can_be_prefix found c.asked-start.ensures.asked
-    c.if-can_be_prefix.false)
+    (first_asked index.kept.now.slots index.held.now c.args.asked.now c.args.can_be_prefix found
+    c.asked-start.ensures.asked c.if-can_be_prefix.false)

@@ -25,8 +25,8 @@ loop-number-preserved c =
     let took = c.take_part.ensures in
     record {
       among =
-          fewer_among c.args.kept.now.slots c.args.kept.now.held now next (λ (h : Held). not (is_of part h)) took.settled
-          took.recent so_far.among;
+          fewer_among c.args.kept.now.slots c.args.kept.now.held now next (λ (h : Held). not (is_of part h))
+          took.settled took.recent so_far.among;
       settled =
           taking_pair_more c.args.pair c.args.self.now.settled.items now.settled.items next.settled.items number
           took.settled so_far.settled;
