@@ -140,6 +140,11 @@ impl Names {
         self.recent.len().saturating_mul(self.recent.len()) > self.settled.len()
     }
 
+    // Whether any name is in its place. Where nobody asked by name, none is.
+    fn has_ordered(&self) -> bool {
+        self.settled.len() > 0 || self.recent.len() > 0
+    }
+
     // Takes what is held of these publications out of what is in order, where it is one publication of few parts: each
     // is searched by its name, since its packet is kept still. Else nothing is done.
     pub(crate) fn take_out(&mut self, kept: &PacketTable, pairs: &[(u32, u16)]) -> bool
@@ -150,7 +155,7 @@ impl Names {
         ensures room { (n : ℕ) → HasRoom self.old n → HasRoom self.new n }
     {
         match pairs {
-            [pair] if kept.has_few(*pair) => {
+            [pair] if self.has_ordered() && kept.has_few(*pair) => {
                 self.take_pair(kept, *pair);
                 true
             }
