@@ -109,6 +109,17 @@ def delete_each(n):
         yield f"delete m1 c1 /o/{i}"
 
 
+@kind("delete objects each by its own name, in no order, and ask by a prefix in turn", 33_000)
+def delete_asked(n):
+    yield from heads(1, 1)
+    octets = packets.interest(packets.text_name("/n"), True).hex()
+    for i in range(n):
+        yield f"publish m1 /o/{i} 1 text:"
+    for i in shuffled(n):
+        yield f"ask m1 {octets}"
+        yield f"delete m1 c1 /o/{i}"
+
+
 @kind("publish and delete in turn, after as many that stay", 32_700)
 def delete_turns(n):
     yield from heads(1, 1)
